@@ -35,7 +35,7 @@ cut a b c =
     ∙ ap (λ (w : List ℕ). take (length (a ++ b) - length a) w) (drop-append_seam a (b ++ c))
     ∙ ap (λ (m : ℕ). take m (b ++ c)) n ∙ take-append_seam b c
 
--- between the marks of a sample stands its field
+-- between the marks of a sample is its field
 pub field_between : (ss : List Sample) (k : ℕ) (s : Sample) → slice_get ss k ≡ Some s →
     slice_range (sample_fields ss) (length (sample_fields (take k ss))) (length (sample_fields (take (k + 1) ss))) ≡ sample_field s
 field_between ss k s e =

@@ -32,7 +32,7 @@ pub still_grouped : (ns : List ℕ) (gs : WriteRequest) (i : ℕ) (old new : Tim
 still_grouped ns gs i old new lt e f h =
     (h.0 ∙ sym (length-set gs i new), subst (IsDistinct labels_eq) (sym (labels_of-set gs i old new lt e f)) h.1)
 
--- labels that differ from the first stand at no place behind it
+-- labels that differ from the first are at no place after it
 apart_from_first : (l m : Labels) (ls : List Labels) (i : ℕ) → AllByRecursion (λ x. labels_eq m x ≡ false) ls → slice_get ls i ≡ Some l → labels_eq l m ≡ false
 apart_from_first l m [] i h e = absurd cc
 apart_from_first l m (k ∷ ls) zero h e = let same : k ≡ l = cc in eq-flip l m ∙ ap (labels_eq m) (sym same) ∙ h.0
@@ -50,7 +50,7 @@ with_sample-at (g ∷ gs) (suc i) l s old d e f =
     ap (λ r. g ∷ r) (with_sample-at gs i l s old (IsDistinct-tail labels_eq g.labels (labels_of gs) d) e f)
     ∙ sym (with_sample-other l s g gs (apart_from_first l g.labels (labels_of gs) i (IsDistinct-head labels_eq g.labels (labels_of gs) d) e))
 
--- a number that is found stands there
+-- a number that is found is there
 found_at : (n : ℕ) (ns : List ℕ) (i : ℕ) → Some i ≡ position (nat_eq n) ns → slice_get ns i ≡ Some n
 found_at n ns i e =
     let found = position-Some (nat_eq n) ns i 0 (sym e) in
@@ -61,7 +61,7 @@ pub found_in : (n : ℕ) (ns : List ℕ) (gs : WriteRequest) (g : Groups) (r : O
 found_in n ns gs g None view e = tt
 found_in n ns gs g (Some i) view e = ap (λ (h : Groups). slice_get h.numbers i) (sym view) ∙ found_at n ns i e
 
--- the number that a view of them has at a place stands there
+-- the number that a view of them has at a place is there
 pub viewed_at : (n : ℕ) (ns : List ℕ) (gs : WriteRequest) (g : Groups) (i : ℕ) → record { numbers = ns; series = gs } ≡ g → slice_get g.numbers i ≡ Some n → slice_get ns i ≡ Some n
 viewed_at n ns gs g i view e = ap (λ (h : Groups). slice_get h.numbers i) view ∙ e
 

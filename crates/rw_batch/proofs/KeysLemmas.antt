@@ -39,7 +39,7 @@ module _ {K : Type 0} (v : K → Labels) where
   known true b e f = refl
   known false b e f = absurd cc
 
-  -- where a key is known the keys stay
+  -- if a key is known the keys stay
   pub keys_stay : (ks new : List K) (k : K) (l : Labels) (b : Bool) → b ≡ not (list_any (λ k. labels_eq l (v k)) ks) → b ≡ false → new ≡ cond (list_any (λ k. labels_eq l (v k)) ks) ks (ks ++ k ∷ []) → new ≡ ks
   keys_stay ks new k l b is old e = e ∙ ap (λ x. cond x ks (ks ++ k ∷ [])) (known _ b is old)
 

@@ -23,7 +23,7 @@ stands_for_own f n g e alone i =
     let at : slice_get (labels_of g.series) i ≡ option_map f (slice_get g.numbers i) = ap (λ ls. slice_get ls i) e ∙ slice_get-map f g.numbers i in
     (λ h. at ∙ ap (option_map f) h, λ h. number_at f n (slice_get g.numbers i) (alone i) (sym at ∙ h))
 
--- labels are the same where their numbers are
+-- labels are the same if their numbers are
 same_as_numbers_as : (f : ℕ → Labels) (n m : ℕ) (b c : Bool) → (f m ≡ f n → m ≡ n) → labels_eq (f n) (f m) ≡ b → nat_eq n m ≡ c → b ≡ c
 same_as_numbers_as f n m true true alone e h = refl
 same_as_numbers_as f n m false false alone e h = refl

@@ -28,7 +28,7 @@ get_last [] x (suc n) e = absurd (omega arith)
 get_last (y ∷ xs) x zero e = absurd (omega arith)
 get_last (y ∷ xs) x (suc n) e = get_last xs x n (omega arith)
 
--- what stands of earlier samples stays
+-- what is of earlier samples stays
 goes_stay : (xs : List LabelledSample) (x : LabelledSample) (before : List ℕ) (b at : ℕ) (back : List ℕ) (ss : List Sample) → GoesBack xs before at back ss
     → GoesBack (xs ++ x ∷ []) (before ++ b ∷ []) at back ss
 goes_stay xs x before b at [] ss h = h
@@ -233,7 +233,7 @@ lines_below : (room : ℕ) (series : List Shared) (left : ℕ) (lines : Vec Line
 lines_below room series left lines before xs i k h at =
     omega (arith, get_below series i k at, length-map series arc_value, ap length h.labels_are, length-map (message xs) (λ (g : TimeSeries). g.labels), as_many xs before.items (message xs) lines.items h.lines_are)
 
--- where a label set is known its place is one of the lines, whose counts are small
+-- if a label set is known its place is one of the lines, whose counts are small
 pub known_below : (room : ℕ) (series news : List Shared) (left : ℕ) (lines : Vec Line Global) (before : Vec ℕ Global) (xs : List LabelledSample) (key k : Shared) (i : ℕ) (b : Bool) → AreRows room series left lines before xs
     → b ≡ not (list_any (λ k. labels_eq (arc_value key) (arc_value k)) series) → b ≡ false → news ≡ cond (list_any (λ k. labels_eq (arc_value key) (arc_value k)) series) series (series ++ key ∷ [])
     → slice_get news i ≡ Some k → i < length lines.items

@@ -1,4 +1,4 @@
--- A batch (Remote-Write 1.0): a stretch of one shard's samples, with one id and one body for good.
+-- A batch (Remote-Write 1.0): a stretch of one shard's samples, whose id and body never change.
 use Rattle.std.specs.Global.{Global}
 use Rattle.std.specs.Prelude.{◌≡◌, ℕ, ◌+◌, ◌-◌, ◌≤◌, Vec, vec_capacity, List, [], ◌∷◌, ◌++◌, length, Some, slice_get}
 use Rattle.rw_types.specs.declared.place.Place.{Place}
@@ -9,7 +9,8 @@ use Rattle.rw_batch.specs.Grouping.{LabelledSample, message}
 use Rattle.rw_batch.specs.Kept.{Fielded, Rowed, samples_alone}
 use Rattle.rw_batch.specs.declared.batch.BatchId.{BatchId}
 
--- samples that are taken until there are so many: where each stands and what it is, in the same order
+-- samples that are taken until there are `room` of them: where each is and what it is, in the same
+-- order
 pub record Building : Type 0 where
   pub batch : ℕ
   pub places : List Place
@@ -20,7 +21,7 @@ pub record Frozen : Type 0 where
   pub places : List Place
   pub body : List ℕ
 
--- the place is the next one of the same shard, where there is one before it
+-- the place is the next one of the same shard, if there is one before it
 abbrev pub Follows : List Place → Place → Type 0
 Follows ps p = (last : Place) → slice_get ps (length ps - 1) ≡ Some last → (p.epoch ≡ last.epoch) × (p.shard ≡ last.shard) × (p.seq ≡ last.seq + 1)
 
@@ -44,11 +45,13 @@ abbrev pub id_of : List Place → BatchId
 id_of [] = record { epoch = 0; shard = 0; seq = 0 }
 id_of (p ∷ ps) = record { epoch = p.epoch; shard = p.shard; seq = p.seq }
 
--- the batch of these samples: its body is the canonical spelling of the message that groups them by label set
+-- the batch of these samples: its body is the canonical spelling of the message that groups them by
+-- label set
 abbrev pub batch_of : Building → Frozen
 batch_of b = record { places = b.places; body = canon (message b.samples) }
 
--- what a builder keeps: a place for each sample, and one shard's samples in order, with their fields and their series
+-- what a builder keeps: a place for each sample, and one shard's samples in order, with their
+-- fields and their series
 pub record IsBuilding (batch : ℕ) (places : Vec Place Global) (fields : Fielded) (rows : Rowed) : Type 0 where
   pub alike : length places.items ≡ length rows.samples
   pub within : length rows.samples ≤ batch

@@ -1,4 +1,5 @@
--- The message of a batch (Remote-Write 1.0): one series for each label set, in the order of first samples, each with its samples in order.
+-- The message of a batch (Remote-Write 1.0): one series for each label set, in the order of first
+-- samples, each with its samples in order.
 use Rattle.std.specs.Prelude.{ℕ, List, [], ◌∷◌, ◌++◌, map, filter, length, get_or, sum_by, not, if◌then◌else◌}
 use Rattle.std.specs.List.{list_any}
 use Rattle.rw_types.specs.Labels.{Labels}
@@ -27,7 +28,8 @@ message xs = map (λ l. record { labels = l; samples = samples_of l xs }) (disti
 abbrev pub series_at : List LabelledSample → ℕ → TimeSeries
 series_at xs place = get_or (message xs) place (record { labels = []; samples = [] })
 
--- a message with one more sample: at the end of the series with its labels, else in a new series behind the others
+-- a message with one more sample: at the end of the series with its labels, or in a new series
+-- after the others
 unfoldable pub with_sample : Labels → Sample → WriteRequest → WriteRequest
 with_sample l s [] = record { labels = l; samples = s ∷ [] } ∷ []
 with_sample l s (g ∷ gs) =
@@ -41,6 +43,6 @@ labels_of gs = map (λ g. g.labels) gs
 abbrev pub sample_count : WriteRequest → ℕ
 sample_count gs = sum_by (λ g. length g.samples) gs
 
--- labels, with one that goes to the end where it is new
+-- labels, with one that goes to the end if it is new
 abbrev pub with_labels : Labels → List Labels → List Labels
 with_labels l ls = if list_any (labels_eq l) ls then ls else ls ++ l ∷ []

@@ -1,4 +1,5 @@
--- What a builder keeps of the samples that it took: their fields, and where those of one series stand.
+-- What a builder keeps of the samples that it took: their fields, and where those of one series
+-- are.
 use Rattle.std.specs.Global.{Global}
 use Rattle.std.specs.Prelude.{◌≡◌, ℕ, ◌+◌, ◌*◌, ◌≤◌, Vec, vec_capacity, List, [], ◌∷◌, ◌++◌, length, take, drop, map, Some, slice_get, ⊤}
 use Rattle.std.specs.Arc.{arc_value}
@@ -25,11 +26,12 @@ pub record Rowed : Type 0 where
 unfoldable pub field_at : List Sample → ℕ → List ℕ
 field_at ss k = sample_fields (take 1 (drop k ss))
 
--- the samples alone
+-- the samples without their series numbers
 abbrev pub samples_alone : List LabelledSample → List Sample
 samples_alone xs = map (λ x. x.sample) xs
 
--- the fields of the samples in a row; mark k is where the field of sample k begins, and the last one where all end
+-- the fields of the samples in a row; mark k is where the field of sample k begins, and the last
+-- one where all end
 pub record AreFields (room : ℕ) (bytes : Vec ℕ Global) (marks : Vec ℕ Global) (samples : List Sample) : Type 0 where
   pub most : room ≤ 10000
   pub within : length samples ≤ room
@@ -40,14 +42,15 @@ pub record AreFields (room : ℕ) (bytes : Vec ℕ Global) (marks : Vec ℕ Glob
   pub mark_room : room + 1 ≤ vec_capacity marks
   pub valid : AllByRecursion IsSample samples
 
--- the samples of one series are those numbered `back`, the last one first: `at` is that one, and `before` has for each sample the one of its series before it
+-- the samples of one series are those numbered `back`, the last one first: `at` is that one, and
+-- `before` has for each sample the one before it in its series
 abbrev pub GoesBack : List LabelledSample → List ℕ → ℕ → List ℕ → List Sample → Type 0
 GoesBack xs before at [] ss = ss ≡ []
 GoesBack xs before at (j ∷ back) ss =
     (at ≡ j) × (b : ℕ) × (front : List Sample) × (x : LabelledSample) × (slice_get before j ≡ Some b) × (slice_get xs j ≡ Some x)
     × (ss ≡ front ++ x.sample ∷ []) × GoesBack xs before b back front
 
--- the numbers are found from `at` on, each by the one that stands before the last
+-- the numbers are found from `at` on, each by the one before the last
 abbrev pub IsTrail : List ℕ → ℕ → List ℕ → Type 0
 IsTrail before at [] = ⊤
 IsTrail before at (j ∷ back) = (at ≡ j) × (b : ℕ) × (slice_get before j ≡ Some b) × IsTrail before b back

@@ -7,7 +7,7 @@ use bytes::Bytes;
 use rw_types::Place;
 use std::marker::Model;
 
-/// What names a batch: the place of its first sample.
+/// What identifies a batch: the place of its first sample.
 #[derive(Clone, Copy, Debug, PartialEq, Eq)]
 pub struct BatchId {
     /// The epoch of its shard.
@@ -18,7 +18,8 @@ pub struct BatchId {
     pub seq: u64,
 }
 
-/// Consecutive samples of one shard. Its id and its body stay as they are: each attempt to send it uses the one body.
+/// Consecutive samples of one shard. Its id and its body do not change: each attempt to send it
+/// uses the same body.
 #[derive(Drop)]
 pub struct Batch {
     pub(crate) places: Vec<Place>,
@@ -37,7 +38,7 @@ impl Model for Batch {
 }
 
 impl Batch {
-    /// The id, which is the place of the first sample.
+    /// Returns the id, which is the place of the first sample.
     pub fn id(&self) -> BatchId
         ensures { result ≡ id_of self.now.places }
     {
@@ -49,7 +50,7 @@ impl Batch {
         }
     }
 
-    /// The places of its samples, in order. There is at least one.
+    /// Returns the places of its samples, in order. There is at least one.
     pub fn places(&self) -> &[Place]
         ensures places { result.now ≡ self.now.places }
         ensures some { 0 < length self.now.places }
@@ -58,7 +59,7 @@ impl Batch {
         self.places.as_slice()
     }
 
-    /// The bytes of its message.
+    /// Returns the bytes of its message.
     pub fn body(&self) -> &Bytes
         ensures { result.now ≡ self.now.body }
     {

@@ -15,7 +15,8 @@ use rw_types::put_bytes;
 use rw_write_request::{put_series_head, series_head_len};
 use std::alloc::AllocError;
 
-/// How many bytes the field of series number `place` of the message takes; `None` where the number does not fit 64 bits.
+/// Returns how many bytes the field of series number `place` of the message takes, or `None` if the
+/// number does not fit 64 bits.
 fn series_len(rows: &Rows, place: usize) -> Option<usize>
     requires { place < length (message rows.now.samples) }
     ensures some { IfSome result (λ n. n ≡ parts_len (series_at rows.now.samples place)) }
@@ -26,7 +27,7 @@ fn series_len(rows: &Rows, place: usize) -> Option<usize>
     head.checked_add(bytes)
 }
 
-/// How many bytes the body takes; `None` where the number does not fit 64 bits.
+/// Returns how many bytes the body takes, or `None` if the number does not fit 64 bits.
 pub(crate) fn body_len(rows: &Rows) -> Option<usize>
     ensures some { IfSome result (λ n. n ≡ length (canon (message rows.now.samples))) }
     ensures none { IfNone result (2 ^ 64 ≤ length (canon (message rows.now.samples))) }
@@ -52,7 +53,8 @@ fn put_numbered(out: &mut Vec<u8>, fields: &Fields, numbers: &[usize])
     }
 }
 
-/// Appends the field of series number `place` of the message. `row` is room for the numbers of its samples.
+/// Appends the field of series number `place` of the message. `row` is room for the numbers of its
+/// samples.
 fn put_series(out: &mut Vec<u8>, rows: &Rows, fields: &Fields, place: usize, row: &mut Vec<usize>)
     requires same { fields.now.samples ≡ samples_alone rows.now.samples }
     requires place { place < length (message rows.now.samples) }

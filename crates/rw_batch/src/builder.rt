@@ -44,7 +44,7 @@ impl Model for Builder {
     ghost invariant = { λ b. IsBuilding b.batch b.places b.fields b.rows };
 }
 
-/// Whether a place is the next one of the same shard, where there is one before it.
+/// Returns whether a place is the next one of the same shard, or there is no place before it.
 fn follows(places: &[Place], place: &Place) -> bool
     ensures { IsTrue result ↔ Follows places.now place.now }
 {
@@ -58,7 +58,7 @@ fn follows(places: &[Place], place: &Place) -> bool
 }
 
 impl Builder {
-    /// An empty builder with room for `batch` samples.
+    /// Returns an empty builder with room for `batch` samples.
     pub fn new(alloc: Global, batch: usize) -> Result<Builder, AllocError>
         requires some { 0 < batch }
         requires most { batch ≤ MAX_BATCH }
@@ -72,7 +72,7 @@ impl Builder {
         })
     }
 
-    /// How many samples the builder has.
+    /// Returns how many samples the builder has.
     pub fn len(&self) -> usize
         ensures len { result ≡ length self.now.samples }
         ensures within { result ≤ self.now.batch }
@@ -80,28 +80,29 @@ impl Builder {
         self.places.len()
     }
 
-    /// Whether the builder has no sample.
+    /// Returns whether the builder has no sample.
     pub fn is_empty(&self) -> bool
         ensures { IsTrue result ↔ (self.now.samples ≡ []) }
     {
         self.places.is_empty()
     }
 
-    /// The places of its samples, in order.
+    /// Returns the places of its samples, in order.
     pub fn places(&self) -> &[Place]
         ensures { result.now ≡ self.now.places }
     {
         self.places.as_slice()
     }
 
-    /// Whether the builder has as many samples as it has room for.
+    /// Returns whether the builder has as many samples as it has room for.
     pub fn is_full(&self) -> bool
         ensures { IsTrue result ↔ (length self.now.samples ≡ self.now.batch) }
     {
         self.places.len() == self.batch
     }
 
-    /// Whether the item is a sample that fits: there is room, and it is the next one of the shard of those before it.
+    /// Returns whether the item is a sample that fits: there is room, and it is the next one of the
+    /// shard of those before it.
     pub fn can_take(&self, item: &Item) -> bool
         ensures { IsTrue result
             ↔ ((length self.now.samples < self.now.batch) × MayBeTaken self.now.places item.now) }
@@ -114,7 +115,8 @@ impl Builder {
         }
     }
 
-    /// Takes the next sample of the shard. The number of its series is only a hint, and need not be right. This takes no memory.
+    /// Takes the next sample of the shard. The number of its series is only a hint, and need not be
+    /// right. This takes no memory.
     pub fn take(&mut self, item: Item)
         requires room { length self.old.samples < self.old.batch }
         requires sample { MayBeTaken self.old.places item }
@@ -132,7 +134,8 @@ impl Builder {
         }
     }
 
-    /// The field of sample number `k`, counted from 0, in the canonical spelling of the message. This takes no memory.
+    /// Returns the field of sample number `k`, counted from 0, in the canonical spelling of the
+    /// message. This takes no memory.
     pub fn field(&self, k: usize) -> &[u8]
         requires { k < length self.now.samples }
         ensures { (x : LabelledSample) → slice_get self.now.samples k ≡ Some x
@@ -141,7 +144,8 @@ impl Builder {
         self.fields.get(k)
     }
 
-    /// How many bytes the body of the batch takes; `None` where the number does not fit 64 bits.
+    /// Returns how many bytes the body of the batch takes, or `None` if the number does not fit 64
+    /// bits.
     pub fn body_len(&self) -> Option<usize>
         ensures some { IfSome result (λ n. n ≡ length (batch_of self.now).body) }
         ensures none { IfNone result (2 ^ 64 ≤ length (batch_of self.now).body) }
@@ -149,7 +153,8 @@ impl Builder {
         body_len(&self.rows)
     }
 
-    /// Appends the body of the batch to a vector that has room for it. An `Err` leaves `out` as it was.
+    /// Appends the body of the batch to a vector that has room for it. An `Err` leaves `out` as it
+    /// was.
     pub fn put_body(&self, out: &mut Vec<u8>) -> Result<(), AllocError>
         requires { vec_len out.old + length (batch_of self.now).body ≤ vec_capacity out.old }
         ensures ok { OnOk result (out.new.items ≡ out.old.items ++ (batch_of self.now).body) }
@@ -160,7 +165,7 @@ impl Builder {
         put_body(out, &self.rows, &self.fields)
     }
 
-    /// The body of the batch that `freeze` would make.
+    /// Returns the body of the batch that `freeze` would make.
     pub fn body(&self) -> Result<Vec<u8>, AllocError>
         requires { 0 < length self.now.samples }
         ensures body { IfOk result (λ v. v.items ≡ (batch_of self.now).body) }
@@ -175,7 +180,7 @@ impl Builder {
         Ok(body)
     }
 
-    /// The body in a buffer that can be shared.
+    /// Returns the body in a buffer that can be shared.
     fn shared_body(&self) -> Result<Bytes, AllocError>
         requires { 0 < length self.now.samples }
         ensures body { IfOk result (λ b. b ≡ (batch_of self.now).body) }
@@ -185,7 +190,8 @@ impl Builder {
         Ok(Bytes::from_vec(body)?)
     }
 
-    /// Makes the batch of the samples, and room in the ledger for a name of each. Where memory runs out, the builder comes back and the ledger is as it was.
+    /// Makes the batch of the samples, and reserves room in the ledger for a name of each. If
+    /// memory runs out, the builder comes back and the ledger is as it was.
     pub fn freeze(self, ledger: &mut Ledger) -> Result<Batch, (Builder, AllocError)>
         requires { 0 < length self.samples }
         ensures batch { IfOk result (λ b. b ≡ batch_of self) }
@@ -202,8 +208,8 @@ impl Builder {
         }
     }
 
-    /// Makes the batch of the samples as `freeze` does, with `body`, which was made before. Where memory runs out, the builder comes back and the
-    /// ledger is as it was.
+    /// Makes the batch of the samples as `freeze` does, with `body`, which was made before. If
+    /// memory runs out, the builder comes back and the ledger is as it was.
     pub fn freeze_with(
         self,
         body: Bytes,

@@ -36,7 +36,7 @@ impl Model for Fields {
     ghost invariant = { λ f. AreFields f.room f.bytes f.marks f.samples };
 }
 
-/// A part of the bytes.
+/// Returns a part of the bytes.
 fn part(bytes: &[u8], start: usize, end: usize) -> &[u8]
     requires start { start ≤ end }
     requires end { end ≤ length bytes.now }
@@ -46,7 +46,7 @@ fn part(bytes: &[u8], start: usize, end: usize) -> &[u8]
 }
 
 impl Fields {
-    /// No fields, and room for those of `room` samples.
+    /// Returns an empty list of fields, with room for those of `room` samples.
     pub(crate) fn new(alloc: Global, room: usize) -> Result<Fields, AllocError>
         requires { room ≤ 10000 }
         ensures { IfOk result (λ f. f ≡ record { room = room; samples = [] }) }
@@ -75,7 +75,7 @@ impl Fields {
         self.bytes.len() - start
     }
 
-    /// How many fields there are.
+    /// Returns how many fields there are.
     pub(crate) fn len(&self) -> usize
         ensures len { result ≡ length self.now.samples }
         ensures valid { AllByRecursion IsSample self.now.samples }
@@ -83,7 +83,7 @@ impl Fields {
         self.marks.len() - 1
     }
 
-    /// The field of sample number `k`.
+    /// Returns the field of sample number `k`.
     pub(crate) fn get(&self, k: usize) -> &[u8]
         requires { k < length self.now.samples }
         ensures field { result.now ≡ field_at self.now.samples k }

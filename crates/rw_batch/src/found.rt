@@ -1,4 +1,4 @@
-//! Where a label set stands among those that came before it.
+//! Where a label set is among those that came before it.
 
 ghost use Rattle.std.specs.Prelude.{◌≡◌, ◌+◌, ◌<◌, ◌≤◌, [], ◌∷◌, ◌++◌, true, not, Some, slice_get, IsTrue, if◌then◌else◌};
 ghost use Rattle.std.specs.Arc.{arc_value};
@@ -11,10 +11,10 @@ use indexmap::IndexSet;
 use rw_types::LabelSet;
 use std::sync::Arc;
 
-/// No place: a hint that tells nothing.
+/// No place: a hint that says nothing.
 pub(crate) const NOWHERE: usize = usize::MAX;
 
-/// Whether the label set at this place is `labels`.
+/// Returns whether the label set at this place is `labels`.
 fn is_at(sets: &IndexSet<Arc<LabelSet>>, place: usize, labels: &LabelSet) -> bool
     ensures { IsTrue result → (k : Shared) × (slice_get sets.now.keys place ≡ Some k)
         × (labels_eq labels.now (arc_value k) ≡ true) }
@@ -25,8 +25,8 @@ fn is_at(sets: &IndexSet<Arc<LabelSet>>, place: usize, labels: &LabelSet) -> boo
     }
 }
 
-/// The place of a label set, and whether it is new: then it comes last. The hint of its number is looked at first, so that no text
-/// is hashed where the hint is right.
+/// Returns the place of a label set, and whether it is new: a new one comes last. The place that
+/// the hint gives is tried first, so that no text is hashed if the hint is right.
 pub(crate) fn place_of(
     sets: &mut IndexSet<Arc<LabelSet>>,
     hints: &mut [usize],

@@ -15,12 +15,13 @@ use std::marker::Model;
 
 /// Samples grouped by label set: a message that grows sample by sample.
 ///
-/// Each sample comes with the number of its series, by which the series is found without comparing labels.
+/// Each sample comes with the number of its series, by which the series is found without comparing
+/// labels.
 #[derive(Debug, Drop)]
 pub struct Grouping {
     numbers: IndexSet<u64>,
     series: Vec<Series>,
-    /// Where the last sample went, unless it opened a series: a hint alone.
+    /// The place of the last sample's series, unless it opened one: only a hint.
     last: usize,
 }
 
@@ -39,7 +40,7 @@ impl Model for Grouping {
         × IsDistinct labels_eq (labels_of g.series.items) };
 }
 
-/// A copy of labels.
+/// Returns a copy of labels.
 fn copy_of(alloc: Global, labels: &[(String, String)]) -> Result<Vec<(String, String)>, AllocError>
     ensures { IfOk result (λ v. map text_label v.items ≡ map text_label labels.now) }
 {
@@ -50,7 +51,7 @@ fn copy_of(alloc: Global, labels: &[(String, String)]) -> Result<Vec<(String, St
     Ok(copy)
 }
 
-/// A series with one sample.
+/// Returns a series with one sample.
 fn series_of(alloc: Global, labels: &LabelSet, sample: (Word, i64)) -> Result<Series, AllocError>
     ensures { IfOk result (λ s. s ≡ record { labels = labels.now; samples = sample ∷ [] }) }
 {
@@ -60,7 +61,7 @@ fn series_of(alloc: Global, labels: &LabelSet, sample: (Word, i64)) -> Result<Se
     Ok(Series { labels, samples })
 }
 
-/// Puts a sample behind those of a series.
+/// Puts a sample after those of a series.
 fn push_sample(series: &mut Series, sample: (Word, i64)) -> Result<(), AllocError>
     ensures ok { OnOk result (series.new
         ≡ record { labels = series.old.labels; samples = series.old.samples ++ sample ∷ [] }) }
@@ -72,7 +73,7 @@ fn push_sample(series: &mut Series, sample: (Word, i64)) -> Result<(), AllocErro
 }
 
 impl Grouping {
-    /// A message without samples.
+    /// Returns a message without samples.
     pub fn new(alloc: Global) -> Grouping
         ensures { result ≡ record { numbers = []; series = [] } }
     {
@@ -83,7 +84,7 @@ impl Grouping {
         }
     }
 
-    /// How many series there are.
+    /// Returns how many series there are.
     pub fn len(&self) -> usize
         ensures len { result ≡ length self.now.series }
         ensures numbers { result ≡ length self.now.numbers }
@@ -92,15 +93,16 @@ impl Grouping {
         self.series.len()
     }
 
-    /// Whether there is no sample yet.
+    /// Returns whether there is no sample yet.
     pub fn is_empty(&self) -> bool
         ensures { IsTrue result ↔ (self.now.series ≡ []) }
     {
         self.series.is_empty()
     }
 
-    /// Adds a sample of value `word`, at time `t` in milliseconds since the Unix epoch, to the series that `number` stands for. Its labels are
-    /// copied where that series is new. An `Err` changes nothing.
+    /// Adds a sample of value `word`, at time `t` in milliseconds since the Unix epoch, to the
+    /// series that `number` stands for. Its labels are copied if that series is new. An `Err`
+    /// changes nothing.
     pub fn add(
         &mut self,
         number: u64,
@@ -123,7 +125,7 @@ impl Grouping {
         }
     }
 
-    /// Whether the series at this place has the number.
+    /// Returns whether the series at this place has the number.
     fn is_at(&self, place: usize, number: u64) -> bool
         ensures { IsTrue result → slice_get self.now.numbers place ≡ Some number }
     {
@@ -133,8 +135,9 @@ impl Grouping {
         }
     }
 
-    /// The place of the series of a number. That of the last sample is looked at first, and then the next one: samples of a series come together, or
-    /// the series of a log in the same order again and again.
+    /// Returns the place of the series of a number. The place of the last sample is tried first,
+    /// and then the next one: samples of a series come together, or the series of a log come in the
+    /// same order again and again.
     fn place_of(&self, number: u64) -> Option<usize>
         ensures some { IfSome result (λ place. slice_get self.now.numbers place ≡ Some number) }
         ensures none { IfNone result (list_any (λ m. number == m) self.now.numbers ≡ false) }
@@ -170,7 +173,7 @@ impl Grouping {
         Ok(())
     }
 
-    /// The message that holds the samples.
+    /// Returns the message that holds the samples.
     pub fn into_message(self) -> Message
         ensures { result ≡ self.series }
     {

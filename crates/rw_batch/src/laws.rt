@@ -8,7 +8,8 @@ ghost use Rattle.rw_write_request.specs.Message.{Sample, WriteRequest};
 ghost use Rattle.rw_batch.specs.Grouping.{LabelledSample, message, with_sample, labels_of, with_labels, sample_count};
 ghost use Rattle.rw_batch.specs.Groups.{Groups, StandsFor, IsAlone, with_number};
 
-/// Law: one more sample goes to the end of the series with its labels, or into a new series behind the others.
+/// Law: one more sample goes to the end of the series with its labels, or into a new series after
+/// the others.
 pub fn message_grows()
     ensures message { (xs : List LabelledSample) (x : LabelledSample)
         → message (xs ++ x ∷ []) ≡ with_sample x.labels x.sample (message xs) }
@@ -22,7 +23,8 @@ pub fn message_keeps_all()
     ensures samples { (xs : List LabelledSample) → sample_count (message xs) ≡ length xs }
 {}
 
-/// Law: where each number has labels of its own, series can be found by number, also after one more sample.
+/// Law: if each number has its own labels, series can be found by number, also after one more
+/// sample.
 pub fn numbers_stand_for_labels()
     ensures stands { (f : ℕ → Labels) (n : ℕ) (g : Groups) → labels_of g.series ≡ map f g.numbers
         → IsAlone f n g.numbers → StandsFor n (f n) g }

@@ -30,7 +30,7 @@ impl Model for Labelled {
     ghost view = { λ x. record { labels = x.labels.value; sample = x.sample } };
 }
 
-/// Where the samples of a series stand, of which there is one at least.
+/// The samples of a series, of which there is at least one.
 #[derive(Clone, Copy, Drop)]
 pub(crate) struct Line {
     /// The number of its last sample.
@@ -47,11 +47,11 @@ pub(crate) struct Rows {
     room: usize,
     /// The label sets, in the order of first samples.
     series: IndexSet<Arc<LabelSet>>,
-    /// For the remainder of a series' number, where its label set may stand.
+    /// For the remainder of a series' number, where its label set may be.
     hints: Vec<usize>,
     /// The line of each label set.
     lines: Vec<Line>,
-    /// For each sample the number of the one of its series before it, if there is one.
+    /// For each sample, the number of the one before it in its series, if there is one.
     before: Vec<usize>,
     samples: History<Labelled>,
 }
@@ -87,7 +87,7 @@ fn walk_back(before: &[usize], line: Line, row: &mut Vec<usize>)
 }
 
 impl Rows {
-    /// No samples, and room for `room` of them.
+    /// Returns an empty list of samples, with room for `room` of them.
     pub(crate) fn new(alloc: Global, room: usize) -> Result<Rows, AllocError>
         requires { room ≤ 10000 }
         ensures { IfOk result (λ r. r ≡ record { room = room; samples = [] }) }
@@ -102,7 +102,8 @@ impl Rows {
         })
     }
 
-    /// Adds one more sample, whose field takes `bytes` bytes, behind those of its series. The number of the series is a hint.
+    /// Adds one more sample, whose field takes `bytes` bytes, after those of its series. The number
+    /// of the series is a hint.
     pub(crate) fn push(&mut self, series: u64, sample: Labelled, bytes: usize)
         requires room { length self.old.samples < self.old.room }
         requires bytes { bytes ≡ length (sample_fields (sample.sample ∷ [])) }
@@ -130,14 +131,14 @@ impl Rows {
         };
     }
 
-    /// How many series the samples have.
+    /// Returns how many series the samples have.
     pub(crate) fn len(&self) -> usize
         ensures { result ≡ length (message self.now.samples) }
     {
         self.lines.len()
     }
 
-    /// The labels of series number `place` of the message.
+    /// Returns the labels of series number `place` of the message.
     pub(crate) fn labels(&self, place: usize) -> &LabelSet
         requires { place < length (message self.now.samples) }
         ensures { result.now ≡ (series_at self.now.samples place).labels }
@@ -145,7 +146,7 @@ impl Rows {
         &self.series.as_slice()[place]
     }
 
-    /// How many bytes the fields of the samples of series number `place` take.
+    /// Returns how many bytes the fields of the samples of series number `place` take.
     pub(crate) fn sample_bytes(&self, place: usize) -> usize
         requires { place < length (message self.now.samples) }
         ensures { result ≡ length (sample_fields (series_at self.now.samples place).samples) }

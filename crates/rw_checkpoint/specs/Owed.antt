@@ -29,7 +29,7 @@ rising ps = rising_after [] ps
 abbrev pub owed_of : Choice → List Entry → Labels → List Point
 owed_of choice entries l = rising (pairs_of (kept_points choice entries l))
 
--- the second list is an end of the first one
+-- the second list is a suffix of the first one
 abbrev pub EndsWith : List Point → List Point → Type 0
 EndsWith whole end = (before : List Point) × (whole ≡ before ++ end)
 

@@ -11,8 +11,8 @@ ghost use Rattle.rw_checkpoint.specs.Checkpoints.{SaySame, IsCheckpointFor, IsIn
 
 /// Law: a log whose oldest segments were replaced by a checkpoint gives each label set, after the
 /// checkpoint, exactly the samples that it has in the whole log. In the checkpoint it has those of
-/// its samples that are not earlier than a time. If no later sample of the label set is earlier than
-/// that time, what the log owes a receiver is an end of what the whole log owes it.
+/// its samples that are not earlier than a time. If no later sample of the label set is earlier
+/// than that time, what the log owes a receiver is a suffix of what the whole log owes it.
 pub fn a_checkpoint_keeps_the_series()
     ensures rest { (full cp later : List Entry) (l : Labels) → SaySame full cp later
         → pairs_of (samples_after l cp later) ≡ pairs_of (samples_after l full later) }

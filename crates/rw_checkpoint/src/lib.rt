@@ -1,5 +1,5 @@
-//! What is true of a log whose oldest segments were replaced by a checkpoint. Laws alone: nothing
-//! here runs.
+//! What is true of a log whose oldest segments were replaced by a checkpoint. This crate has only
+//! laws: nothing here runs.
 #![tactic(auto)]
 
 mod laws;

@@ -116,7 +116,7 @@ four_bytes_apart c fits =
     let p2 = low_byte_apart 40 (c / 65536) in
     rw (p0, p1, third, p2, fourth) refl
 
--- eight bytes by eight look-ups, where w is the first four as a number
+-- eight bytes by eight look-ups, if w is the first four as a number
 pub eight_bytes : (c w b0 b1 b2 b3 b4 b5 b6 b7 : ℕ) → c < 2 ^ 32 → b0 < 256 → b1 < 256 → b2 < 256 → b3 < 256
     → w ≡ b0 + b1 * 256 + b2 * 65536 + b3 * 16777216
     → let n : ℕ = bit_xor c w in

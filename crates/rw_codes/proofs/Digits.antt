@@ -82,7 +82,8 @@ uvarint_short n = groups_short 9 n
 
 -- ---- byte by byte
 
--- what is still to write of the number n: the groups of the rest, which have room behind the first `len` bytes
+-- what is still to write of the number n: the groups of the rest, which have room after the first
+-- `len` bytes
 pub record Left (old out : List ℕ) (len room n rest : ℕ) : Type 0 where
   pub k : ℕ
   pub below : rest < 2 * 128 ^ k

@@ -113,7 +113,7 @@ un_zig_zag_again n = elim (eqb_tells (n % 2) 0) [
 pub varint_again : (z : ℤ) (rest : List ℕ) → zig_zag z < 2 ^ 64 → read_varint (varint z ++ rest) ≡ Ok (z, rest)
 varint_again z rest h = rw (uvarint_again (zig_zag z) rest h) (ap (λ (x : ℤ). Ok (x, rest)) (zig_zag_again z))
 
--- what is so in any case, is so where memory runs out
+-- what is so in any case, is so if memory runs out
 pub also_on_err : {A E : Type 0} (P : Type 0) (r : Result A E) → P → OnErr r P
 also_on_err P (Ok x) p = tt
 also_on_err P (Err e) p = p

@@ -9,12 +9,14 @@ abbrev pub ◌>>=◌ : {A B F : Type 0} → Result A F → (A → Result B F) �
 (Ok x) >>= f = f x
 (Err e) >>= f = Err e
 
--- n in groups of seven bits, least first, the top bit set on all bytes but the last; at most k groups before the last
+-- n in groups of seven bits, least first, the top bit set on all bytes but the last; at most k
+-- groups before the last
 unfoldable pub groups : ℕ → ℕ → List ℕ
 groups zero n = n ∷ []
 groups (suc k) n = if nat_lt n 128 then n ∷ [] else (128 + n % 128) ∷ groups k (n / 128)
 
--- the number of such groups and the bytes after them, with at most k groups before the last, which then is 0 or 1
+-- the number of such groups and the bytes after them, with at most k groups before the last, which
+-- then is 0 or 1
 unfoldable pub number_in_groups : ℕ → List ℕ → Result (ℕ × List ℕ) CodeFault
 number_in_groups k [] = Err Short
 number_in_groups zero (b ∷ bs) = if nat_lt b 2 then Ok (b, bs) else Err TooBig
@@ -25,7 +27,7 @@ number_in_groups (suc k) (b ∷ bs) =
 abbrev pub uvarint : ℕ → List ℕ
 uvarint n = groups 9 n
 
--- the number of 64 bits that stands at the front as one to ten bytes, and the bytes after it
+-- the 64-bit number at the front, as one to ten bytes, and the bytes after it
 abbrev pub read_uvarint : List ℕ → Result (ℕ × List ℕ) CodeFault
 read_uvarint bytes = number_in_groups 9 bytes
 
@@ -42,7 +44,7 @@ un_zig_zag n = if n % 2 == 0 then pos (n / 2) else negsuc (n / 2)
 abbrev pub varint : ℤ → List ℕ
 varint z = uvarint (zig_zag z)
 
--- the signed number that stands at the front, and the bytes after it
+-- the signed number at the front, and the bytes after it
 abbrev pub read_varint : List ℕ → Result (ℤ × List ℕ) CodeFault
 read_varint bytes = read_uvarint bytes >>= λ n. Ok (un_zig_zag n.0, n.1)
 

@@ -8,7 +8,8 @@ use std::fmt;
 pub enum CodeFault {
     /// The bytes end before the last byte of the varint, and before a tenth.
     Short = 1,
-    /// The tenth byte is above 1: the number has more than 64 bits, or the varint more than ten bytes.
+    /// The tenth byte is above 1: the number has more than 64 bits, or the varint more than ten
+    /// bytes.
     TooBig = 2,
 }
 

@@ -5,7 +5,7 @@ ghost use Rattle.rw_codes.specs.Crc.{crc_bits, crc_byte, crc32c_of};
 
 use crate::crc_tables::TABLES;
 
-/// The code of a byte and the zero bytes after it, from a code of 0.
+/// Returns the code of a byte and the zero bytes after it, from a code of 0.
 #[inline]
 fn code_before_zeros(byte: u8, zeros: usize) -> u32
     requires { zeros < 8 }
@@ -14,7 +14,7 @@ fn code_before_zeros(byte: u8, zeros: usize) -> u32
     TABLES[zeros][byte as usize]
 }
 
-/// The code after one more byte.
+/// Returns the code after one more byte.
 #[inline]
 fn after_byte(code: u32, byte: u8) -> u32
     ensures { result ≡ crc_byte code byte }
@@ -23,8 +23,8 @@ fn after_byte(code: u32, byte: u8) -> u32
     code_before_zeros(low ^ byte, 0) ^ (code >> 8)
 }
 
-/// The code after eight more bytes: since the division is linear over `^`, it is the sum of what
-/// each byte would give with zero bytes after it, the code being added to the first four.
+/// Returns the code after eight more bytes. The division is linear over `^`, so it is the sum of
+/// what each byte would give with zero bytes after it, where the code is added to the first four.
 #[inline]
 fn after_eight(code: u32, bytes: &[u8; 8]) -> u32
     ensures { result ≡ fold crc_byte code bytes.now }
@@ -42,7 +42,7 @@ fn after_eight(code: u32, bytes: &[u8; 8]) -> u32
         ^ code_before_zeros(b7, 0)
 }
 
-/// The CRC-32C of `bytes` (RFC 3720, appendix B.4). This takes no memory.
+/// Returns the CRC-32C of `bytes` (RFC 3720, appendix B.4). This takes no memory.
 pub fn crc32c(bytes: &[u8]) -> u32
     ensures { result ≡ crc32c_of bytes.now }
 {

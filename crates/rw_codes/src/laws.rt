@@ -1,4 +1,5 @@
-//! Laws of the codes, for the crates that read and write them. Each function has an empty body: its contract is the law.
+//! Laws of the codes, for the crates that read and write them. Each function has an empty body: its
+//! contract is the law.
 
 ghost use Rattle.std.specs.Prelude.{◌≡◌, ◌+◌, ◌^◌, ◌<◌, ◌≤◌, ◌++◌, ℕ, ℤ, List, length, Ok, FitsSigned};
 ghost use Rattle.std.proofs.Common.{w64};
@@ -10,7 +11,8 @@ pub fn uvarint_is_read()
         → read_uvarint (uvarint n ++ rest) ≡ Ok (n, rest) }
 {}
 
-/// Law: the varint of a number is its shortest form. No bytes that are read as that number are fewer.
+/// Law: the varint of a number is its shortest form. No bytes that are read as that number are
+/// fewer.
 pub fn uvarint_is_shortest()
     ensures { (text rest : List ℕ) (n : ℕ) → AreBytes text → read_uvarint text ≡ Ok (n, rest)
         → length (uvarint n) + length rest ≤ length text }

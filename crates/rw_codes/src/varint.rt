@@ -7,7 +7,7 @@ ghost use Rattle.rw_codes.specs.Varint.{uvarint, read_uvarint, varint, read_vari
 use crate::code_fault::CodeFault;
 use std::alloc::AllocError;
 
-/// The ZigZag number of a signed number.
+/// Returns the ZigZag number of a signed number.
 #[inline]
 fn zig_zag_number(z: i64) -> u64
     ensures { result ≡ zig_zag z }
@@ -20,7 +20,7 @@ fn zig_zag_number(z: i64) -> u64
     }
 }
 
-/// The signed number that has this ZigZag number.
+/// Returns the signed number that has this ZigZag number.
 #[inline]
 fn signed_number(n: u64) -> i64
     ensures { result ≡ un_zig_zag n }
@@ -29,7 +29,7 @@ fn signed_number(n: u64) -> i64
     if n % 2 == 0 { half } else { -1 - half }
 }
 
-/// How many bytes the varint of `n` takes in its shortest form: one to ten.
+/// Returns how many bytes the varint of `n` takes in its shortest form: one to ten.
 #[inline]
 pub fn uvarint_len(n: u64) -> usize
     ensures exact { result ≡ length (uvarint n) }
@@ -41,7 +41,8 @@ pub fn uvarint_len(n: u64) -> usize
     1 + ((63 - n.leading_zeros()) / 7) as usize
 }
 
-/// Appends the varint of `n`, in its shortest form, to a vector that has room for it ("Base 128 Varints"). This takes no memory.
+/// Appends the varint of `n`, in its shortest form, to a vector that has room for it ("Base 128
+/// Varints"). This takes no memory.
 pub fn push_uvarint(out: &mut Vec<u8>, n: u64)
     requires room { vec_len out.old + length (uvarint n) ≤ vec_capacity out.old }
     ensures items { out.new.items ≡ out.old.items ++ uvarint n }
@@ -61,14 +62,14 @@ fn reserve_for(out: &mut Vec<u8>, n: u64) -> Result<(), AllocError>
     ensures ok { OnOk result (vec_len out.new + length (uvarint n) ≤ vec_capacity out.new) }
     ensures full { OnErr result (vec_capacity out.old < vec_len out.old + length (uvarint n)) }
 {
-    // ten bytes are enough for any number
+    // Ten bytes are enough for any number.
     if out.capacity() - out.len() >= 10 {
         return Ok(());
     }
     out.reserve(uvarint_len(n))
 }
 
-/// `put_uvarint` for a number of any length.
+/// Appends a varint of any length, as `put_uvarint` does.
 #[inline(never)]
 fn put_groups(out: &mut Vec<u8>, n: u64) -> Result<(), AllocError>
     ensures ok { OnOk result (out.new.items ≡ out.old.items ++ uvarint n) }
@@ -80,8 +81,8 @@ fn put_groups(out: &mut Vec<u8>, n: u64) -> Result<(), AllocError>
     Ok(())
 }
 
-/// Appends the varint of `n`, in its shortest form ("Base 128 Varints"). Memory can run out only where the vector has no room for it; an `Err`
-/// leaves its bytes as they were.
+/// Appends the varint of `n`, in its shortest form ("Base 128 Varints"). Memory can run out only if
+/// the vector has no room for it. An `Err` leaves its bytes as they were.
 #[inline]
 pub fn put_uvarint(out: &mut Vec<u8>, n: u64) -> Result<(), AllocError>
     ensures ok { OnOk result (out.new.items ≡ out.old.items ++ uvarint n) }
@@ -95,7 +96,7 @@ pub fn put_uvarint(out: &mut Vec<u8>, n: u64) -> Result<(), AllocError>
     put_groups(out, n)
 }
 
-/// `get_uvarint` for a number of any length.
+/// Reads a varint of any length, as `get_uvarint` does.
 #[inline(never)]
 fn get_groups(bytes: &[u8]) -> Result<(u64, usize), CodeFault>
     ensures ok { IfOk result (λ x. read_uvarint bytes.now ≡ Ok (x.0, drop x.1 bytes.now)) }
@@ -121,8 +122,9 @@ fn get_groups(bytes: &[u8]) -> Result<(u64, usize), CodeFault>
     Err(CodeFault::Short)
 }
 
-/// Reads the varint at the front of `bytes` ("Base 128 Varints"): its number, and how many bytes it takes. These are one to ten, also where fewer would do.
-// Most numbers of a log take one byte or two, so these are read where the call stands.
+/// Reads the varint at the front of `bytes` ("Base 128 Varints"): its number, and how many bytes it
+/// takes. These are one to ten, even if fewer would do.
+// Most numbers of a log take one byte or two, so these are read inline.
 #[inline]
 pub fn get_uvarint(bytes: &[u8]) -> Result<(u64, usize), CodeFault>
     ensures ok { IfOk result (λ x. read_uvarint bytes.now ≡ Ok (x.0, drop x.1 bytes.now)) }
@@ -139,8 +141,8 @@ pub fn get_uvarint(bytes: &[u8]) -> Result<(u64, usize), CodeFault>
     get_groups(bytes)
 }
 
-/// Appends the ZigZag varint of `z`, in its shortest form ("Signed Integers"). Memory can run out only where the vector has no room for it; an
-/// `Err` leaves its bytes as they were.
+/// Appends the ZigZag varint of `z`, in its shortest form ("Signed Integers"). Memory can run out
+/// only if the vector has no room for it. An `Err` leaves its bytes as they were.
 #[inline]
 pub fn put_varint(out: &mut Vec<u8>, z: i64) -> Result<(), AllocError>
     ensures ok { OnOk result (out.new.items ≡ out.old.items ++ varint z) }
@@ -150,7 +152,8 @@ pub fn put_varint(out: &mut Vec<u8>, z: i64) -> Result<(), AllocError>
     put_uvarint(out, zig_zag_number(z))
 }
 
-/// Reads the ZigZag varint at the front of `bytes` ("Signed Integers"): its signed number, and how many bytes it takes. The errors are those of `get_uvarint`.
+/// Reads the ZigZag varint at the front of `bytes` ("Signed Integers"): its signed number, and how
+/// many bytes it takes. The errors are those of `get_uvarint`.
 #[inline]
 pub fn get_varint(bytes: &[u8]) -> Result<(i64, usize), CodeFault>
     ensures ok { IfOk result (λ x. read_varint bytes.now ≡ Ok (x.0, drop x.1 bytes.now)) }

@@ -75,7 +75,7 @@ replies_short path limit answers input body old text one (further {first = first
     let p = one_reply path limit answers input body old first rest false middle one r in
     absurd (let e : false ≡ true = p.closing in cc)
 
--- a refusal has one of its statuses, and a body that is asked for has at most so many bytes
+-- a refusal has one of its statuses, and a body that is asked for has at most this many bytes
 abbrev pub FindingWithin : ℕ → Finding → Type 0
 FindingWithin limit (Refused status) = IsTrue (is_refusal status)
 FindingWithin limit (Body len closes) = len ≤ limit
@@ -142,7 +142,7 @@ served path limit answers input body old before text contents new how one w (sta
     let p = one_reply path limit answers input body old first rest false middle one r in
     absurd (let e : false ≡ true = p.closing in cc)
 
--- it is served alone where there is room for a reply
+-- it is served alone if there is room for a reply
 pub served_alone : {S : Type 0} (path : List ℕ) (limit : ℕ) (answers : S → List ℕ → ℕ → S → Type 0) (input body : List ℕ) (old : S) (before : List ℕ) (contents : Option (List ℕ)) (new : S) (how : ServeEnd) (room : ℕ) →
     IsOneRequest path limit input body → HasWritten path limit answers input old before contents new how → 86 ≤ room →
     (how ≡ Device → IsTooSmall path limit answers input old room) → IsServedAlone answers body old before contents new how

@@ -1,4 +1,4 @@
--- What stands at the front of the bytes that wait stands at the front of the input.
+-- What is at the front of the bytes that wait is at the front of the input.
 use Rattle.std.proofs.Common.{◌+◌, ◌<◌, ◌≤◌, false, arith, length, length-append, ◌≡◌, ℕ, List, [], ◌++◌, drop, Bool, true, Option, Some, Result, Ok, Err, refl, sym, subst, ◌∙◌, ap, inl, inr, append_assoc}
 use Rattle.std.specs.Io.KnownBytes.{prepend_known}
 use Rattle.httparse.specs.Grammar.{IsRequestHead, RequestHead, print_request}
@@ -12,12 +12,12 @@ use Rattle.rw_endpoint.specs.declared.serve_end.ServeEnd.{ServeEnd}
 use Rattle.rw_endpoint.specs.declared.serve_end.ServeEnd.TheVariants.{Eof, Closed, Torn, Device, OutOfMemory}
 use Rattle.rw_endpoint.proofs.KnownLemmas.{prepend_split}
 
--- more bytes behind a head
+-- more bytes after a head
 pub begins_more : (p y : List ℕ) (head : RequestHead) (rest : List ℕ) → BeginsWithHead p head rest → BeginsWithHead (p ++ y) head (rest ++ y)
 begins_more p y head rest b =
     ((b.0.0, ap (λ t. t ++ y) b.0.1 ∙ append_assoc (print_request head) rest y), b.1, b.2)
 
--- more bytes where no head can stand
+-- more bytes if no head can be
 pub never_more : (p y : List ℕ) → NeverHasHead p → NeverHasHead (p ++ y)
 never_more p y never more head rest b =
     never (y ++ more) head rest (subst (λ (t : List ℕ). BeginsWithHead t head rest) (append_assoc p y more) b)

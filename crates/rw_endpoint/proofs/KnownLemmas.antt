@@ -1,4 +1,4 @@
--- Known bytes, where they are known.
+-- Known bytes, if they are known.
 use Rattle.std.proofs.Common.{◌≡◌, ℕ, List, ◌++◌, Option, None, Some, refl, sym, ◌∙◌, ap}
 use Rattle.std.specs.Io.KnownBytes.{Keeps, Appends, prepend_known}
 

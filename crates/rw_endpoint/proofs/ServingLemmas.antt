@@ -5,8 +5,8 @@ use Rattle.rw_endpoint.specs.Serving.{Replies, RepliesTo, further, Ends, Serves,
 use Rattle.rw_endpoint.specs.declared.serve_end.ServeEnd.{ServeEnd}
 use Rattle.rw_endpoint.specs.declared.serve_end.ServeEnd.TheVariants.{OutOfMemory}
 
--- The text replies to the requests that the input has before what is left of it; so what is served from there is served
--- from the start behind that text.
+-- The text replies to the requests that the input has before what is left of it; so what is served
+-- from there is served from the start after that text.
 pub record IsServedUpTo {S : Type 0} (path : List ℕ) (limit : ℕ) (answers : S → List ℕ → ℕ → S → Type 0) (input : List ℕ) (old : S) (text left : List ℕ) (new : S) : Type 0 where
   pub serves : (more : List ℕ) (how : ServeEnd) (last : S) → Serves path limit answers left new more last how →
       Serves path limit answers input old (text ++ more) last how

@@ -14,7 +14,8 @@ pub record IsOneRequest (path : List ℕ) (limit : ℕ) (input body : List ℕ) 
   pub begins : BeginsWithHead input head body
   pub finding : finding_of path limit head ≡ Body (length body) true
 
--- the body was answered, and that is the reply; or memory was refused before it was asked, and nothing was written
+-- the body was answered, and that is the reply; or memory ran out before it was asked, and
+-- nothing was written
 abbrev pub IsServedAlone : {S : Type 0} → (S → List ℕ → ℕ → S → Type 0) → List ℕ → S → List ℕ → Option (List ℕ) → S → ServeEnd → Type 0
 IsServedAlone answers body old before contents new how =
     ((how ≡ Closed) × (status : ℕ) × answers old body status new × IsTrue (is_verdict status) × (contents ≡ Some (before ++ reply status true)))

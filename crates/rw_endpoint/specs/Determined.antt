@@ -1,4 +1,4 @@
--- Where a body has one answer, a connection has one text of replies.
+-- If a body has one answer, a connection has one text of replies.
 use Rattle.std.specs.Prelude.{◌≡◌, ℕ, List}
 use Rattle.rw_endpoint.specs.Serving.{Serves}
 use Rattle.rw_endpoint.specs.declared.serve_end.ServeEnd.{ServeEnd}
@@ -10,7 +10,8 @@ IsFunction {S} answers =
     (old : S) (body : List ℕ) (status other : ℕ) (new last : S) → answers old body status new → answers old body other last →
     (status ≡ other) × (new ≡ last)
 
--- nothing was lost: all requests have their replies, up to the end of the input or to one that closes
+-- nothing was lost: all requests have their replies, up to the end of the input or to one that
+-- closes
 abbrev pub IsServedWhole : ServeEnd → Type 0
 IsServedWhole Eof = Unit {0}
 IsServedWhole Closed = Unit {0}

@@ -1,4 +1,5 @@
--- The judgement of a request's head (RFC 9110, sections 8.3 to 8.6 and 15.5; RFC 9112, sections 3, 6 and 9.3).
+-- The judgement of a request's head (RFC 9110, sections 8.3 to 8.6 and 15.5; RFC 9112, sections 3,
+-- 6 and 9.3).
 use Rattle.std.specs.Prelude.{ℕ, List, [], ◌∷◌, map, Bool, not, ◌||◌, ◌==◌, nat_lt, codes, Option, None, Some, if◌then◌else◌}
 use Rattle.std.specs.List.{list_any}
 use Rattle.std.specs.Str.{bytes_eq}
@@ -22,7 +23,8 @@ body_finding limit minor fields (Some len) =
     else if not (each_value (codes "content-type") is_protobuf fields) then Refused 415
     else Body len (closes_after minor fields)
 
--- what is wrong with a request first: its target, its method, its length, its body's form; else its body is asked for
+-- what is wrong with a request first: its target, its method, its length, its body's form; else its
+-- body is asked for
 abbrev pub finding_of : List ℕ → ℕ → RequestHead → Finding
 finding_of path limit head =
     let fields = map name_and_value head.fields in

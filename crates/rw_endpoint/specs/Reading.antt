@@ -13,7 +13,7 @@ abbrev pub BeginsWithHead : List ℕ → RequestHead → List ℕ → Type 0
 BeginsWithHead input head rest =
     ReadsRequest input head rest × (length (print_request head) ≤ 8192) × (length head.fields ≤ 64)
 
--- no such head stands at the front
+-- no such head is at the front
 abbrev pub HasNoHead : List ℕ → Type 0
 HasNoHead input = (head : RequestHead) (rest : List ℕ) → ¬ (BeginsWithHead input head rest)
 
@@ -21,7 +21,8 @@ HasNoHead input = (head : RequestHead) (rest : List ℕ) → ¬ (BeginsWithHead 
 abbrev pub NeverHasHead : List ℕ → Type 0
 NeverHasHead input = (more : List ℕ) → HasNoHead (input ++ more)
 
--- a head is not there yet: the bytes are fewer than a head may have, and some of the grammar begin so
+-- a head is not there yet: the bytes are fewer than a head may have, and some of the grammar begin
+-- so
 abbrev pub IsPartOfHead : List ℕ → Type 0
 IsPartOfHead input = HasNoHead input × MayBecomeRequest input × (length input < 8192)
 
@@ -33,7 +34,7 @@ Judges path limit input (Seen.Head finding len) =
 Judges path limit input Seen.More = IsPartOfHead input
 Judges path limit input Seen.Never = NeverHasHead input
 
--- what stands at the front of the bytes that wait, where the reader has some left behind them
+-- what is at the front of the bytes that wait, if the reader has some left after them
 abbrev pub HasRead : List ℕ → ℕ → List ℕ → Option (List ℕ) → Front → Type 0
 HasRead path limit pending left (Head finding len) = Judges path limit pending (Seen.Head finding len) × (len ≤ length pending)
 HasRead path limit pending left Never = NeverHasHead pending

@@ -8,7 +8,7 @@ use Rattle.rw_endpoint.specs.declared.finding.Finding.TheVariants.{Refused, Body
 use Rattle.rw_endpoint.specs.declared.serve_end.ServeEnd.{ServeEnd}
 use Rattle.rw_endpoint.specs.declared.serve_end.ServeEnd.TheVariants.{Eof, Closed, Torn, Device, OutOfMemory}
 
--- no head can stand at the front of the input
+-- no head can be at the front of the input
 pub record IsNoRequest {S : Type 0} (input : List ℕ) (old : S) (text : List ℕ) (closes : Bool) (new : S) : Type 0 where
   pub never : NeverHasHead input
   pub written : text ≡ reply 400 true
@@ -74,7 +74,7 @@ pub data Serves {S : Type 0} (path : List ℕ) (limit : ℕ) (answers : S → Li
       Serves path limit answers rest middle text new how →
       Serves path limit answers input old (first ++ text) new how
 
--- what a writer holds after serving that input, where it held some bytes before
+-- what a writer holds after serving that input, if it held some bytes before
 abbrev pub HasWritten : {S : Type 0} → List ℕ → ℕ → (S → List ℕ → ℕ → S → Type 0) → List ℕ → S → List ℕ → Option (List ℕ) → S → ServeEnd → Type 0
 HasWritten path limit answers input old before contents new how =
     (text : List ℕ) × (contents ≡ Some (before ++ text)) × Serves path limit answers input old text new how
@@ -88,7 +88,7 @@ pub data RepliesTo {S : Type 0} (path : List ℕ) (limit : ℕ) (answers : S →
       RepliesTo path limit answers rest middle text →
       RepliesTo path limit answers input old (first ++ text)
 
--- so many bytes of room do not hold the replies to some first requests
+-- this many bytes of room do not hold the replies to some first requests
 abbrev pub IsTooSmall : {S : Type 0} → List ℕ → ℕ → (S → List ℕ → ℕ → S → Type 0) → List ℕ → S → ℕ → Type 0
 IsTooSmall path limit answers input old room =
     (replies : List ℕ) × RepliesTo path limit answers input old replies × (room < length replies)
@@ -102,7 +102,8 @@ pub record AsksForBody (path : List ℕ) (limit : ℕ) (input : List ℕ) : Type
   pub begins : BeginsWithHead input head rest
   pub finding : finding_of path limit head ≡ Body len closes
 
--- The text is the replies to the first requests of the input, none of which closes. What follows these requests is left.
+-- The text is the replies to the first requests of the input, none of which closes. What follows
+-- these requests is left.
 pub data RepliesUpTo {S : Type 0} (path : List ℕ) (limit : ℕ) (answers : S → List ℕ → ℕ → S → Type 0) (input : List ℕ) (old : S) : List ℕ → List ℕ → S → Type 0 where
   nothing_yet : RepliesUpTo path limit answers input old [] input old
   one_more : {text left first rest : List ℕ} {middle new : S} →

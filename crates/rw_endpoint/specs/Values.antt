@@ -1,4 +1,5 @@
--- The values that this endpoint reads (RFC 9110, sections 5.6.3, 8.3, 8.4 and 8.6; Remote-Write 1.0).
+-- The values that this endpoint reads (RFC 9110, sections 5.6.3, 8.3, 8.4 and 8.6; Remote-Write
+-- 1.0).
 use Rattle.std.specs.Prelude.{ℕ, List, [], ◌∷◌, Bool, false, ◌||◌, ◌&&◌, ◌==◌, nat_lt, nat_le, length, take, drop, codes, Option, None, Some, if◌then◌else◌}
 use Rattle.std.specs.List.{list_all}
 use Rattle.std.specs.Str.{str_eq_ignore_ascii_case}
@@ -26,7 +27,7 @@ abbrev pub first_length : List NameValue → Option ℕ
 first_length [] = None
 first_length (field ∷ fields) = if is_named (codes "content-length") field then length_value field.1 else first_length fields
 
--- that length, where each Content-Length is the same
+-- that length, if each Content-Length is the same
 abbrev pub agreed : Option ℕ → List NameValue → Option ℕ
 agreed None fields = None
 agreed (Some n) fields = if each_value (codes "content-length") (is_length n) fields then Some n else None

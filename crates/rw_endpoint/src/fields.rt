@@ -9,7 +9,7 @@ use crate::names::is_same;
 use crate::values::{is_protobuf, length_value};
 use httparse::spans::HeaderSpan;
 
-/// Whether some field has this name.
+/// Returns whether some field has this name.
 pub(crate) fn has_field(buf: &[u8], headers: &[HeaderSpan], name: &[u8]) -> bool
     requires { All (IsHeaderWithin (length buf.now)) headers.now }
     ensures { result ≡ has_field name.now (map (header_bytes buf.now) headers.now) }
@@ -22,7 +22,7 @@ pub(crate) fn has_field(buf: &[u8], headers: &[HeaderSpan], name: &[u8]) -> bool
     false
 }
 
-/// The length that the first `Content-Length` announces.
+/// Returns the length that the first `Content-Length` announces.
 fn first_length(buf: &[u8], headers: &[HeaderSpan]) -> Option<u64>
     requires { All (IsHeaderWithin (length buf.now)) headers.now }
     ensures { result ≡ first_length (map (header_bytes buf.now) headers.now) }
@@ -35,7 +35,7 @@ fn first_length(buf: &[u8], headers: &[HeaderSpan]) -> Option<u64>
     None
 }
 
-/// Whether each `Content-Length` announces this length.
+/// Returns whether each `Content-Length` announces this length.
 fn are_lengths(buf: &[u8], headers: &[HeaderSpan], n: u64) -> bool
     requires { All (IsHeaderWithin (length buf.now)) headers.now }
     ensures { result ≡ each_value (codes "content-length") (is_length n)
@@ -56,7 +56,7 @@ fn are_lengths(buf: &[u8], headers: &[HeaderSpan], n: u64) -> bool
     true
 }
 
-/// The length of the body that the fields announce, where they agree on one.
+/// Returns the length of the body that the fields announce, if they agree on one.
 pub(crate) fn announced(buf: &[u8], headers: &[HeaderSpan]) -> Option<u64>
     requires { All (IsHeaderWithin (length buf.now)) headers.now }
     ensures { result ≡ announced (map (header_bytes buf.now) headers.now) }
@@ -69,7 +69,7 @@ pub(crate) fn announced(buf: &[u8], headers: &[HeaderSpan]) -> Option<u64>
     }
 }
 
-/// Whether the fields name no content coding but `identity`.
+/// Returns whether the fields name no content coding but `identity`.
 pub(crate) fn are_identity(buf: &[u8], headers: &[HeaderSpan]) -> bool
     requires { All (IsHeaderWithin (length buf.now)) headers.now }
     ensures { result ≡ each_value (codes "content-encoding") is_identity
@@ -85,7 +85,7 @@ pub(crate) fn are_identity(buf: &[u8], headers: &[HeaderSpan]) -> bool
     true
 }
 
-/// Whether the fields name no media type but that of a write request.
+/// Returns whether the fields name no media type but that of a write request.
 pub(crate) fn are_protobuf(buf: &[u8], headers: &[HeaderSpan]) -> bool
     requires { All (IsHeaderWithin (length buf.now)) headers.now }
     ensures { result ≡ each_value (codes "content-type") is_protobuf
@@ -101,7 +101,7 @@ pub(crate) fn are_protobuf(buf: &[u8], headers: &[HeaderSpan]) -> bool
     true
 }
 
-/// Whether the sender asks to close the connection.
+/// Returns whether the sender asks to close the connection.
 pub(crate) fn has_close(buf: &[u8], headers: &[HeaderSpan]) -> bool
     requires { All (IsHeaderWithin (length buf.now)) headers.now }
     ensures { result ≡ some_value (codes "connection") is_close

@@ -1,4 +1,4 @@
-//! What is found of a request by its head.
+//! What the head of a request asks for.
 
 ghost use Rattle.std.specs.Prelude.{◌≡◌, length, map, All};
 ghost use Rattle.httparse.specs.Spans.{IsHeaderWithin, header_bytes};
@@ -8,16 +8,17 @@ ghost use Rattle.rw_endpoint.specs.Values.{announced};
 use crate::fields::{announced, are_identity, are_protobuf, has_close};
 use httparse::spans::HeaderSpan;
 
-/// What is found of a request by its head.
+/// What the head of a request asks for.
 #[derive(Clone, Copy, Debug, PartialEq, Eq)]
 pub enum Finding {
     /// It is answered with this status, and the connection closes.
     Refused(u16),
-    /// A body of `len` bytes follows, which is to be answered. `closes` says whether the connection closes after the reply.
+    /// A body of `len` bytes follows, which is to be answered. `closes` says whether the connection
+    /// closes after the reply.
     Body { len: u64, closes: bool },
 }
 
-/// What the fields of a head say of the body behind it.
+/// Returns what the fields of a head say about the body after it.
 pub(crate) fn judge_body(buf: &[u8], fields: &[HeaderSpan], minor: u8, limit: u64) -> Finding
     requires { All (IsHeaderWithin (length buf.now)) fields.now }
     ensures { let fields = map (header_bytes buf.now) fields.now in

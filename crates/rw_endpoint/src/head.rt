@@ -1,4 +1,4 @@
-//! The head of a request, read.
+//! Reads the head of a request.
 
 ghost use Rattle.std.specs.Prelude.{◌≤◌, length};
 ghost use Rattle.rw_endpoint.specs.Reading.{Judges};
@@ -12,12 +12,12 @@ use httparse::spans::{EMPTY_HEADER_SPAN, HeaderSpan, parse_request};
 /// The most fields of a head.
 const MAX_FIELDS: usize = 64;
 
-/// What the bytes that have come of a request say.
+/// What the bytes of a request that have come say.
 #[derive(Clone, Copy, Debug, PartialEq, Eq)]
 pub enum Reading {
-    /// A whole head: what is found by it, and how many bytes it takes.
+    /// A whole head: what it asks for, and how many bytes it takes.
     Head(Finding, usize),
-    /// More has to come.
+    /// More bytes have to come.
     More,
     /// There is no head within the limits, whatever follows.
     Never,

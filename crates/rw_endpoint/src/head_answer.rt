@@ -1,4 +1,4 @@
-//! The head of a receiver, as what answers bodies.
+//! The head of a receiver, which answers bodies.
 
 use crate::answer::Answer;
 use rw_head::Head;

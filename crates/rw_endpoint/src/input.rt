@@ -1,4 +1,4 @@
-//! Heads and bodies, read from a connection.
+//! Reads heads and bodies from a connection.
 
 ghost use Rattle.std.specs.Prelude.{true, ◌≡◌, ◌≢◌, ◌+◌, ◌*◌, ◌<◌, ◌≤◌, max, length, Some, Err, IfOk, OnOk, OnErr, IsOk, vec_len, vec_capacity, option_map};
 ghost use Rattle.std.specs.Io.KnownBytes.{Keeps, IsAtEnd, prepend_known};
@@ -10,10 +10,10 @@ use crate::pending::{MAX_HEAD_BYTES, Pending};
 use rw_types::{Failed, Source};
 use std::alloc::Global;
 
-/// How many bytes one read of a body asks for at most.
+/// The most bytes of a body that one read asks for.
 const CHUNK: usize = 16 * 1024;
 
-/// How many bytes of a body room is made for at first, at most.
+/// The most bytes of a body for which room is made at first.
 const FIRST_ROOM: usize = 64 * 1024;
 
 /// Why no body could be read.
@@ -26,7 +26,7 @@ pub(crate) enum Stop {
 /// What is at the front of the input.
 #[derive(Clone, Copy, Debug, PartialEq, Eq)]
 pub(crate) enum Front {
-    /// A whole head: what is found by it, and how many bytes it takes.
+    /// A whole head: what it asks for, and how many bytes it takes.
     Head(Finding, usize),
     /// No head, whatever follows.
     Never,
@@ -34,8 +34,8 @@ pub(crate) enum Front {
     End,
 }
 
-/// Appends some bytes of a head to those that wait, and returns how many. None come only at the end
-/// of the input.
+/// Appends some bytes of a head to those that wait, and returns how many. 0 means the end of the
+/// input.
 fn read_pending<R: Source>(reader: &mut R, pending: &mut Pending) -> Result<usize, Failed>
     requires { length pending.old < 8192 }
     ensures kept { OnOk result
@@ -60,8 +60,8 @@ fn read_pending<R: Source>(reader: &mut R, pending: &mut Pending) -> Result<usiz
     }
 }
 
-/// Appends some bytes to those of a body, at most `most`, and returns how many. None come only at
-/// the end of the input.
+/// Appends some bytes to those of a body, at most `most`, and returns how many. 0 means the end of
+/// the input.
 fn read_more<R: Source>(reader: &mut R, body: &mut Vec<u8>, most: usize) -> Result<usize, Stop>
     requires { 0 < most }
     ensures kept { OnOk result
@@ -87,7 +87,7 @@ fn read_more<R: Source>(reader: &mut R, body: &mut Vec<u8>, most: usize) -> Resu
     }
 }
 
-/// Reads until a head is at the front of the input, or none can be. This takes no memory.
+/// Reads until a head is at the front of the input, or no head can be there. This takes no memory.
 pub(crate) fn read_front<R: Source>(
     reader: &mut R,
     pending: &mut Pending,
@@ -141,7 +141,7 @@ fn make_room(body: &mut Vec<u8>, n: usize) -> Result<usize, Stop>
     }
 }
 
-/// Reads a body of `n` bytes; `None` if the input ends before.
+/// Reads a body of `n` bytes, or returns `None` if the input ends before.
 pub(crate) fn read_body<R: Source>(
     alloc: Global,
     reader: &mut R,

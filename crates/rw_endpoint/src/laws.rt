@@ -13,7 +13,8 @@ pub fn replies_are_short()
         → length (reply status closes) ≤ 86 }
 {}
 
-/// Law: where a body has one answer, an input that is served up to its end, or up to a reply that closes, has one text of replies.
+/// Law: if a body has one answer, an input that is served up to its end, or up to a reply that
+/// closes, has one text of replies.
 pub fn replies_are_determined<A: Answer>()
     ensures { IsFunction A.answers → AreDetermined A.answers }
 {}

@@ -1,4 +1,5 @@
-//! The receiving endpoint of Remote-Write 1.0 over HTTP/1.1 (RFC 9112): the bytes of a connection go in, and one reply for each request comes out, in order.
+//! The receiving endpoint of Remote-Write 1.0 over HTTP/1.1 (RFC 9112): the bytes of a connection
+//! go in, and one reply for each request comes out, in order.
 #![tactic(auto)]
 
 mod answer;

@@ -7,8 +7,9 @@ use std::marker::Model;
 /// The most bytes of a head, its last line and the empty lines before it included.
 pub(crate) const MAX_HEAD_BYTES: usize = 8192;
 
-/// The bytes of a connection that were read and are not used yet, at most as many as a head has. They
-/// take no memory from an allocator, so a head is read and judged where there is none.
+/// The bytes of a connection that were read and are not used yet, at most as many as a head has.
+/// They take no memory from an allocator, so a head is read and judged even when memory is
+/// exhausted.
 #[derive(Drop)]
 pub(crate) struct Pending {
     bytes: [u8; MAX_HEAD_BYTES],
@@ -26,7 +27,7 @@ impl Model for Pending {
 }
 
 impl Pending {
-    /// No bytes.
+    /// Returns a buffer without bytes.
     pub(crate) fn new() -> Pending
         ensures { result ≡ [] }
     {
@@ -36,7 +37,7 @@ impl Pending {
         }
     }
 
-    /// How many bytes there are.
+    /// Returns how many bytes there are.
     pub(crate) fn len(&self) -> usize
         ensures len { result ≡ length self.now }
         ensures few { result ≤ 8192 }
@@ -44,7 +45,7 @@ impl Pending {
         self.len
     }
 
-    /// The bytes.
+    /// Returns the bytes.
     pub(crate) fn as_slice(&self) -> &[u8]
         ensures bytes { result.now ≡ self.now }
         ensures few { length self.now ≤ 8192 }

@@ -1,10 +1,10 @@
-//! The replies, which need no memory.
+//! The replies, which take no memory.
 
 ghost use Rattle.std.specs.Prelude.{◌≡◌, ◌||◌, IsTrue, true, false};
 ghost use Rattle.rw_endpoint.specs.Judgement.{is_refusal};
 ghost use Rattle.rw_endpoint.specs.Replies.{reply, is_verdict};
 
-/// The reply with this status after which the connection closes.
+/// Returns the reply with this status after which the connection closes.
 #[tactic(auto, unfolding(crate::specs::Replies::reply))]
 pub(crate) fn closing_reply(status: u16) -> &'static [u8]
     requires { IsTrue (is_verdict status || is_refusal status) }
@@ -31,7 +31,7 @@ pub(crate) fn closing_reply(status: u16) -> &'static [u8]
     }
 }
 
-/// The reply with this status after which the connection stays open.
+/// Returns the reply with this status after which the connection stays open.
 #[tactic(auto, unfolding(crate::specs::Replies::reply))]
 pub(crate) fn staying_reply(status: u16) -> &'static [u8]
     requires { IsTrue (is_verdict status) }

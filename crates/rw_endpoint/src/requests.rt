@@ -129,7 +129,8 @@ fn serve_one<R: Source, W: Sink, A: Answer>(
     }
 }
 
-/// Replies to the requests of a connection in order, up to the end of the input or to the first reply that closes it.
+/// Replies to the requests of a connection in order, up to the end of the input or to the first
+/// reply that closes it.
 fn serve_all<R: Source, W: Sink, A: Answer>(
     alloc: Global,
     reader: &mut R,
@@ -165,12 +166,13 @@ fn serve_all<R: Source, W: Sink, A: Answer>(
     ServeEnd::OutOfMemory
 }
 
-/// Replies to the requests of a connection in order, up to the end of the input or to the first reply that closes it.
+/// Replies to the requests of a connection in order, up to the end of the input or to the first
+/// reply that closes it.
 ///
-/// A head is read and judged without memory, so what it refuses is answered also if there is none.
-/// A body over the limit is refused by the length that its head announces; that none of it is read
-/// before the reply no contract says. The memory for a body grows with what has come of it. Once
-/// `answer` was asked, no memory is taken until its reply is written.
+/// A head is read and judged without memory, so what it refuses is answered even when memory is
+/// exhausted. A body over the limit is refused by the length that its head announces; no clause
+/// says that none of it is read before the reply. The memory for a body grows with what has come of
+/// it. Once `answer` was called, no memory is taken until its reply is written.
 pub fn serve<R: Source, W: Sink, A: Answer>(
     alloc: Global,
     reader: &mut R,
@@ -187,7 +189,7 @@ pub fn serve<R: Source, W: Sink, A: Answer>(
     ensures device { result ≡ ServeEnd.Device → (R.has_failed reader.new ≡ true)
         ⊎ (W.has_failed writer.new ≡ true) }
 
-    // Over a sure reader it is answered only where the writer's room did not hold the replies.
+    // Over a sure reader the result is `Device` only if the writer had no room for the replies.
     ensures fits { (input before : List ℕ) → R.remaining reader.old ≡ Some input
         → W.contents writer.old ≡ Some before
         → R.is_sure reader.old ≡ true → W.has_failed writer.old ≡ false
@@ -203,15 +205,15 @@ pub fn serve<R: Source, W: Sink, A: Answer>(
         → IsStoppedAtBody limits.now.path limits.now.max_body_bytes A.answers input answer.old
         before (W.contents writer.new) answer.new }
 
-    // One request alone, which asks to close, has its reply, where there is room for one.
+    // A single request that asks to close has its reply, if there is room for one.
     ensures alone { (input before body : List ℕ) → R.remaining reader.old ≡ Some input
         → W.contents writer.old ≡ Some before
         → R.is_sure reader.old ≡ true → W.has_failed writer.old ≡ false → 86 ≤ W.room writer.old
         → IsOneRequest limits.now.path limits.now.max_body_bytes input body
         → IsServedAlone A.answers body answer.old before (W.contents writer.new) answer.new result }
 
-    // One that its head refuses has its reply, if there is room for it, and nothing is asked. No
-    // memory is needed.
+    // A request that its head refuses has its reply, if there is room for it, and `answer` is not
+    // called. No memory is needed.
     ensures refused { (input before : List ℕ) (status : ℕ) → R.remaining reader.old ≡ Some input
         → W.contents writer.old ≡ Some before
         → R.is_sure reader.old ≡ true → W.has_failed writer.old ≡ false → 86 ≤ W.room writer.old

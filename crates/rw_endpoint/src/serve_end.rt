@@ -11,6 +11,7 @@ pub enum ServeEnd {
     Torn,
     /// The reader or the writer failed.
     Device,
-    /// Memory ran out for the body of a request, which has no reply; or 2^64 - 1 requests had theirs.
+    /// Memory ran out for the body of a request, which has no reply; or 2^64 - 1 requests had
+    /// theirs.
     OutOfMemory,
 }

@@ -12,7 +12,7 @@ const MAX_DIGITS: usize = 19;
 /// The length of `application/x-protobuf`.
 const MEDIA_TYPE_LEN: usize = 22;
 
-/// The number that 1 to 19 digits stand for.
+/// Returns the number that 1 to 19 digits stand for.
 #[tactic(auto, unfolding(crate::specs::Values::length_value))]
 pub(crate) fn length_value(text: &[u8]) -> Option<u64>
     ensures { result ≡ length_value text.now }
@@ -30,7 +30,7 @@ pub(crate) fn length_value(text: &[u8]) -> Option<u64>
     Some(n)
 }
 
-/// The text without the spaces and tabs that it begins with.
+/// Returns the text without the spaces and tabs at its front.
 fn without_blanks(text: &[u8]) -> &[u8]
     ensures { result.now ≡ skip_ows text.now }
 {
@@ -42,7 +42,8 @@ fn without_blanks(text: &[u8]) -> &[u8]
     &text[text.len()..]
 }
 
-/// Whether a semicolon and then the parameter of Remote-Write 1.0 stand here, and nothing else.
+/// Returns whether the text is a semicolon and then the parameter of Remote-Write 1.0, and nothing
+/// else.
 fn is_write_request(rest: &[u8]) -> bool
     ensures { result ≡ is_write_request rest.now }
 {
@@ -55,7 +56,7 @@ fn is_write_request(rest: &[u8]) -> bool
     is_same(without_blanks(&rest[1..]), b"proto=prometheus.WriteRequest")
 }
 
-/// Whether this is the media type of Remote-Write 1.0, alone or with its parameter.
+/// Returns whether this is the media type of Remote-Write 1.0, alone or with its parameter.
 #[tactic(auto, unfolding(crate::specs::Values::is_protobuf))]
 pub(crate) fn is_protobuf(value: &[u8]) -> bool
     ensures { result ≡ is_protobuf value.now }

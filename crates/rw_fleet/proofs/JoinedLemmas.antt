@@ -15,7 +15,7 @@ module _ {T : Type 0} (tells : T → Type 0) (seen : T → List Exchange) (is_fo
   worked_push (x ∷ xs) j h w = (h.0, worked_push xs j h.1 w)
 
 module _ {T : Type 0} where
-  -- all were done, where as many stand there as began
+  -- all were done, if as many are there as began
   pub all_done : (now was more : List (StoppedShard T)) (done all : List ShardHistory) (n_now n_was n_all left : ℕ) → now ≡ was ++ more → map lane_of more ≡ done → n_now ≡ length now → n_was ≡ length was → n_all ≡ length all
       → n_now + left ≡ n_was + n_all → left ≡ 0 → length all ≡ length done
   all_done now was more done all n_now n_was n_all left is same a b c sum none =

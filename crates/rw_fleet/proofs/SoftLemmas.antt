@@ -117,7 +117,7 @@ module _ {T : Type 0} where
   ended_lanes [] = refl
   ended_lanes (j ∷ js) = ap (λ l. put_of j.finished.ends ∷ l) (ended_lanes js)
 
-  -- the shards behind those that had ended got this End
+  -- the shards after those that had ended got this End
   pub ended_closed : (kind : Kind) (was now more : List (StoppedShard T)) (ending : List ShardHistory) → now ≡ was ++ more → map lane_of more ≡ ending → AreEndedBy kind (map put_into ending) → AreEndedBy kind (drop (length was) (map put_by (map finished_of now)))
   ended_closed kind was now more ending is lanes h = subst (λ js. AreEndedBy kind (drop (length was) (map put_by (map finished_of js)))) (sym is) (go was)
     where

@@ -8,7 +8,8 @@ use Rattle.rw_fleet.specs.declared.joined.Finished.{Finished}
 use Rattle.rw_plain_queue.specs.declared.item.Kind.{Kind}
 use Rattle.rw_plain_queue.specs.declared.item.Kind.TheVariants.{Reshard}
 
--- how the workers are set up, the epoch, the shards at work, and those that have ended, oldest first
+-- how the workers are set up, the epoch, the shards at work, and those that have ended, oldest
+-- first
 pub record Shards (T : Type 0) : Type 0 where
   pub config : ConfigFields
   pub epoch : ℕ
@@ -23,6 +24,7 @@ AreAll {T} s joined = (more : List (StoppedShard T)) × (joined ≡ s.ended ++ m
 abbrev pub EndBy : {T : Type 0} → Kind → Shards T → List (Finished T) → Type 0
 EndBy kind s finished = AreEndedBy kind (drop (length s.ended) (map put_by finished))
 
--- all shards at work have ended by an End that asks for all that was put, and the next epoch has none yet
+-- all shards at work have ended by an End that asks for all that was put, and the next epoch has
+-- none yet
 abbrev pub HasClosed : {T : Type 0} → Shards T → Shards T → Type 0
 HasClosed old new = (new.config ≡ old.config) × (new.epoch ≡ old.epoch + 1) × (new.current ≡ []) × AreAll old new.ended × EndBy Reshard old (map finished_of new.ended)

@@ -9,7 +9,7 @@ use Rattle.rw_fleet.specs.declared.joined.StoppedShard.{StoppedShard}
 use Rattle.rw_fleet.specs.declared.load.Load.{Load}
 use Rattle.rw_worker.specs.Report.{counted_to}
 
--- so many samples are resolved for certain, and so many may not be
+-- this many samples are resolved for certain, and this many may not be
 abbrev pub load_of : ℕ → ℕ → Load
 load_of resolved left = record { placed = counted_to (resolved + left); resolved = counted_to resolved; backlog = counted_to left }
 
@@ -31,7 +31,8 @@ left_at_work window lane = min (count_in lane) window
 abbrev pub window_of : ConfigFields → ℕ
 window_of config = config.capacity + config.batch
 
--- so many samples are resolved and so many are left, and beside them those that the shards at work were put: some of these wait, no more than can
+-- this many samples are resolved and this many are left, and beside them those that the shards at
+-- work were put: some of these wait, at most as many as can
 pub record IsAdvised (window : ℕ) (lanes : List ShardHistory) (resolved left : ℕ) (load : Load) : Type 0 where
   pub settled : ℕ
   pub waiting : ℕ

@@ -6,6 +6,6 @@ pub record Positions : Type 0 where
   pub all : List ℕ
   pub most : ℕ
 
--- the last n of a list, or all where there are no more
+-- the last n of a list, or all if there are no more
 abbrev pub latest : ℕ → List ℕ → List ℕ
 latest n xs = drop (length xs - n) xs

@@ -1,4 +1,4 @@
--- The shards of an epoch as the one who feeds them sees them.
+-- The shards of an epoch as their feeder sees them.
 use Rattle.std.specs.Prelude.{◌≡◌, ℕ, zero, suc, ◌≤◌, ◌^◌, List, [], ◌∷◌, ◌++◌, length, set, Some, slice_get, ⊤}
 use Rattle.std.specs.Arc.{arc_value}
 use Rattle.rw_shard_core.specs.declared.config.ConfigFields.{ConfigFields}

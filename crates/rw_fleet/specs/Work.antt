@@ -37,7 +37,7 @@ abbrev pub taken_of : Ends → List Item
 taken_of (Compared w) = w.items
 taken_of (Apart f end) = (drain_of end).taken
 
--- what was taken is a beginning of what was put
+-- what was taken is a prefix of what was put
 abbrev pub IsTakenOf : Ends → Type 0
 IsTakenOf ends = Begins (taken_of ends) (put_of ends)
 
@@ -67,15 +67,15 @@ is_resolved j = is_compared j.finished.ends && (length j.abandoned.items == 0)
 abbrev pub IsSoft : List Item → Type 0
 IsSoft put = (before : List Item) → put ≡ before ++ item.End Hard ∷ [] → ⊥
 
--- the last item is no End
+-- the last item is not an End
 abbrev pub IsUnended : List Item → Type 0
 IsUnended put = (kind : Kind) (before : List Item) → put ≡ before ++ item.End kind ∷ [] → ⊥
 
--- where the last item is an End, it is of this kind
+-- if the last item is an End, it is of this kind
 abbrev pub IsEndedBy : Kind → List Item → Type 0
 IsEndedBy kind put = (other : Kind) (before : List Item) → put ≡ before ++ item.End other ∷ [] → other ≡ kind
 
--- and so in each of these queues
+-- and the same in each of these queues
 abbrev pub AreEndedBy : Kind → List (List Item) → Type 0
 AreEndedBy kind [] = ⊤
 AreEndedBy kind (put ∷ puts) = IsEndedBy kind put × AreEndedBy kind puts
@@ -95,7 +95,11 @@ abbrev pub IsEndTaken : TakingEnd → Type 0
 IsEndTaken (taking.Ended kind d) = ⊤
 IsEndTaken (taking.Killed d) = ⊥
 
--- A shard's ends and counts are what a worker of this queue reported, over a transport that was made for it and had told nothing. The samples behind those resolved are abandoned: no more than the queue holds, and a batch. What was put went through the queue in order, and what was left in it fits it; where the ends were compared an End came last. A shard that left nothing keeps no room for what it might have left.
+-- A shard's ends and counts are what a worker of this queue reported, over a transport that was
+-- made for it and had recorded nothing. The samples after those resolved are abandoned: at most as
+-- many as the queue holds, and a batch. What was put went through the queue in order, and what was
+-- left in it fits it; if the ends were compared an End came last. A shard that left nothing keeps
+-- no room for what it might have left.
 pub record IsWorked {T : Type 0} (tells : T → Type 0) (seen : T → List Exchange) (is_for : ℕ → ℕ → T → Type 0) (j : StoppedShard T) : Type 0 where
   pub begun : T
   pub end : TakingEnd

@@ -28,7 +28,7 @@ pub enum Ends {
     Apart(Fed, TakingEnd),
 }
 
-/// Puts an End, where the other end still takes.
+/// Puts an End if the other end still takes.
 pub(crate) fn end_of<R: Wait>(rt: &R, feed: Feed<Open>, kind: Kind) -> Fed
     ensures queue { (feeding result).queue ≡ feed.queue }
     ensures places { places_in (feeding result).put ≡ places_in feed.put }
@@ -41,7 +41,8 @@ pub(crate) fn end_of<R: Wait>(rt: &R, feed: Feed<Open>, kind: Kind) -> Fed
     }
 }
 
-/// Brings the ends of a queue together: what was taken is a beginning of what was put, and all of it where an End was put and taken.
+/// Brings the ends of a queue together: what was taken is a prefix of what was put, and all of it
+/// if an End was put and taken.
 pub(crate) fn meet<R>(rt: &R, fed: Fed, end: TakingEnd) -> Ends
     requires { (feeding fed).queue ≡ (drain_of end).queue }
     ensures queue { queue_of result ≡ (feeding fed).queue }

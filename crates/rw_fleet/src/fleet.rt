@@ -27,7 +27,8 @@ use std::mem::replace;
 use std::sync::Wait;
 use std::thread::Threads;
 
-/// The shards at work, and those that have ended, in the order of their epochs. A fleet has to be ended by `finish`.
+/// The shards at work, and those that have ended, in the order of their epochs. A shard set has to
+/// be ended by `finish`.
 pub struct ShardSet<C: Connect + Drop> {
     alloc: Global,
     config: Config,
@@ -70,8 +71,9 @@ impl<C: Connect + Drop> Model for ShardSet<C> {
 }
 
 impl<C: Connect + Drop> ShardSet<C> {
-    /// A fleet before epoch 0 is opened: it has no shard. The workers of all epochs look at `stop`: where another thread sets it they leave what is not
-    /// sent and let go of their queues, so that nobody waits for room in them.
+    /// Returns a shard set before epoch 0 is opened: it has no shard. The workers of all epochs
+    /// look at `stop`: if another thread sets it, they abandon what is not sent and let go of their
+    /// queues, so that nobody waits for room in them.
     pub fn new(alloc: Global, config: Config, connect: C, stop: StopFlag) -> ShardSet<C>
         ensures { result ≡ record { config = config; epoch = 0; current = []; ended = [] } }
     {
@@ -87,7 +89,7 @@ impl<C: Connect + Drop> ShardSet<C> {
         }
     }
 
-    /// How many shards are at work.
+    /// Returns how many shards are at work.
     pub fn len(&self) -> usize
         ensures len { result ≡ length self.now.current }
         ensures within { result ≤ 1000 }
@@ -95,14 +97,15 @@ impl<C: Connect + Drop> ShardSet<C> {
         self.running.len()
     }
 
-    /// The epoch: how often the number of shards has changed.
+    /// Returns the epoch: how often the number of shards has changed.
     pub fn epoch(&self) -> u64
         ensures { result ≡ self.now.epoch }
     {
         self.epoch
     }
 
-    /// How many of the samples that one shard was put may wait to be resolved: as many as its queue holds, and a batch.
+    /// Returns how many of the samples that one shard was put may wait to be resolved: as many as
+    /// its queue holds, and a batch.
     pub fn window(&self) -> usize
         ensures { result ≡ window_of self.now.config }
     {
@@ -110,7 +113,8 @@ impl<C: Connect + Drop> ShardSet<C> {
         fields.capacity.get() as usize + fields.batch.get() as usize
     }
 
-    /// How far the samples of all shards have come, as far as the workers have told. Those that only wait for a full batch count as resolved.
+    /// Returns how far the samples of all shards have come, as of the last updates of the workers.
+    /// Those that only wait for a full batch count as resolved.
     pub fn load(&self) -> Load
         ensures { IsLoad self.now result }
     {
@@ -119,7 +123,8 @@ impl<C: Connect + Drop> ShardSet<C> {
         load_at_work(ended, &self.running, batch, self.window() as u64)
     }
 
-    /// Opens the queues of `shards` shards, and starts a worker for each. After an `Err` some of them may be at work.
+    /// Opens the queues of `shards` shards, and starts a worker for each. After an `Err` some of
+    /// them may be at work.
     pub fn open<R: Threads + Wait + Copy + Send + 'static>(
         &mut self,
         rt: &R,
@@ -153,7 +158,8 @@ impl<C: Connect + Drop> ShardSet<C> {
         opened
     }
 
-    /// Puts a sample into the queue of shard number `shard`. It may wait for room. An `Err` changes nothing.
+    /// Puts a sample into the queue of shard number `shard`. It may wait for room. An `Err` changes
+    /// nothing.
     pub fn put<R: Wait>(&mut self, rt: &R, shard: usize, sample: RoutedSample) -> Result<(), Fault>
         requires within { shard < length self.old.current }
         requires later { (lane : ShardHistory) (k : ℕ) (o : Place)
@@ -170,7 +176,8 @@ impl<C: Connect + Drop> ShardSet<C> {
         Ok(())
     }
 
-    /// Puts a Flush into the queue of shard number `shard`. It may wait for room. An `Err` changes nothing.
+    /// Puts a Flush into the queue of shard number `shard`. It may wait for room. An `Err` changes
+    /// nothing.
     pub fn mark_one<R: Wait>(&mut self, rt: &R, shard: usize) -> Result<(), Fault>
         requires { shard < length self.old.current }
         ensures rest { self.new ≡ record self.old { current = self.new.current } }
@@ -185,7 +192,8 @@ impl<C: Connect + Drop> ShardSet<C> {
         Ok(())
     }
 
-    /// Puts a Flush into the queue of each shard at work. It may wait for room. After an `Err` some may have one.
+    /// Puts a Flush into the queue of each shard at work. It may wait for room. After an `Err` some
+    /// may have one.
     pub fn mark<R: Wait>(&mut self, rt: &R) -> Result<(), Fault>
         ensures rest { self.new ≡ record self.old { current = self.new.current } }
         ensures marked { OnOk result (self.new.current ≡ map marked self.old.current) }
@@ -202,8 +210,8 @@ impl<C: Connect + Drop> ShardSet<C> {
         hand_over_all(rt, &mut self.running);
     }
 
-    /// Ends all shards at work once all that was put is resolved, and waits for their workers; the next epoch has no shard yet. Returns whether
-    /// all that was put in all epochs is resolved.
+    /// Ends all shards at work once all that was put is resolved, and waits for their workers; the
+    /// next epoch has no shard yet. Returns whether all that was put in all epochs is resolved.
     pub fn close<R: Threads + Wait>(&mut self, rt: &R) -> Resolution
         requires { self.old.epoch + 1 < 2 ^ 64 }
         ensures closed { HasClosed self.old self.new }
@@ -221,8 +229,9 @@ impl<C: Connect + Drop> ShardSet<C> {
         resolution_of(&self.joined)
     }
 
-    /// Ends all shards at work, and waits for their workers, which are told to stop where `kind` is `Hard`. Returns the shards of all epochs, and
-    /// whether all that was put into them is resolved.
+    /// Ends all shards at work, and waits for their workers, which are stopped at once if `kind` is
+    /// `Hard`. Returns the shards of all epochs, and whether all that was put into them is
+    /// resolved.
     pub fn finish<R: Threads + Wait>(
         self,
         rt: &R,

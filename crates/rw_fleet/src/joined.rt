@@ -17,16 +17,17 @@ pub enum Resolution {
     NotAll,
 }
 
-/// The queue of a shard whose worker has ended, and how far that has come.
+/// The queue of a shard whose worker has ended, and how far the worker has come.
 #[derive(Drop)]
 pub struct Finished<T> {
     /// Both ends of the queue.
     pub ends: Ends,
     /// What the worker sent over.
     pub transport: T,
-    /// How many of the samples that were put are resolved, from the first on: the receiver has them, or has refused them.
+    /// How many of the samples that were put are resolved, counted from the first: the receiver has
+    /// them, or has refused them.
     pub resolved: u64,
-    /// Present where the worker read the stop flag as set.
+    /// Present if the worker read the stop flag as set.
     pub stopped: Option<Stopped>,
 }
 
@@ -44,7 +45,7 @@ pub struct StoppedShard<T> {
 }
 
 impl<T: Transport> StoppedShard<T> {
-    /// Whether all samples that were put were taken, and are resolved.
+    /// Returns whether all samples that were put were taken, and are resolved.
     pub fn is_resolved(&self) -> bool
         ensures { result ≡ is_resolved self.now }
     {

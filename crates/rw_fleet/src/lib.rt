@@ -1,5 +1,5 @@
-//! The shards of a sender, each with its queue and a worker in a thread of its own. They are opened epoch by epoch, are put samples and marks,
-//! and are ended and joined.
+//! The shards of a sender, each with its queue and a worker in its own thread. They are opened
+//! epoch by epoch, are put samples and marks, and are ended and joined.
 #![tactic(auto)]
 
 mod connect;

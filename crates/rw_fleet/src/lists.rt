@@ -17,7 +17,7 @@ use std::alloc::{AllocError, Global};
 use std::sync::Wait;
 use std::thread::Threads;
 
-/// Opens the queues of an epoch, and starts their workers, until one cannot be had.
+/// Opens the queues of an epoch, and starts their workers, until one cannot be started.
 pub(crate) fn open_all<C: Connect, R: Threads + Wait + Copy + Send + 'static>(
     rt: &R,
     alloc: Global,
@@ -125,7 +125,7 @@ pub(crate) fn join_all<T: Transport + Send + Drop + 'static, R: Threads>(
     joined
 }
 
-/// Whether all that was put into these queues is resolved.
+/// Returns whether all that was put into these queues is resolved.
 pub(crate) fn resolution_of<T: Transport>(joined: &Vec<StoppedShard<T>>) -> Resolution
     ensures all { result ≡ Resolution.All → AreResolved joined.now.items }
     ensures not_all { result ≡ Resolution.NotAll → HasUnresolved joined.now.items }
@@ -138,7 +138,7 @@ pub(crate) fn resolution_of<T: Transport>(joined: &Vec<StoppedShard<T>>) -> Reso
     Resolution::All
 }
 
-/// How far the samples of shards that have ended have come.
+/// Returns how far the samples of shards that have ended have come.
 pub(crate) fn load_of_ended<T: Transport>(joined: &Vec<StoppedShard<T>>) -> Load
     ensures { result
         ≡ load_of (sum_by resolved_in joined.now.items) (sum_by left_in joined.now.items) }
@@ -150,7 +150,8 @@ pub(crate) fn load_of_ended<T: Transport>(joined: &Vec<StoppedShard<T>>) -> Load
     load
 }
 
-/// The load `ended`, and that of these shards at work, which send batches of `batch` samples. Of each shard at most `window` samples may wait.
+/// Returns the load `ended`, and that of these shards at work, which send batches of `batch`
+/// samples. Of each shard at most `window` samples may wait.
 pub(crate) fn load_at_work<T: Transport + Send + Drop + 'static>(
     ended: Load,
     running: &Vec<RunningShard<T>>,

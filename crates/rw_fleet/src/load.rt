@@ -3,7 +3,8 @@
 ghost use Rattle.std.specs.Prelude.{◌≡◌, ◌+◌, ℕ};
 ghost use Rattle.rw_fleet.specs.Loads.{load_of};
 
-/// How far the samples of all shards have come, as far as is known: advice on how many shards are wanted.
+/// How far the samples of all shards have come, as far as is known. It is best effort, and decides
+/// how many shards are wanted.
 #[derive(Clone, Copy, Debug, PartialEq, Eq)]
 pub struct Load {
     /// How many samples were put into queues.
@@ -25,7 +26,8 @@ impl Load {
         }
     }
 
-    /// The load with one shard more, of whose samples `resolved` are resolved and `left` may not be.
+    /// Returns the load with one shard more, of whose samples `resolved` are resolved and `left`
+    /// may not be.
     pub(crate) fn with(self, resolved: u64, left: u64) -> Load
         ensures { (r l : ℕ) → self ≡ load_of r l → result ≡ load_of (r + resolved) (l + left) }
     {

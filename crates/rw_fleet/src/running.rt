@@ -43,14 +43,15 @@ impl fmt::Display for Fault {
 
 impl Error for Fault {}
 
-/// A shard at work, which has to be ended and joined. Contracts see what its worker is set up with, and what was put into its queue.
+/// A shard at work, which has to be ended and joined. Contracts see what its worker is set up with,
+/// and what was put into its queue.
 pub(crate) struct RunningShard<T: Transport + Send + Drop + 'static> {
     epoch: u64,
     shard: u32,
     feed: Feed<Open>,
-    /// Of the samples that were put.
+    /// The positions of the samples that were put.
     window: Window,
-    /// Of those that the worker has resolved.
+    /// Counts those that the worker has resolved.
     tally: Tally,
     worker: Snapshot<Worker>,
     handle: PromisedHandle<WorkerReport<T>, Begun<T>>,
@@ -77,7 +78,8 @@ impl<T: Transport + Send + Drop + 'static> Model for RunningShard<T> {
         r.handle.promise.transport.value };
 }
 
-/// A shard that is to end, which has to be joined. Contracts see what its worker is set up with, and what was put into its queue.
+/// A shard that is to end, which has to be joined. Contracts see what its worker is set up with,
+/// and what was put into its queue.
 pub(crate) struct StoppingShard<T: Transport + Send + Drop + 'static> {
     fed: Fed,
     window: Window,
@@ -143,14 +145,15 @@ impl<T: Transport + Send + Drop + 'static> RunningShard<T> {
         })
     }
 
-    /// How many samples were put.
+    /// Returns how many samples were put.
     pub(crate) fn count(&self) -> u64
         ensures { result ≡ count_in self.now }
     {
         self.window.len()
     }
 
-    /// How many samples wait to be resolved, as far as the worker has told: at most `most`, and none where they only wait for the `batch` samples of a full batch.
+    /// Returns how many samples wait to be resolved, as of the last update of the worker: at most
+    /// `most`, and none if they only wait for the `batch` samples of a full batch.
     pub(crate) fn waiting(&self, batch: u64, most: u64) -> u64
         ensures { result ≤ left_at_work most self.now }
     {
@@ -212,14 +215,14 @@ impl<T: Transport + Send + Drop + 'static> RunningShard<T> {
         Ok(())
     }
 
-    /// Hands over what was put and is held back, where the worker still takes. It may wait for room.
+    /// Hands over what was put and is held back, if the worker still takes. It may wait for room.
     pub(crate) fn hand_over<R: Wait>(&mut self, rt: &R)
         ensures { self.new ≡ self.old }
     {
         let _ = self.feed.hand_over(rt);
     }
 
-    /// Puts an End, where the worker still takes. It may wait for room.
+    /// Puts an End if the worker still takes. It may wait for room.
     pub(crate) fn end<R: Wait>(self, rt: &R, kind: Kind) -> StoppingShard<T>
         ensures setup { result.setup ≡ self.setup }
         ensures put { samples_in result.put ≡ samples_in self.put }

@@ -10,7 +10,7 @@ use std::marker::Model;
 /// The positions that were put, of which only the last are kept. Contracts see all of them.
 #[derive(Drop)]
 pub(crate) struct Window {
-    /// How many are kept at most.
+    /// The greatest number of positions that are kept.
     most: usize,
     kept: VecDeque<u64>,
     count: u64,
@@ -31,7 +31,7 @@ impl Model for Window {
 }
 
 impl Window {
-    /// A window without positions. It takes the memory for as many as are kept.
+    /// Returns a window without positions. It allocates memory for as many as are kept.
     pub(crate) fn new(alloc: Global, most: usize) -> Result<Window, AllocError>
         requires { 0 < most }
         ensures { IfOk result (λ w. w ≡ record { all = []; most = most }) }
@@ -44,14 +44,14 @@ impl Window {
         })
     }
 
-    /// How many positions were put.
+    /// Returns how many positions were put.
     pub(crate) fn len(&self) -> u64
         ensures { result ≡ length self.now.all }
     {
         self.count
     }
 
-    /// Puts a position behind the others. It takes no memory.
+    /// Puts a position after the others. It takes no memory.
     pub(crate) fn push(&mut self, position: u64)
         requires { length self.old.all < 2 ^ 60 }
         ensures { self.new ≡ record self.old { all = self.old.all ++ position ∷ [] } }
@@ -66,8 +66,8 @@ impl Window {
         self.all.push(&position);
     }
 
-    /// The positions behind the first `resolved`, of which no more are left than are kept.
-    /// Where none is left, no room is kept.
+    /// Returns the positions after the first `resolved`; at most as many are left as are kept. If
+    /// none is left, the memory is freed.
     pub(crate) fn behind(self, resolved: u64) -> Vec<u64>
         requires { length self.all ≤ resolved + self.most }
         ensures items { result.items ≡ drop resolved self.all }

@@ -1,34 +1,27 @@
 -- How a following goes on.
 use Rattle.std.specs.Prelude.{ℕ, ◌≤◌, List, take, ⊤, Option}
 use Rattle.rw_follow.specs.Growth.{IsGivenAt, Known, Meal, Moment, with_next, with_piece}
-use Rattle.rw_follow.specs.declared.follower.Stop.{Stop}
-use Rattle.rw_follow.specs.declared.follower.Stop.TheVariants as stop
 use Rattle.rw_follow.specs.declared.follower.Turn.{Turn}
 use Rattle.rw_follow.specs.declared.follower.Turn.TheVariants as turn
-use Rattle.rw_follow.specs.declared.watch.Wish.{Wish}
-use Rattle.rw_follow.specs.declared.watch.Wish.TheVariants as wish
 
--- the wish that stops it so
-abbrev pub wish_of : Stop → Wish
-wish_of stop.Orderly = wish.End
-wish_of stop.Hard = wish.Hard
-
--- what was given with a turn more, which has this buffer
+-- what was read with one more turn, which has this buffer
 abbrev pub given_by : Turn → List ℕ → Meal → Meal
 given_by (turn.Piece n) buf meal = with_piece meal (take n buf)
 given_by turn.Over buf meal = with_next meal
 given_by turn.Flush buf meal = meal
 given_by turn.Nothing buf meal = meal
-given_by (turn.Stopped s) buf meal = meal
+given_by turn.Finished buf meal = meal
+given_by turn.Aborted buf meal = meal
 
--- its bytes stand in a buffer of this length
+-- its bytes are in a buffer of this length
 abbrev pub IsWithin : Turn → ℕ → Type 0
 IsWithin (turn.Piece n) len = n ≤ len
 IsWithin turn.Over len = ⊤
 IsWithin turn.Flush len = ⊤
 IsWithin turn.Nothing len = ⊤
-IsWithin (turn.Stopped s) len = ⊤
+IsWithin turn.Finished len = ⊤
+IsWithin turn.Aborted len = ⊤
 
--- so much more was given of the log
+-- this much more of the log was read
 abbrev pub Moves : Option Moment → Option Moment → (Meal → Meal) → Type 0
 Moves old new more = (meal : Meal) → Known old (λ m. IsGivenAt meal m) → Known new (λ m. IsGivenAt (more meal) m)

@@ -2,68 +2,61 @@
 
 ghost use Rattle.std.specs.Prelude.{◌≡◌, ◌<◌, ℕ, length, suc, true, Ok, Err, IfErr, IfOk};
 ghost use Rattle.rw_follow.specs.Growth.{HadAll, HasGap, IsFollowed, IsGivenAt, Known, Meal};
-ghost use Rattle.rw_follow.specs.Turns.{IsWithin, Moves, given_by, wish_of};
+ghost use Rattle.rw_follow.specs.Turns.{IsWithin, Moves, given_by};
 ghost use Rattle.rw_types.specs.declared.transfer.ReadFault.{ReadFault};
-ghost use Rattle.rw_follow.specs.declared.follower.Broken.TheVariants as Broken;
-ghost use Rattle.rw_follow.specs.declared.follower.Stop.{Stop};
-ghost use Rattle.rw_follow.specs.declared.follower.Stop.TheVariants as Stop;
+ghost use Rattle.rw_follow.specs.declared.follower.SegmentError.TheVariants as SegmentError;
 ghost use Rattle.rw_follow.specs.declared.follower.Turn.TheVariants as Turn;
+ghost use Rattle.rw_follow.specs.declared.signal.StopRequest.TheVariants as StopRequest;
 
 use crate::segments::{Ahead, Segments};
-use crate::watch::{Watch, Wish};
+use crate::signal::StopRequest;
+use crate::watch::Watch;
 use rw_types::ReadFault;
 use std::marker::Model;
-
-/// How a following is ended by a sign.
-#[derive(Clone, Copy, Debug, PartialEq, Eq)]
-pub enum Stop {
-    /// All that stands was given.
-    Orderly,
-    /// At once.
-    Hard,
-}
 
 /// How a following goes on.
 #[derive(Clone, Copy, Debug, PartialEq, Eq)]
 pub enum Turn {
-    /// So many bytes of the current segment stand in the front of the buffer.
+    /// This number of bytes of the current segment is at the front of the buffer.
     Piece(usize),
     /// The current segment is over.
     Over,
-    /// What was given has waited long enough to be sent on.
+    /// What was read has waited long enough to be sent on.
     Flush,
     /// Nothing is to be done.
     Nothing,
-    /// It was told to stop.
-    Stopped(Stop),
+    /// It was asked to finish, and all that the log had was given.
+    Finished,
+    /// It was asked to end at once.
+    Aborted,
 }
 
-/// Why a log cannot be followed.
+/// Why a log cannot be followed further.
 #[derive(Clone, Copy, Debug, PartialEq, Eq)]
-pub enum Broken {
+pub enum SegmentError {
     /// It cannot be read.
     Unreadable(ReadFault),
     /// The segment of this number is missing.
     Missing(u64),
 }
 
-impl From<ReadFault> for Broken {
+impl From<ReadFault> for SegmentError {
     ghost use Rattle.std.specs.Prelude.{◌≡◌};
-    ghost use Rattle.rw_follow.specs.declared.follower.Broken.TheVariants.{Unreadable};
+    ghost use Rattle.rw_follow.specs.declared.follower.SegmentError.TheVariants.{Unreadable};
 
     ghost from_gives = { λ f e. e ≡ Unreadable f };
 
-    fn from(fault: ReadFault) -> Broken {
-        Broken::Unreadable(fault)
+    fn from(fault: ReadFault) -> SegmentError {
+        SegmentError::Unreadable(fault)
     }
 }
 
-/// Follows a log: gives its segments in order, a piece at a turn, until it is told to stop. Contracts see whether a segment was seen to come after the
-/// current one.
+/// Follows a log: returns its segments in order, a piece at a turn, until it is asked to stop.
+/// Contracts see whether a segment was seen to come after the current one.
 #[derive(Drop)]
 pub struct Follower {
     is_followed: bool,
-    /// Something was given since the last flush.
+    /// Something was returned since the last flush.
     is_waiting: bool,
 }
 
@@ -87,15 +80,16 @@ impl Follower {
         }
     }
 
-    /// Takes a turn. A segment is over once another one was seen to come after it and, read again after that, it gives no more bytes. Told to end, it is at
-    /// its end once nothing is left of what stands; until then it takes no nap. It naps once where nothing is left and no segment comes after the current one,
-    /// and nowhere else.
+    /// Takes a turn. A segment is over once another one was seen to come after it and, read again
+    /// after that, it has no more bytes. When asked to finish, it ends once nothing is left of what
+    /// the log has, and does not sleep until then. It sleeps once if nothing is left and no segment
+    /// comes after the current one, and in no other case.
     pub fn turn<S: Segments, W: Watch>(
         &mut self,
         segments: &mut S,
         watch: &mut W,
         buf: &mut [u8],
-    ) -> Result<Turn, Broken>
+    ) -> Result<Turn, SegmentError>
         requires buffer { 0 < length buf.old }
         requires followed { self.old ≡ true → Known (S.now segments.old) IsFollowed }
         ensures given { IfOk result
@@ -104,31 +98,31 @@ impl Follower {
             (λ _. Moves (S.now segments.old) (S.now segments.new) (λ meal. meal)) }
         ensures piece { IfOk result (λ turn. IsWithin turn (length buf.new)) }
         ensures some { (n : ℕ) → result ≡ Ok (Turn.Piece n) → 0 < n }
-        ensures orderly { result ≡ Ok (Turn.Stopped Stop.Orderly) → (meal : Meal)
+        ensures orderly { result ≡ Ok Turn.Finished → (meal : Meal)
             → Known (S.now segments.old) (λ m. IsGivenAt meal m)
             → Known (S.now segments.new) (HadAll meal) }
-        ensures signed { (stop : Stop) → result ≡ Ok (Turn.Stopped stop)
-            → W.said watch.new ≡ wish_of stop }
-        ensures told { W.tells watch.new → W.tells watch.old }
-        ensures quiet { W.tells watch.new → result ≡ Ok Turn.Nothing → self.new ≡ false
-            → W.naps watch.new ≡ suc (W.naps watch.old) }
-        ensures busy { W.tells watch.new → (result ≡ Ok Turn.Nothing → self.new ≡ true)
-            → W.naps watch.new ≡ W.naps watch.old }
+        ensures finished { result ≡ Ok Turn.Finished → W.said watch.new ≡ StopRequest.Finish }
+        ensures aborted { result ≡ Ok Turn.Aborted → W.said watch.new ≡ StopRequest.Abort }
+        ensures counted { W.counts watch.new → W.counts watch.old }
+        ensures quiet { W.counts watch.new → result ≡ Ok Turn.Nothing → self.new ≡ false
+            → W.sleeps watch.new ≡ suc (W.sleeps watch.old) }
+        ensures busy { W.counts watch.new → (result ≡ Ok Turn.Nothing → self.new ≡ true)
+            → W.sleeps watch.new ≡ W.sleeps watch.old }
         ensures flushed { result ≡ Ok Turn.Flush → W.due watch.new ≡ true }
-        ensures missing { (n : ℕ) → result ≡ Err (Broken.Missing n)
+        ensures missing { (n : ℕ) → result ≡ Err (SegmentError.Missing n)
             → Known (S.now segments.new) (HasGap n) }
         ensures followed { self.new ≡ true → Known (S.now segments.new) IsFollowed }
         ensures sure { S.is_sure segments.old ≡ true → (S.is_sure segments.new ≡ true)
-            × ((f : ReadFault) → result ≡ Err (Broken.Unreadable f) → ⊥) }
+            × ((f : ReadFault) → result ≡ Err (SegmentError.Unreadable f) → ⊥) }
         ensures room { length buf.new ≡ length buf.old }
     {
         if self.is_waiting && watch.is_flush_due() {
             self.is_waiting = false;
             return Ok(Turn::Flush);
         }
-        let wish = watch.wish();
-        if wish == Wish::Hard {
-            return Ok(Turn::Stopped(Stop::Hard));
+        let request = watch.stop_request();
+        if request == StopRequest::Abort {
+            return Ok(Turn::Aborted);
         }
         let count = segments.read(buf)?;
         if count > 0 {
@@ -145,12 +139,12 @@ impl Follower {
                 self.is_followed = true;
                 Ok(Turn::Nothing)
             }
-            Ahead::Missing(number) => Err(Broken::Missing(number)),
+            Ahead::Missing(number) => Err(SegmentError::Missing(number)),
             Ahead::Nothing => {
-                if wish == Wish::End {
-                    return Ok(Turn::Stopped(Stop::Orderly));
+                if request == StopRequest::Finish {
+                    return Ok(Turn::Finished);
                 }
-                watch.nap();
+                watch.sleep();
                 Ok(Turn::Nothing)
             }
         }

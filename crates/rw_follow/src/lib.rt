@@ -1,14 +1,19 @@
-//! Follows a log that grows: its segments are given in order, while a writer goes on writing.
+//! Follows a log that grows: its segments are read in order, while a writer goes on writing. Has
+//! the stop signal of the services, and what sets it.
 #![tactic(auto)]
 
 mod follower;
 mod memory;
 mod segments;
+mod signal;
+mod stop_sources;
 mod timed;
 mod watch;
 
-pub use follower::{Broken, Follower, Stop, Turn};
+pub use follower::{Follower, SegmentError, Turn};
 pub use memory::{Event, Listed};
 pub use segments::{Ahead, Segments};
+pub use signal::{StopRequest, StopSignal};
+pub use stop_sources::{watch_file, watch_input};
 pub use timed::Timed;
-pub use watch::{Sign, Watch, Wish};
+pub use watch::Watch;

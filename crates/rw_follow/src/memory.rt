@@ -1,4 +1,4 @@
-//! A log in memory that grows by a list.
+//! A log in memory that grows by a list of events.
 
 ghost use Rattle.std.specs.Prelude.{◌≡◌, ◌<◌, ◌++◌, ◌∷◌, [], length, None, OnOk, OnErr};
 ghost use Rattle.std.specs.Io.{ReadsAtMost};
@@ -16,13 +16,13 @@ use std::mem;
 pub enum Event {
     /// Nothing.
     Quiet,
-    /// The current segment grows, where it is the last one.
+    /// The current segment grows, if it is the last one.
     More(Vec<u8>),
-    /// A segment comes, with its bytes.
+    /// A new segment comes, with its bytes.
     Next(Vec<u8>),
-    /// The current segment grows, where it is the last one, and then a segment comes.
+    /// The current segment grows, if it is the last one, and then a segment comes.
     Turn(Vec<u8>, Vec<u8>),
-    /// The segment of this number is missing behind the last one.
+    /// The segment of this number is missing after the last one.
     Gap(u64),
 }
 
@@ -54,7 +54,7 @@ impl Model for Listed {
 }
 
 impl Listed {
-    /// A log of one segment that is empty.
+    /// Returns a log of one segment that is empty.
     pub fn new(alloc: Global, events: VecDeque<Event>) -> Listed
         ensures { result ≡ record { done = []; given = []; rest = []; after = []; gap = None } }
     {
@@ -69,7 +69,7 @@ impl Listed {
         }
     }
 
-    /// Lets the current segment grow, where it is the last one.
+    /// Lets the current segment grow, if it is the last one.
     fn grow(&mut self, bytes: &[u8]) -> Result<(), ReadFault>
         ensures { Later self.old [] self.new }
     {
@@ -82,7 +82,7 @@ impl Listed {
         Ok(())
     }
 
-    /// Lets a segment come.
+    /// Adds a segment.
     fn begin(&mut self, bytes: Vec<u8>) -> Result<(), ReadFault>
         ensures { Later self.old [] self.new }
     {
@@ -92,7 +92,7 @@ impl Listed {
         Ok(())
     }
 
-    /// Lets one event happen. Where memory runs out some of it does not.
+    /// Lets one event happen. If memory runs out, some of it does not.
     fn play(&mut self) -> Result<(), ReadFault>
         ensures { Later self.old [] self.new }
     {
@@ -112,7 +112,7 @@ impl Listed {
         }
     }
 
-    /// Goes to the next segment, where nothing is left of the current one.
+    /// Goes to the next segment, if nothing is left of the current one.
     fn step(&mut self) -> Result<(), ReadFault>
         requires read { self.old.rest ≡ [] }
         requires followed { 0 < length self.old.after }
@@ -129,7 +129,7 @@ impl Listed {
         Ok(())
     }
 
-    /// Gives the front of what is left.
+    /// Copies the front of what is left into the buffer.
     fn give(&mut self, buf: &mut [u8]) -> Result<usize, ReadFault>
         ensures bound { ReadsAtMost result buf.new }
         ensures gives { Gives self.old self.new result buf.new }

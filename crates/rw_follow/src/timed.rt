@@ -1,29 +1,33 @@
 //! A watch by the clock.
 
-use crate::watch::{Sign, Watch, Wish};
+use crate::signal::{StopRequest, StopSignal};
+use crate::watch::Watch;
+use std::alloc::Global;
+use std::sync::Arc;
 use std::thread;
 use std::time::{Clock, Duration, Instant};
 
-/// Says what a sign says, and lets time pass by a clock.
+/// Polls a stop signal, and lets time pass by a clock.
 #[derive(Drop)]
-pub struct Timed<K, G> {
+pub struct Timed<K> {
     clock: K,
-    sign: G,
-    /// Between two looks.
+    signal: Arc<StopSignal, Global>,
+    /// The time between two looks.
     poll: Duration,
     /// How long something may wait to be flushed.
     patience: Duration,
-    /// Since when something waits.
+    /// Since when something has been waiting.
     waits_since: Option<Instant>,
-    /// Between two times that the number of shards is asked for.
+    /// The time between two adjustments of the number of shards.
     reshard: Duration,
-    /// When it was asked for.
+    /// When it was adjusted last.
     asked_at: Option<Instant>,
-    said: Wish,
+    said: StopRequest,
     is_due: bool,
 }
 
-/// Whether so much time has passed since a moment, which is forgotten then. Where there is no moment, it is now. None where the clock cannot be read.
+/// Returns whether `time` has passed since `since`, and clears `since` then. If `since` is `None`,
+/// it is set to now. Returns `None` if the clock cannot be read.
 fn has_passed<K: Clock>(clock: &K, since: &mut Option<Instant>, time: Duration) -> Option<bool> {
     let Ok(now) = Instant::now(clock) else {
         return None;
@@ -41,54 +45,55 @@ fn has_passed<K: Clock>(clock: &K, since: &mut Option<Instant>, time: Duration) 
     }
 }
 
-impl<K: Clock, G: Sign> Timed<K, G> {
-    /// Looks as often as `poll` says, has what waits flushed after `patience`, and the number of shards asked for as often as `reshard` says.
+impl<K: Clock> Timed<K> {
+    /// Returns a watch that sleeps for `poll` between two looks, flushes what has waited for
+    /// `patience`, and has the number of shards adjusted every `reshard`.
     pub fn new(
         clock: K,
-        sign: G,
+        signal: Arc<StopSignal, Global>,
         poll: Duration,
         patience: Duration,
         reshard: Duration,
-    ) -> Timed<K, G> {
+    ) -> Timed<K> {
         Timed {
             clock,
-            sign,
+            signal,
             poll,
             patience,
             waits_since: None,
             reshard,
             asked_at: None,
-            said: Wish::Work,
+            said: StopRequest::Continue,
             is_due: false,
         }
     }
 }
 
-impl<K: Clock, G: Sign> Watch for Timed<K, G> {
+impl<K: Clock> Watch for Timed<K> {
     ghost said = { λ w. w.said };
 
     ghost due = { λ w. w.is_due };
 
-    ghost tells = { λ _. ⊥ };
+    ghost counts = { λ _. ⊥ };
 
-    ghost naps = { λ _. 0 };
+    ghost sleeps = { λ _. 0 };
 
-    fn wish(&mut self) -> Wish {
-        self.said = self.sign.wish();
+    fn stop_request(&mut self) -> StopRequest {
+        self.said = self.signal.request();
         self.said
     }
 
-    fn nap(&mut self) {
+    fn sleep(&mut self) {
         thread::sleep(&self.clock, self.poll);
     }
 
-    /// What cannot be timed is flushed.
+    /// Returns true also if the clock cannot be read.
     fn is_flush_due(&mut self) -> bool {
         self.is_due = has_passed(&self.clock, &mut self.waits_since, self.patience).unwrap_or(true);
         self.is_due
     }
 
-    /// What cannot be timed is not asked for.
+    /// Returns false also if the clock cannot be read.
     fn is_reshard_due(&mut self) -> bool {
         has_passed(&self.clock, &mut self.asked_at, self.reshard).unwrap_or(false)
     }

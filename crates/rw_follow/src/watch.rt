@@ -1,56 +1,47 @@
-//! What tells a follower to stop, and lets time pass.
+//! The environment of a follower: the stop signal, and how time passes.
 
 ghost use Rattle.std.specs.Prelude.{◌≡◌};
 
-/// What is wished of a follower.
-#[derive(Clone, Copy, Debug, PartialEq, Eq)]
-pub enum Wish {
-    /// To go on.
-    Work,
-    /// To read what stands, and end.
-    End,
-    /// To end at once.
-    Hard,
-}
+use crate::signal::StopRequest;
 
-/// A sign that others set.
-pub trait Sign {
-    /// What is wished now.
-    fn wish(&mut self) -> Wish;
-}
-
-/// What is asked between two looks at a log, by a follower and by what is fed with what it gives.
+/// The environment of a follower, and of the caller that feeds what it returns, between two looks
+/// at a log.
 pub trait Watch {
     ghost use Rattle.std.specs.Prelude.{Bool, ℕ, suc};
-    ghost use Rattle.rw_follow.specs.declared.watch.Wish.{Wish};
+    ghost use Rattle.rw_follow.specs.declared.signal.StopRequest.{StopRequest};
 
-    /// What it said last.
-    ghost said: { Self → Wish };
+    /// The last stop request that it returned.
+    ghost said: { Self → StopRequest };
 
-    /// What it said last of a flush.
+    /// Whether it last said that a flush is due.
     ghost due: { Self → Bool };
 
-    /// It has told of each nap so far. A watch need not tell of any.
-    ghost tells: { Self → Type 0 };
+    /// Whether it has counted each sleep so far. A watch need not count any.
+    ghost counts: { Self → Type 0 };
 
-    /// How many naps there were so far.
-    ghost naps: { Self → ℕ };
+    /// How many sleeps there were so far.
+    ghost sleeps: { Self → ℕ };
 
-    /// What is wished now.
-    fn wish(&mut self) -> Wish
+    /// Returns what is asked for now.
+    fn stop_request(&mut self) -> StopRequest
         ensures said { said self.new ≡ result }
-        ensures awake { tells self.new → tells self.old × (naps self.new ≡ naps self.old) };
+        ensures awake { counts self.new
+            → counts self.old × (sleeps self.new ≡ sleeps self.old) };
 
-    /// Waits a little.
-    fn nap(&mut self)
-        ensures { tells self.new → tells self.old × (naps self.new ≡ suc (naps self.old)) };
+    /// Sleeps for a short time.
+    fn sleep(&mut self)
+        ensures { counts self.new
+            → counts self.old × (sleeps self.new ≡ suc (sleeps self.old)) };
 
-    /// Whether what was fed since the last flush has waited long enough. It is asked while something waits.
+    /// Returns whether what was fed since the last flush has waited long enough. It is called while
+    /// something waits.
     fn is_flush_due(&mut self) -> bool
         ensures due { due self.new ≡ result }
-        ensures awake { tells self.new → tells self.old × (naps self.new ≡ naps self.old) };
+        ensures awake { counts self.new
+            → counts self.old × (sleeps self.new ≡ sleeps self.old) };
 
-    /// Whether the number of shards is to be asked for again. It is asked at each turn.
+    /// Returns whether the number of shards is to be adjusted again. It is called at each turn.
     fn is_reshard_due(&mut self) -> bool
-        ensures awake { tells self.new → tells self.old × (naps self.new ≡ naps self.old) };
+        ensures awake { counts self.new
+            → counts self.old × (sleeps self.new ≡ sleeps self.old) };
 }

@@ -135,7 +135,7 @@ Rises-block [] n h lt = absurd (omega arith)
 Rises-block (b ∷ bs) zero h lt = Rises-left IsEarlier b (joined bs) h
 Rises-block (b ∷ bs) (suc n) h lt = Rises-block bs n (Rises-right IsEarlier b (joined bs) h) (omega arith)
 
--- ---- where a sample stands
+-- ---- where a sample is
 or_assoc : (a b c : Bool) → (a || (b || c)) ≡ ((a || b) || c)
 or_assoc true b c = refl
 or_assoc false b c = refl
@@ -160,7 +160,7 @@ seam_apart a b t false lt above e = refl
 all_seam : (P : Point → Type 0) (xs : List Point) (y : Point) (ys : List Point) → AllByRecursion P (xs ++ y ∷ ys) → P y
 all_seam P xs y ys h = let at = AllByRecursion-right P xs (y ∷ ys) h in at.0
 
--- what stands before samples that begin at a timestamp or before it does not hold it
+-- what is before samples that begin at a timestamp or before it does not hold it
 pub holds_before : (s : Point) (xs ys : List Point) → Rises IsEarlier (xs ++ ys) → begins_after s.0 ys ≡ false → holds s xs ≡ false
 holds_before s [] ys h e = refl
 holds_before s (x ∷ xs) [] h e = absurd cc

@@ -1,4 +1,4 @@
--- Keys stand in byte order just as their label sets do.
+-- Keys are in byte order just as their label sets do.
 use Rattle.std.proofs.Common.{◌≡◌, ℕ, zero, suc, ◌<◌, ◌≤◌, List, [], ◌∷◌, ◌++◌, length, get_or, IsUtf8, inl, inr, ◌⊎◌, refl, sym, ap, ap₂, subst, ◌∙◌, append_assoc, arith, true}
 use Rattle.std.proofs.lemmas.Bool.{and_parts, cases_lt, lt-ltb, le-ltb}
 use Rattle.std.proofs.Math.Utf8.{scalar, scalars, scalar_cases, encode, encodes}
@@ -35,7 +35,7 @@ less c o = ap (λ r. ordering_then r o) (sym (nat_cmp_is 0 (suc c) Less (omega a
 greater : (b : ℕ) (o : Ordering) → ordering_then (nat_cmp (suc b) 0) o ≡ Greater
 greater b o = ap (λ r. ordering_then r o) (sym (nat_cmp_is (suc b) 0 Greater (omega arith)))
 
--- first the texts decide, and then what stands behind their keys
+-- first the texts decide, and then what follows their keys
 texts_first : (s t x y : List ℕ) → order (text_key s ++ x) (text_key t ++ y) ≡ ordering_then (order s t) (order x y)
 texts_first [] [] x y = refl
 texts_first [] (c ∷ t) x y = less c (order x (text_key t ++ y))

@@ -1,4 +1,4 @@
--- Where label sets stand.
+-- The places of label sets.
 use Rattle.std.proofs.Common.{◌≡◌, ℕ, ◌<◌, ◌≤◌, suc, List, [], ◌∷◌, ◌++◌, length, get_or, Option, Some, None, Bool, true, false, cond, ◌⊎◌, inl, inr, subst, refl, sym, ◌∙◌, ap, arith}
 use Rattle.std.specs.BTreeMap.{BTreeMap, get, Updates}
 use Rattle.std.specs.Map.{lookup}

@@ -12,7 +12,7 @@ use Rattle.rw_head.proofs.StoreLemmas.{no_points}
 use Rattle.rw_head.proofs.NameLemmas.{get_or_any}
 
 -- ---- lists that differ from what is kept
--- what does not stand in a list to which n was added is not n, and does not stand in the list
+-- what is not in a list to which n was added is not n, and is not in the list
 not_touched : (touched : List ℕ) (m n : ℕ) (b : Bool) → nat_eq m n ≡ b → list_any (nat_eq m) (touched ++ n ∷ []) ≡ false → (b ≡ false) × (list_any (nat_eq m) touched ≡ false)
 not_touched touched m n b k e = parts (list_any (nat_eq m) touched) b (ap (λ c. list_any (nat_eq m) touched || (c || false)) (sym k) ∙ sym (list_any-append (nat_eq m) touched (n ∷ [])) ∙ e)
   where

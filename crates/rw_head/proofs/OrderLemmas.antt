@@ -36,7 +36,7 @@ earlier_each t w (x ∷ xs) h e = (later_than_first t x xs h e, earlier_each t w
 pub Rises-later : (xs : List Point) (t : ℤ) (w : ℕ) → Rises IsEarlier xs → is_later t xs ≡ true → Rises IsEarlier (xs ++ (t, w) ∷ [])
 Rises-later xs t w h e = Rises-push IsEarlier xs (t, w) h (earlier_each t w xs h e)
 
--- a sample at a place behind the first is later than the first
+-- a sample at a place after the first is later than the first
 pub above_at : (a : ℤ) (xs : List Point) (i : ℕ) (d : Point) → AllByRecursion (λ y. int_lt a y.0 ≡ true) xs → i < length xs → int_lt a (get_or xs i d).0 ≡ true
 above_at a xs i d all h = AllByRecursion-at (λ (y : Point). int_lt a y.0 ≡ true) xs i d all h
 
@@ -54,7 +54,7 @@ holds_nowhere s [] none = refl
 holds_nowhere s (x ∷ xs) none =
     ap (λ b. (b && eqb x.1 s.1) || holds s xs) (none 0 x (omega arith)) ∙ holds_nowhere s xs (λ i d h. none (suc i) d (omega arith))
 
--- where one has it, its word decides
+-- if one has it, its word decides
 pub holds_at : (s : Point) (xs : List Point) (i : ℕ) (d : Point) → Rises IsEarlier xs → i < length xs → int_eq (get_or xs i d).0 s.0 ≡ true → holds s xs ≡ eqb (get_or xs i d).1 s.1
 holds_at s [] i d h within e = absurd (omega arith)
 holds_at s (x ∷ xs) zero d h within e =

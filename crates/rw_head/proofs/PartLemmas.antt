@@ -77,7 +77,7 @@ pub labels_taken : (limits : LabelLimits) (first store : Store) (bytes : List �
     → taken limits first (record { labels = names; samples = [] }) ≡ Ok store → HasParts limits first store bytes bytes names
 labels_taken limits first store bytes names samples is e = record { whole = record { labels = names; samples = samples }; is = is; named = refl; labels = []; samples = []; reads = is; takes = e }
 
--- the next samples, with what is left behind them
+-- the next samples, with what is left after them
 abbrev Next : List ℕ → List ℕ → List Sample → Type 0
 Next rest after part = (before whole : TimeSeries) → series_on before rest ≡ Ok whole → (labels : Labels) × (series_on (record { labels = labels; samples = before.samples ++ part }) after ≡ Ok whole)
 

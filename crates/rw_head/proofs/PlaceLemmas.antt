@@ -55,7 +55,7 @@ pub no_empty_list : (f : Lists → List Point) (places : List (Labels × ℕ)) (
 no_empty_list f [] lists = HasNoEmptyList-empty
 no_empty_list f (e ∷ es) lists = HasNoEmptyList-with_list e.0 (f (get_or lists e.1 no_lists)) (store_by f es lists) (no_empty_list f es lists)
 
--- two stores of lists are the same where each label set has the same list
+-- two stores of lists are the same if each label set has the same list
 pub same_lists : (f g : Lists → List Point) (xs ys : List (Labels × ℕ)) (ls ms : List Lists)
     → ((q : Labels) → at f ls (lookup (is_at (labels_cmp q)) xs) ≡ at g ms (lookup (is_at (labels_cmp q)) ys)) → store_by f xs ls ≡ store_by g ys ms
 same_lists f g xs ys ls ms same =
@@ -145,7 +145,7 @@ staged-added lists index new l x h u =
     ∙ added_at f x lists index q (get labels_cmp index q) (labels_eq l q) (labels_eq q l) h ((eq_by_cmp_equiv labels_cmp-total).symm l q) refl
     ∙ ap (cond (labels_eq q l) x.staged) (sym (list_of-store f index.entries lists q)) ∙ sym (list_of-with_list l x.staged s q))
 
--- where no label set that has samples is refused, none is that has a place
+-- if no label set that has samples is refused, none is that has a place
 pub none_refused : (limits : LabelLimits) (index : Index) (lists : List Lists) → HasPlaces index lists → AllFilled lists
     → HoldsNoneRefused limits (staged_store index.entries lists) → HasNoneRefused limits index
 none_refused limits index lists places filled h l n e = h l (ap has_samples (staged_at index lists l n e) ∙ filled n (places.within l n e))
@@ -261,7 +261,7 @@ IsSound-added index new lists news touched noted fresh named count staged staged
     let P : List Lists → List ℕ → List Labels → Type 0 = λ ls ts ms. IsSound new ls ts ms count staged_new in
     subst (λ ls. P ls noted named) (sym add.behind) (subst (λ ts. P (lists ++ x ∷ []) ts named) (sym add.note) (subst (P (lists ++ x ∷ []) (touched ++ length lists ∷ [])) (sym add.name) made))
 
--- the same where nothing changed
+-- the same if nothing changed
 HasPlaces-same : (index new : Index) (lists : List Lists) → new.entries ≡ index.entries → HasPlaces index lists → HasPlaces new lists
 HasPlaces-same index new lists e h =
     let same : (q : Labels) → get labels_cmp new q ≡ get labels_cmp index q = λ q. ap (lookup (is_at (labels_cmp q))) e in
@@ -327,7 +327,7 @@ unfolding staged_store
 staged_here index lists l n x h e here =
     ap (λ y. y.staged) (here ∙ get_or_any lists n x no_lists (h.within l n (sym e))) ∙ sym (list_at_place (λ l. l.staged) index lists l n (sym e))
 
--- where nothing is staged, no list has staged samples
+-- if nothing is staged, no list has staged samples
 pub settled_here : (index : Index) (lists : List Lists) (l : Labels) (n : ℕ) (x : Lists) → HasPlaces index lists → Some n ≡ get labels_cmp index l → x ≡ get_or lists n x
     → staged_store index.entries lists ≡ kept_store index.entries lists → x.staged ≡ x.kept
 settled_here index lists l n x h e here same =

@@ -87,7 +87,7 @@ itself : (f : Labels → List Point) (l q : Labels) (b : Bool) → labels_eq q l
 itself f l q true e = ap f (sym (same_if_equal q l e))
 itself f l q false e = refl
 
--- to put the list that stands there changes nothing
+-- to put the list that is there changes nothing
 pub with_list-same : (l : Labels) (s : Store) → HasNoEmptyList s → with_list l (list_of s l) s ≡ s
 with_list-same l s h =
     same_store (with_list l (list_of s l) s) s (HasNoEmptyList-with_list l (list_of s l) s h) h

@@ -1,4 +1,5 @@
--- The samples of a series in blocks of 120: full ones, one after the other, and an open one behind them.
+-- The samples of a series in blocks of 120: full ones, one after the other, and an open one after
+-- them.
 use Rattle.std.specs.Prelude.{◌≡◌, ℕ, zero, suc, ℤ, pos, ◌/◌, ◌*◌, ◌^◌, ◌<◌, ◌≤◌, int_lt, Bool, true, false, List, [], ◌∷◌, ◌++◌, length, take, drop, slice_index_or}
 use Rattle.std.specs.List.{AllByRecursion}
 use Rattle.rw_types.specs.Beginnings.{Begins}
@@ -20,11 +21,12 @@ first_blocks (suc n) xs = take 120 xs ∷ first_blocks n (drop 120 xs)
 unfoldable pub sealed_of : List Point → List (List Point)
 sealed_of xs = first_blocks (length xs / 120) xs
 
--- the samples behind them
+-- the samples after them
 unfoldable pub open_of : List Point → List Point
 open_of xs = drop (length xs / 120 * 120) xs
 
--- The full blocks of each label set stay as they are, in their places: those that it had are a beginning of those that it has.
+-- The full blocks of each label set do not change or move: those that it had are a prefix of those
+-- that it has.
 abbrev pub KeepsBlocks : Store → Store → Type 0
 KeepsBlocks old new = (l : Labels) → Begins (sealed_of (list_of old l)) (sealed_of (list_of new l))
 

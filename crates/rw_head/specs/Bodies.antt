@@ -14,7 +14,7 @@ use Rattle.rw_head.specs.Head.{status_of}
 use Rattle.rw_head.specs.Store.{Store}
 use Rattle.rw_head.specs.Verdicts.{LabelLimits, taken, taken_all}
 
--- what is no message is bad, where memory is there
+-- bytes that are not a message are bad, if memory suffices
 abbrev pub verdict_of : WireFault → Verdict
 verdict_of OutOfMemory = NoMemory
 verdict_of Truncated = BadBody
@@ -36,7 +36,7 @@ pub record IsKnown (index : BTreeMap Labels ℕ) (series : List ℕ) (place : �
   pub is : IsHeadOf head labels
   pub parts : series ≡ head ++ rest
 
--- a series has no more labels than these limits allow, if it is one
+-- the series has at most as many labels as these limits allow, if it is a valid one
 abbrev pub HasFewLabels : LabelLimits → Result TimeSeries WireFault → Type 0
 HasFewLabels limits series = IfOk series (λ s. length s.labels ≤ limits.max_labels)
 
@@ -49,12 +49,12 @@ abbrev pub Refuses : LabelLimits → Store → Result TimeSeries WireFault → T
 Refuses limits store (Ok s) = (v : Verdict) × (taken limits store s ≡ Err v) × (status_of v ≡ 400)
 Refuses limits store (Err e) = Unit {0}
 
--- What a function that stages a series from its bytes returned says of it, unless memory ran out.
+-- What a function that stages a series from its bytes says about it, unless memory ran out.
 abbrev pub SeriesGives : Result (Unit {0}) Verdict → LabelLimits → Store → Result TimeSeries WireFault → Store → Type 0
 SeriesGives (Ok u) limits store series next = Takes limits store series next
 SeriesGives (Err v) limits store series next = v ≢ NoMemory → (status_of v ≡ 400) × Refuses limits store series
 
--- the same of one that stages it only where its labels are known
+-- the same of one that stages it only if its labels are known
 abbrev pub KnownGives : Result Bool Verdict → LabelLimits → Store → Result TimeSeries WireFault → Store → Type 0
 KnownGives (Ok true) limits store series next = Takes limits store series next
 KnownGives (Ok false) limits store series next = next ≡ store

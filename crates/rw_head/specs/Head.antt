@@ -8,7 +8,8 @@ use Rattle.rw_head.specs.declared.verdict.Verdict.TheVariants.{Stored, BadBody, 
 use Rattle.rw_head.specs.Store.{Store}
 use Rattle.rw_head.specs.Verdicts.{LabelLimits, Judged, apply}
 
--- what a head holds, which label sets it takes, and how many requests it still answers without a look at them
+-- what a head holds, which label sets it takes, and how many requests it still answers without a
+-- look at them
 pub record State : Type 0 where
   pub store : Store
   pub limits : LabelLimits
@@ -35,18 +36,19 @@ pub record Answer : Type 0 where
 abbrev pub answered : State → Judged → Answer
 answered h j = record { status = status_of j.verdict; head = record h { store = j.store } }
 
--- the verdict on a body, with the store after it: a body that is no message is bad
+-- the verdict on a body, with the store after it: a body that is not a message is bad
 abbrev pub judged_body : State → Result WriteRequest WireFault → Judged
 judged_body h (Ok m) = apply h.limits h.store m
 judged_body h (Err e) = record { verdict = BadBody; store = h.store }
 
--- the answer to what was read of a body: while the head is busy, 429 Too Many Requests, whatever it is
+-- the answer to what was read of a body: while the head is busy, 429 Too Many Requests, whatever it
+-- is
 abbrev pub answer_to : State → Result WriteRequest WireFault → Answer
 answer_to h found =
     if nat_lt 0 h.busy then record { status = 429; head = record h { busy = h.busy - 1 } }
     else answered h (judged_body h found)
 
--- the answer to a body, where memory is there
+-- the answer to a body, if memory suffices
 abbrev pub answer : State → List ℕ → Answer
 answer h body = answer_to h (read body)
 

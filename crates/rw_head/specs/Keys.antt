@@ -1,9 +1,9 @@
--- The keys by which label sets are found: bytes that stand in byte order just as the label sets do.
+-- The keys by which label sets are found: bytes in the same byte order as the label sets.
 use Rattle.std.specs.Prelude.{ℕ, suc, List, [], ◌∷◌, ◌++◌, map}
 use Rattle.std.specs.List.{flat_map}
 use Rattle.rw_types.specs.Labels.{Label, Labels}
 
--- a text with each byte raised by one, and behind it a 0, which is below them all
+-- a text with each byte raised by one, and after it a 0, which is below them all
 abbrev pub text_key : List ℕ → List ℕ
 text_key text = map (λ b. suc b) text ++ 0 ∷ []
 

@@ -1,4 +1,4 @@
--- The lists of a head while it judges a message: how each stood before, and how it would stand.
+-- The lists of a head while it judges a message: how each was before, and how it would be.
 use Rattle.std.specs.Prelude.{◌≡◌, ◌≢◌, ℕ, ◌+◌, ◌-◌, ◌^◌, ◌<◌, ◌≤◌, int_lt, Bool, true, false, if◌then◌else◌, nat_eq, List, [], ◌∷◌, ◌++◌, length, map, drop, slice_index, slice_index_or, slice_set, AllPairs, Option, Some, None, Result, Ok, Err}
 use Rattle.std.specs.BTreeMap.{BTreeMap, get, Updates}
 use Rattle.std.specs.FinMap.{empty}
@@ -39,7 +39,7 @@ kept_store places lists = store_of_lists (listed (λ l. l.kept) lists places)
 unfoldable pub staged_store : List (Labels × ℕ) → List Lists → Store
 staged_store places lists = store_of_lists (listed (λ l. l.staged) lists places)
 
--- each label set has a place of its own
+-- each label set has its own place
 pub record HasPlaces (index : BTreeMap Labels ℕ) (lists : List Lists) : Type 0 where
   pub within : (l : Labels) (n : ℕ) → get labels_cmp index l ≡ Some n → n < length lists
   pub apart : (l m : Labels) (n : ℕ) → get labels_cmp index l ≡ Some n → get labels_cmp index m ≡ Some n → l ≡ m
@@ -87,7 +87,8 @@ abbrev pub has_samples : List Point → Bool
 has_samples [] = false
 has_samples (x ∷ xs) = true
 
--- Of the label sets in the index, the fresh ones have the last lists, and nothing of these is kept. Of each other list something is.
+-- The last lists are those of the fresh label sets in the index, and nothing of these is kept. Of
+-- each other list something is kept.
 pub record IsFresh (index : BTreeMap Labels ℕ) (lists : List Lists) (fresh : List Labels) : Type 0 where
   pub few : length fresh ≤ length lists
   pub named : (l : Labels) (n : ℕ) → get labels_cmp index l ≡ Some n → length lists ≤ n + length fresh → list_any (labels_eq l) fresh ≡ true
@@ -114,7 +115,7 @@ pub record Stores : Type 0 where
   pub added : List Added
   pub noted : ℕ
 
--- What a function that stages samples returned says what the order rule gives, unless memory ran out.
+-- What a function that stages samples says is what the order rule gives, unless memory ran out.
 abbrev pub ListGives : Result (Unit {0}) Verdict → Option (List Point) → List Point → Type 0
 ListGives (Ok u) given xs = given ≡ Some xs
 ListGives (Err v) given xs = v ≢ NoMemory → (v ≡ OutOfOrder) × (given ≡ None)
@@ -124,8 +125,9 @@ abbrev pub StoreGives : Result (Unit {0}) Verdict → Result Store Verdict → S
 StoreGives (Ok u) given store = given ≡ Ok store
 StoreGives (Err v) given store = v ≢ NoMemory → given ≡ Err v
 
--- Lists at their places, of which those at touched places differ from what is kept, and the last are of fresh label sets. Counted are the samples that are kept, and those
--- that are staged behind them.
+-- Lists at their places, of which those at touched places differ from what is kept, and the last
+-- are of fresh label sets. The samples that are kept are counted, and those that are staged after
+-- them.
 pub record IsSound (index : BTreeMap Labels ℕ) (lists : List Lists) (touched : List ℕ) (fresh : List Labels) (count staged_count : ℕ) : Type 0 where
   pub places : HasPlaces index lists
   pub settled : Settled touched lists

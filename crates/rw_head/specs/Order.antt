@@ -1,5 +1,5 @@
--- The order rule of a receiver of samples (Remote-Write 1.0, "Ordering"): a series takes a later sample, a repeat changes nothing, and
--- anything else is refused.
+-- The order rule of a receiver of samples (Remote-Write 1.0, "Ordering"): a series takes a later
+-- sample, a repeat changes nothing, and anything else is refused.
 use Rattle.std.specs.Prelude.{ℕ, ℤ, int_lt, Bool, true, false, ◌&&◌, ◌||◌, if◌then◌else◌, List, [], ◌∷◌, ◌++◌, map, Option, Some, None, ◌==◌}
 use Rattle.std.specs.Ordering.{int_eq}
 use Rattle.rw_write_request.specs.Message.{Sample}
@@ -20,7 +20,7 @@ is_later t [] = true
 is_later t (x ∷ []) = int_lt x.0 t
 is_later t (x ∷ y ∷ ys) = is_later t (y ∷ ys)
 
--- the same timestamp and word stand there
+-- the list has the same timestamp and word
 abbrev pub holds : Point → List Point → Bool
 holds s [] = false
 holds s (x ∷ xs) = (int_eq x.0 s.0 && (x.1 == s.1)) || holds s xs

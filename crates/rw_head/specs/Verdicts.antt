@@ -1,4 +1,5 @@
--- The verdict on a message: it is taken whole, or refused for the first reason that is met (Remote-Write 1.0).
+-- The verdict on a message: it is taken whole, or refused for the first reason that is met
+-- (Remote-Write 1.0).
 use Rattle.std.specs.Prelude.{ℕ, ◌-◌, Bool, ◌||◌, if◌then◌else◌, nat_lt, is_some, List, [], ◌∷◌, length, Option, Some, None, Result, Ok, Err}
 use Rattle.rw_types.specs.Labels.{Labels, label_fault, text_len}
 use Rattle.rw_types.specs.declared.names.Names.{Names}
@@ -55,6 +56,6 @@ abbrev pub judged : Store → Result Store Verdict → Judged
 judged store (Ok next) = record { verdict = Stored (total next - total store); store = next }
 judged store (Err v) = record { verdict = v; store = store }
 
--- the verdict on a message, where memory is there
+-- the verdict on a message, if memory suffices
 abbrev pub apply : LabelLimits → Store → WriteRequest → Judged
 apply limits store m = judged store (taken_all limits (Ok store) m)

@@ -80,7 +80,7 @@ impl<'a> Model for AllAdded<'a> {
 }
 
 impl<'a> AllAdded<'a> {
-    /// What is staged in the lists at these places.
+    /// Returns the label sets of these places, with what is staged in their lists.
     pub(crate) fn new(
         touched: &'a [usize],
         names: &'a [Place],

@@ -7,7 +7,8 @@ use rw_types::Word;
 use std::alloc::{AllocError, Global};
 use std::marker::Model;
 
-/// A full block: 120 samples of one series, one after the other, which never change. Contracts see their list.
+/// A full block: 120 samples of one series, one after the other, which never change. Contracts see
+/// their list.
 #[derive(Debug, Drop)]
 pub struct Block {
     samples: [(i64, Word); 120],
@@ -25,7 +26,7 @@ impl Model for Block {
 }
 
 impl Block {
-    /// A block of these samples, in a box.
+    /// Returns a block of these samples, in a box.
     pub(crate) fn boxed(alloc: Global, samples: &[(i64, Word)]) -> Result<Box<Block>, AllocError>
         requires { length samples.now ≡ 120 }
         ensures { IfOk result (λ b. b.value ≡ samples.now) }
@@ -36,7 +37,8 @@ impl Block {
         }
     }
 
-    /// The samples in order, as (timestamp in milliseconds since the Unix epoch, value). This takes no memory.
+    /// Returns the samples in order, as (timestamp in milliseconds since the Unix epoch, value).
+    /// This takes no memory.
     pub fn samples(&self) -> &[(i64, Word); 120]
         ensures samples { result.now ≡ self.now }
         ensures full { length self.now ≡ 120 }
@@ -44,7 +46,7 @@ impl Block {
         &self.samples
     }
 
-    /// The timestamp of the first sample.
+    /// Returns the timestamp of the first sample.
     pub(crate) fn first(&self) -> i64
         ensures { result ≡ first_time self.now }
     {

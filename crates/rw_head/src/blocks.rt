@@ -14,7 +14,8 @@ use std::marker::Model;
 /// How many samples a block has.
 const BLOCK_LEN: usize = 120;
 
-/// Samples one after the other: full blocks, and an open one behind them, which grows as it fills. Contracts see the list of all.
+/// Samples one after the other: full blocks, and an open one after them, which grows as it fills.
+/// Contracts see the list of all.
 #[derive(Debug, Drop)]
 pub(crate) struct Blocks {
     sealed: Vec<Box<Block>>,
@@ -34,7 +35,7 @@ impl Model for Blocks {
         (vec_capacity s.rest) };
 }
 
-/// Whether `t` is later than the last of the samples, or there is none.
+/// Returns whether `t` is later than the last of the samples, or there is none.
 fn is_later(samples: &[(i64, Word)], t: i64) -> bool
     ensures { result ≡ is_later t samples.now }
 {
@@ -44,7 +45,7 @@ fn is_later(samples: &[(i64, Word)], t: i64) -> bool
     }
 }
 
-/// Whether the first of the samples is later than `t`, or there is none.
+/// Returns whether the first of the samples is later than `t`, or there is none.
 fn begins_after(samples: &[(i64, Word)], t: i64) -> bool
     ensures { result ≡ begins_after t samples.now }
 {
@@ -54,7 +55,7 @@ fn begins_after(samples: &[(i64, Word)], t: i64) -> bool
     }
 }
 
-/// Whether the sample stands among these.
+/// Returns whether the sample is among these.
 fn holds(samples: &[(i64, Word)], t: i64, word: Word) -> bool
     requires { Rises IsEarlier samples.now }
     ensures { result ≡ holds (t, word) samples.now }
@@ -65,7 +66,7 @@ fn holds(samples: &[(i64, Word)], t: i64, word: Word) -> bool
     }
 }
 
-/// How many of the blocks begin at `t` or before it.
+/// Returns how many of the blocks begin at `t` or before it.
 fn count_begun(sealed: &[Box<Block>], t: i64) -> usize
     requires rises { Rises IsEarlier (joined (map (λ b. b.value) sealed.now)) }
     requires full { AreFull (map (λ b. b.value) sealed.now) }
@@ -77,7 +78,7 @@ fn count_begun(sealed: &[Box<Block>], t: i64) -> usize
     }
 }
 
-/// Makes a block of the samples behind the others.
+/// Makes a block of the samples after the others.
 fn seal(sealed: &mut Vec<Box<Block>>, samples: &[(i64, Word)]) -> Result<(), AllocError>
     requires { length samples.now ≡ 120 }
     ensures ok { OnOk result (map (λ b. b.value) sealed.new.items
@@ -89,7 +90,7 @@ fn seal(sealed: &mut Vec<Box<Block>>, samples: &[(i64, Word)]) -> Result<(), All
     Ok(())
 }
 
-/// Overwrites the open block with these samples, in the room that it has.
+/// Overwrites the open block with these samples, and reuses the memory that it has.
 fn refill(rest: &mut Vec<(i64, Word)>, samples: &[(i64, Word)])
     requires { length samples.now ≤ vec_capacity rest.old }
     ensures samples { rest.new.items ≡ samples.now }
@@ -126,7 +127,7 @@ fn copy_blocks(sealed: &[Box<Block>], samples: &mut Vec<(i64, Word)>) -> Result<
 }
 
 impl Blocks {
-    /// No samples. This takes no memory.
+    /// Returns an empty list of samples. This takes no memory.
     pub(crate) fn new(alloc: Global) -> Blocks
         ensures { result ≡ [] }
     {
@@ -136,7 +137,7 @@ impl Blocks {
         }
     }
 
-    /// How many samples there are.
+    /// Returns how many samples there are.
     pub(crate) fn len(&self) -> usize
         ensures len { result ≡ length self.now }
         ensures fits { result ≤ 2 ^ 60 }
@@ -177,7 +178,7 @@ impl Blocks {
         }
     }
 
-    /// Whether a timestamp is later than the last of the samples, or there is none.
+    /// Returns whether a timestamp is later than the last of the samples, or there is none.
     pub(crate) fn is_later(&self, t: i64) -> bool
         ensures { result ≡ is_later t self.now }
     {
@@ -190,7 +191,8 @@ impl Blocks {
         }
     }
 
-    /// Whether the sample stands among these. First its block is found by where the blocks begin.
+    /// Returns whether the sample is among these. Its block is found first, by the timestamps at
+    /// which the blocks begin.
     pub(crate) fn holds(&self, t: i64, word: Word) -> bool
         requires { Rises IsEarlier self.now }
         ensures { result ≡ holds (t, word) self.now }
@@ -205,7 +207,7 @@ impl Blocks {
         holds(self.sealed[begun - 1].samples(), t, word)
     }
 
-    /// A copy of the samples.
+    /// Returns a copy of the samples.
     pub(crate) fn to_vec(&self, alloc: Global) -> Result<Vec<(i64, Word)>, AllocError>
         ensures { IfOk result (λ v. v.items ≡ self.now) }
     {
@@ -233,14 +235,14 @@ impl Blocks {
         copy_part(&self.rest, 0, samples)
     }
 
-    /// The full blocks.
+    /// Returns the full blocks.
     pub(crate) fn sealed(&self) -> &[Box<Block>]
         ensures { map (λ b. b.value) result.now ≡ sealed_of self.now }
     {
         &self.sealed
     }
 
-    /// The samples behind the full blocks.
+    /// Returns the samples after the full blocks.
     pub(crate) fn open(&self) -> &[(i64, Word)]
         ensures samples { result.now ≡ open_of self.now }
         ensures few { length result.now < 120 }

@@ -37,8 +37,8 @@ fn stage_whole(
     table.stage(labels, bounds, &series)
 }
 
-/// Reads the labels of a series, and then stages its samples, each time those of 4,096 fields: in any other room than that of the lists, no more of
-/// them stand at once.
+/// Reads the labels of a series, and then stages its samples, those of 4,096 fields at a time: no
+/// more of them are in memory at once outside of the lists.
 fn stage_in_parts(
     table: &mut Table,
     labels: &mut LabelSet,
@@ -66,7 +66,8 @@ fn stage_in_parts(
     Ok(())
 }
 
-/// Stages a series from its bytes: a long one in parts, so that it takes little more room than its samples do once they are held.
+/// Stages a series from its bytes: a long one in parts, so that it takes little more room than its
+/// samples do once they are held.
 fn stage_read(
     table: &mut Table,
     labels: &mut LabelSet,
@@ -85,8 +86,8 @@ fn stage_read(
     stage_whole(table, labels, bounds, bytes)
 }
 
-/// Stages a series. Where its labels are known, by its first bytes, it is taken as it stands there; else it is read first, unless it has more labels
-/// than the head takes.
+/// Stages a series. If its labels are known by its first bytes, they are not read again; otherwise
+/// it is read first, unless it has more labels than the head takes.
 fn stage_series(
     table: &mut Table,
     labels: &mut LabelSet,
@@ -109,7 +110,8 @@ fn stage_series(
     Ok(())
 }
 
-/// Stages the series of a body, one after the other, up to the first that is refused or is no series.
+/// Stages the series of a body, one after the other, up to the first that is refused or is not a
+/// valid series.
 fn stage_parts(
     table: &mut Table,
     labels: &mut LabelSet,
@@ -133,7 +135,8 @@ fn stage_parts(
     Ok(())
 }
 
-/// Stages the series of a body, as `stage_parts` does. Where memory was refused, the body is judged without any, and what is no message is bad.
+/// Stages the series of a body, as `stage_parts` does. If memory ran out, the body is judged
+/// without memory, and bytes that are not a message are bad.
 pub(crate) fn stage_body(
     table: &mut Table,
     labels: &mut LabelSet,

@@ -30,7 +30,7 @@ impl Model for LabelBounds {
 }
 
 impl LabelBounds {
-    /// Overwrites `labels` with the label set of these texts, where the head takes it.
+    /// Overwrites `labels` with the label set of these texts, if the head takes it.
     pub(crate) fn take(
         &self,
         labels: &mut LabelSet,

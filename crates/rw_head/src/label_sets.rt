@@ -7,7 +7,8 @@ use crate::series::AllSeries;
 use rw_types::LabelSet;
 use std::marker::Model;
 
-/// An iterator over the label sets that have samples, by byte order of their lists of (name, value). Contracts see those that are still to come.
+/// An iterator over the label sets that have samples, by byte order of their lists of (name,
+/// value). Contracts see those that are still to come.
 #[derive(Drop)]
 pub struct LabelSets<'a> {
     series: AllSeries<'a>,
@@ -22,7 +23,7 @@ impl<'a> Model for LabelSets<'a> {
 }
 
 impl<'a> LabelSets<'a> {
-    /// The label sets of these series.
+    /// Returns the label sets of these series.
     pub(crate) fn new(series: AllSeries<'a>) -> LabelSets<'a>
         ensures { result ≡ map (λ e. e.0) series.entry }
     {

@@ -7,7 +7,8 @@ ghost use Rattle.rw_types.specs.LabelOrder.{labels_eq};
 ghost use Rattle.rw_head.specs.Order.{Point};
 ghost use Rattle.rw_head.specs.Store.{Store, list_of, with_list, HasNoEmptyList};
 
-/// Law: a store is a list of samples for each label set. It changes at one label set alone, and is told apart by these lists alone.
+/// Law: a store is a list of samples for each label set. A change concerns one label set alone, and
+/// two stores with the same lists are the same.
 pub fn stores_are_lists()
     ensures none { (l : Labels) → list_of empty l ≡ [] }
     ensures one { (l : Labels) (xs : List Point) (s : Store) (q : Labels)

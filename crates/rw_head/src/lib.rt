@@ -1,4 +1,5 @@
-//! The head of a receiver of samples: messages are taken whole or not at all, and each sample once, in order.
+//! The head of a receiver of samples: messages are taken whole or not at all, and each sample once,
+//! in order.
 #![tactic(auto)]
 
 mod added;

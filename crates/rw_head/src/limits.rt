@@ -24,7 +24,8 @@ pub struct Limits {
 }
 
 impl Limits {
-    /// The default limits: path `/api/v1/write`, bodies of at most 16 MiB, legacy names, 64 labels and 16,384 bytes for a label set, and never busy.
+    /// Returns the default limits: path `/api/v1/write`, bodies of at most 16 MiB, legacy names, 64
+    /// labels and 16,384 bytes for a label set, and never busy.
     pub fn standard(alloc: Global) -> Result<Limits, AllocError>
         ensures { IfOk result (λ l. l ≡ record {
           path = codes "/api/v1/write";

@@ -43,7 +43,7 @@ fn put_text(key: &mut Vec<u8>, text: &str) -> Result<(), AllocError>
     Ok(())
 }
 
-/// The key of a label set. It has no more bytes than the fields of the labels.
+/// Returns the key of a label set. It has no more bytes than the fields of the labels.
 fn key_of(alloc: Global, labels: &LabelSet) -> Result<Vec<u8>, AllocError>
     ensures { IfOk result (λ k. k.items ≡ labels_key labels.now) }
 {
@@ -56,7 +56,7 @@ fn key_of(alloc: Global, labels: &LabelSet) -> Result<Vec<u8>, AllocError>
 }
 
 impl Name {
-    /// The name of this label set.
+    /// Returns the name of this label set.
     pub(crate) fn of(alloc: Global, labels: LabelSet) -> Result<Name, AllocError>
         ensures { IfOk result (λ n. n ≡ labels) }
     {
@@ -66,7 +66,7 @@ impl Name {
         })
     }
 
-    /// The name of a copy of the label set.
+    /// Returns the name of a copy of the label set.
     pub(crate) fn copy_of(alloc: Global, labels: &LabelSet) -> Result<Name, AllocError>
         ensures { IfOk result (λ n. n ≡ labels.now) }
     {
@@ -77,7 +77,7 @@ impl Name {
         }
     }
 
-    /// The name once more, for another owner.
+    /// Returns another share of the name, for another owner.
     pub(crate) fn share(&self) -> Result<Name, AllocError>
         ensures { IfOk result (λ n. n ≡ self.now) }
     {
@@ -86,7 +86,7 @@ impl Name {
         })
     }
 
-    /// The label set.
+    /// Returns the label set.
     pub(crate) fn labels(&self) -> &LabelSet
         ensures { result.now ≡ self.now }
     {
@@ -145,7 +145,7 @@ impl Ord for Name {
 
     ghost matches_eq = { λ _ _. refl };
 
-    // One run of bytes is sooner compared than many texts.
+    // One run of bytes is compared faster than many strings.
     #[tactic(auto, using(crate::proofs::KeyLemmas::keys_in_order))]
     fn cmp(&self, other: &Name) -> Ordering {
         self.keyed.key.cmp(&other.keyed.key)

@@ -11,10 +11,11 @@ use rw_write_request::{head_of, read_series};
 use std::alloc::Global;
 use std::marker::Model;
 
-/// The most bytes that a head has which is kept.
+/// The most bytes of a series head that is kept.
 const MOST_HEAD_BYTES: usize = 1024;
 
-/// A label set at its place, with the bytes that a series of it began with before its samples, once they were seen. Contracts see the label set.
+/// A label set at its place, with the bytes with which a series of it began, before its samples,
+/// once they were seen. Contracts see the label set.
 #[derive(Debug, Drop)]
 pub(crate) struct Place {
     name: Name,
@@ -32,7 +33,7 @@ impl Model for Place {
     ghost invariant = { λ p. HasHead p.head.items p.name × (length p.head.items ≤ 1024) };
 }
 
-/// The word of eight bytes, which are known by it.
+/// Returns the word of eight bytes, which identifies them.
 fn word_of(bytes: &[u8]) -> u64
     requires { length bytes.now ≡ 8 }
     ensures { to_le_bytes w64 result ≡ bytes.now }
@@ -43,7 +44,7 @@ fn word_of(bytes: &[u8]) -> u64
     }
 }
 
-/// Whether the bytes are the same. Eight of them are compared at a time.
+/// Returns whether the bytes are the same. Eight of them are compared at a time.
 fn is_same(one: &[u8], other: &[u8]) -> bool
     ensures { IsTrue result → one.now ≡ other.now }
 {
@@ -61,14 +62,15 @@ fn is_same(one: &[u8], other: &[u8]) -> bool
     left == right
 }
 
-/// Whether the texts are those of the labels.
+/// Returns whether the texts are those of the labels.
 fn are_texts_of(texts: &[(String, String)], labels: &LabelSet) -> bool
     ensures { IsTrue result → labels.now ≡ map text_label texts.now }
 {
     labels.as_slice() == texts
 }
 
-/// Whether the bytes spell these labels, and no sample. The canonical spelling is known by a look, any other one is read.
+/// Returns whether the bytes spell these labels, and no sample. The canonical spelling is compared
+/// directly, any other one is read.
 fn is_head_of(alloc: Global, bytes: &[u8], labels: &LabelSet) -> bool
     ensures { IsTrue result → IsHeadOf bytes.now labels.now }
 {
@@ -85,7 +87,8 @@ fn is_head_of(alloc: Global, bytes: &[u8], labels: &LabelSet) -> bool
 }
 
 impl Place {
-    /// The place of this label set, of which no head was seen. This takes no memory.
+    /// Returns the place of this label set, before any head of a series was seen. This takes no
+    /// memory.
     pub(crate) fn new(alloc: Global, name: Name) -> Place
         ensures { result ≡ name }
     {
@@ -95,21 +98,21 @@ impl Place {
         }
     }
 
-    /// The label set.
+    /// Returns the label set.
     pub(crate) fn name(&self) -> &Name
         ensures { result.now ≡ self.now }
     {
         &self.name
     }
 
-    /// The label set.
+    /// Returns the label set.
     pub(crate) fn labels(&self) -> &LabelSet
         ensures { result.now ≡ self.now }
     {
         self.name.labels()
     }
 
-    /// The bytes of a series behind the head that is kept, where it begins with that.
+    /// Returns the bytes of a series after the head that is kept, if the series begins with it.
     pub(crate) fn behind_head<'a>(&self, series: &'a [u8]) -> Option<&'a [u8]>
         ensures { IfSome result (λ rest. (head : List ℕ)
             × IsHeadOf head self.now × (series.now ≡ head ++ rest.now)) }
@@ -125,8 +128,8 @@ impl Place {
         }
     }
 
-    /// Keeps the head of a series, where it spells this label set, is short, and none is kept. It is kept for speed alone: where memory runs
-    /// out, it is not.
+    /// Keeps the head of a series, if it spells this label set, is short, and none is kept. It is
+    /// kept for speed alone: if memory runs out, it is not kept.
     pub(crate) fn learn(&mut self, series: &[u8])
         ensures { self.new ≡ self.old }
     {

@@ -20,8 +20,8 @@ use std::alloc::{AllocError, Global};
 use std::collections::{BTreeMap, btree_map};
 use std::mem;
 
-/// The places of label sets: each has its own, in the order in which they came. It is noted which one came behind which the last time, and with
-/// which bytes a series of it began.
+/// The places of label sets: each has its own, in the order in which they came. For each it is
+/// noted which one came after it the last time, and with which bytes a series of it began.
 #[derive(Debug, Drop)]
 pub(crate) struct Places {
     tree: BTreeMap<Name, usize>,
@@ -32,7 +32,7 @@ pub(crate) struct Places {
     ghost hinted: { length after.items ≡ length names.items },
 }
 
-/// Puts an item behind the others, where there is room for it.
+/// Puts an item after the others, if there is room for it.
 pub(crate) fn put<T: Drop>(items: &mut Vec<T>, item: T)
     requires { vec_len items.old < vec_capacity items.old }
     ensures { items.new.items ≡ items.old.items ++ item ∷ [] }
@@ -43,7 +43,7 @@ pub(crate) fn put<T: Drop>(items: &mut Vec<T>, item: T)
     }
 }
 
-/// What was found of a label set.
+/// What was found for a label set.
 #[derive(Drop)]
 pub(crate) enum Found {
     /// It has this place.
@@ -53,7 +53,7 @@ pub(crate) enum Found {
 }
 
 impl Places {
-    /// No places. This takes no memory.
+    /// Returns an empty list of places. This takes no memory.
     pub(crate) fn new(alloc: Global) -> Places
         ensures tree { result.tree.entries ≡ [] }
         ensures names { result.names.items ≡ [] }
@@ -66,7 +66,7 @@ impl Places {
         }
     }
 
-    /// How many there are.
+    /// Returns how many there are.
     pub(crate) fn len(&self) -> usize
         ensures len { result ≡ length self.now.tree.entries }
         ensures ordered { IsOrdered labels_cmp self.now.tree }
@@ -74,7 +74,7 @@ impl Places {
         self.tree.len()
     }
 
-    /// The label sets at their places.
+    /// Returns the label sets at their places.
     pub(crate) fn names(&self) -> &[Place]
         ensures names { result.now ≡ self.now.names.items }
         ensures named { AreNamed self.now.tree result.now }
@@ -82,7 +82,7 @@ impl Places {
         self.names.as_slice()
     }
 
-    /// The place that is expected next, if the label set of these labels stands there.
+    /// Returns the place that is expected next, if it has the label set of these labels.
     fn expected(&self, texts: &[(String, String)]) -> Option<usize>
         ensures place { IfSome result (λ n.
             get labels_cmp self.now.tree (map text_label texts.now) ≡ Some n) }
@@ -106,8 +106,9 @@ impl Places {
         self.last = place;
     }
 
-    /// The place of the label set of these labels, or a name for it where it has none. First it is looked for at the place that came after the
-    /// last one the time before; where it stands there, it was judged when it came, and this takes no memory.
+    /// Returns the place of the label set of these labels, or a name for it if it has none. The
+    /// place that came after the last one the time before is tried first; if the label set is
+    /// there, it was judged when it came, and this takes no memory.
     pub(crate) fn find(
         &mut self,
         alloc: Global,
@@ -141,7 +142,8 @@ impl Places {
         }
     }
 
-    /// The place of a series and its bytes behind the head, where it begins with the head of the label set that is expected next. This takes no memory.
+    /// Returns the place of a series and its bytes after the head, if it begins with the head of
+    /// the label set that is expected next. This takes no memory.
     pub(crate) fn known<'a>(&mut self, series: &'a [u8]) -> Option<(usize, &'a [u8])>
         ensures tree { self.new.tree ≡ self.old.tree }
         ensures names { self.new.names.items ≡ self.old.names.items }
@@ -156,7 +158,8 @@ impl Places {
         Some((place, rest))
     }
 
-    /// Keeps the head of a series at the place of the last one, if it is a head of the label set there.
+    /// Keeps the head of a series at the place of the last one, if it is a head of the label set
+    /// there.
     pub(crate) fn learn(&mut self, series: &[u8])
         ensures tree { self.new.tree ≡ self.old.tree }
         ensures names { self.new.names.items ≡ self.old.names.items }
@@ -166,7 +169,7 @@ impl Places {
         }
     }
 
-    /// The place of a label set.
+    /// Returns the place of a label set.
     pub(crate) fn look(&self, alloc: Global, labels: &LabelSet) -> Result<Option<usize>, AllocError>
         ensures { IfOk result (λ o. o ≡ get labels_cmp self.now.tree labels.now) }
     {
@@ -174,7 +177,8 @@ impl Places {
         Ok(self.tree.get(&name).copied())
     }
 
-    /// The place of a label set. This takes no memory, and time that grows with the number of places.
+    /// Returns the place of a label set. This takes no memory, and time that grows with the number
+    /// of places.
     pub(crate) fn get(&self, labels: &LabelSet) -> Option<usize>
         ensures { result ≡ get labels_cmp self.now.tree labels.now }
     {
@@ -222,7 +226,7 @@ impl Places {
         }
     }
 
-    /// The label sets in order, with their places.
+    /// Returns the label sets in order, with their places.
     pub(crate) fn iter(&self) -> btree_map::Iter<'_, Name, usize>
         ensures rest { result ≡ self.now.tree.entries }
         ensures ordered { IsOrdered labels_cmp self.now.tree }

@@ -14,8 +14,8 @@ use rw_types::Word;
 use std::alloc::{AllocError, Global};
 use std::marker::Model;
 
-/// The samples of one series in order. Those of a message that is not judged yet are staged behind the others.
-/// Contracts see the samples that are kept, and these together with the staged ones.
+/// The samples of one series in order. Those of a message that is not judged yet are staged after
+/// the others. Contracts see the samples that are kept, and these together with the staged ones.
 #[derive(Debug, Drop)]
 pub(crate) struct SampleList {
     samples: Blocks,
@@ -35,7 +35,7 @@ impl Model for SampleList {
 }
 
 impl SampleList {
-    /// No samples. This takes no memory.
+    /// Returns an empty list of samples. This takes no memory.
     pub(crate) fn new(alloc: Global) -> SampleList
         ensures { result ≡ no_lists }
     {
@@ -45,7 +45,8 @@ impl SampleList {
         }
     }
 
-    /// Stages a sample, if it is later than the last one. A repeat changes nothing, and any other is refused.
+    /// Stages a sample, if it is later than the last one. A repeat changes nothing, and any other
+    /// is refused.
     fn stage(&mut self, t: i64, word: Word) -> Result<(), Verdict>
         requires { length self.old.staged < 2 ^ 60 }
         ensures kept { self.new.kept ≡ self.old.kept }
@@ -93,7 +94,7 @@ impl SampleList {
         self.samples.truncate(self.kept);
     }
 
-    /// A copy of the samples that are kept.
+    /// Returns a copy of the samples that are kept.
     pub(crate) fn to_vec(&self, alloc: Global) -> Result<Vec<(i64, Word)>, AllocError>
         ensures { IfOk result (λ v. v.items ≡ self.now.kept) }
     {
@@ -102,7 +103,7 @@ impl SampleList {
         Ok(samples)
     }
 
-    /// The full blocks, where nothing is staged.
+    /// Returns the full blocks, if nothing is staged.
     pub(crate) fn sealed(&self) -> &[Box<Block>]
         requires { self.now.staged ≡ self.now.kept }
         ensures { map (λ b. b.value) result.now ≡ sealed_of self.now.kept }
@@ -110,7 +111,7 @@ impl SampleList {
         self.samples.sealed()
     }
 
-    /// The samples behind the full blocks, where nothing is staged.
+    /// Returns the samples after the full blocks, if nothing is staged.
     pub(crate) fn open(&self) -> &[(i64, Word)]
         requires { self.now.staged ≡ self.now.kept }
         ensures samples { result.now ≡ open_of self.now.kept }
@@ -119,21 +120,21 @@ impl SampleList {
         self.samples.open()
     }
 
-    /// Whether there are samples that are kept.
+    /// Returns whether there are samples that are kept.
     pub(crate) fn has_samples(&self) -> bool
         ensures { result ≡ has_samples self.now.kept }
     {
         self.kept > 0
     }
 
-    /// How many samples there are with those that are staged.
+    /// Returns how many samples there are with those that are staged.
     pub(crate) fn staged_len(&self) -> usize
         ensures { result ≡ length self.now.staged }
     {
         self.samples.len()
     }
 
-    /// How many samples are staged.
+    /// Returns how many samples are staged.
     pub(crate) fn staged_count(&self) -> usize
         ensures count { result ≡ more_count self.now }
         ensures begun { Begins self.now.kept self.now.staged }

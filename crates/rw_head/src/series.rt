@@ -28,14 +28,15 @@ impl<'a> Model for HeldSeries<'a> {
 }
 
 impl<'a> HeldSeries<'a> {
-    /// The label set.
+    /// Returns the label set.
     pub fn labels(&self) -> &'a LabelSet
         ensures { result.now ≡ self.now.0 }
     {
         self.labels
     }
 
-    /// A copy of the samples in order, as (timestamp in milliseconds since the Unix epoch, value).
+    /// Returns a copy of the samples in order, as (timestamp in milliseconds since the Unix epoch,
+    /// value).
     pub fn samples(&self, alloc: Global) -> Result<Vec<(i64, Word)>, AllocError>
         ensures { IfOk result (λ v. v.items ≡ self.now.1) }
     {
@@ -43,8 +44,8 @@ impl<'a> HeldSeries<'a> {
     }
 }
 
-/// An iterator over the series that have samples, by byte order of their label sets' lists of (name, value). Contracts see those that are still
-/// to come.
+/// An iterator over the series that have samples, by byte order of their label sets' lists of
+/// (name, value). Contracts see those that are still to come.
 #[derive(Drop)]
 pub struct AllSeries<'a> {
     places: btree_map::Iter<'a, Name, usize>,
@@ -64,7 +65,7 @@ impl<'a> Model for AllSeries<'a> {
 }
 
 impl<'a> AllSeries<'a> {
-    /// Those of these label sets whose lists keep samples.
+    /// Returns the series of these label sets whose lists keep samples.
     pub(crate) fn new(
         places: btree_map::Iter<'a, Name, usize>,
         lists: &'a [SampleList],

@@ -70,7 +70,7 @@ impl Model for Table {
         t.count t.staged_count × (length t.places.names.items ≡ length t.lists.items) };
 }
 
-/// Whether there is room for `more` samples beside `count`.
+/// Returns whether there is room for `more` samples beside `count`.
 fn has_room(count: u64, more: usize) -> bool
     requires { count ≤ 2 ^ 60 }
     ensures { IsTrue result ↔ (count + more ≤ 2 ^ 60) }
@@ -78,7 +78,7 @@ fn has_room(count: u64, more: usize) -> bool
     more as u64 <= MOST_SAMPLES - count
 }
 
-/// A list of samples of a label set that had none, all of them staged.
+/// Returns a list of samples of a label set that had none, all of them staged.
 fn new_list(alloc: Global, samples: &[(Word, i64)]) -> Result<SampleList, Verdict>
     requires { length samples.now ≤ 2 ^ 60 }
     ensures kept { IfOk result (λ x. x.kept ≡ []) }
@@ -227,7 +227,7 @@ fn abort_all(lists: &mut Vec<SampleList>, touched: &[usize])
     }
 }
 
-/// That a series was known, or why it is refused.
+/// Returns `Ok(true)` for a known series, or why it is refused.
 fn was_known(outcome: Result<(), Verdict>) -> Result<bool, Verdict>
     ensures { result ≡ known_of outcome }
 {
@@ -237,7 +237,7 @@ fn was_known(outcome: Result<(), Verdict>) -> Result<bool, Verdict>
     }
 }
 
-/// Whether a count grew and is above its limit.
+/// Returns whether a count grew and is above its limit.
 fn is_above(limit: u64, before: u64, after: u64) -> bool
     ensures above { result ≡ is_above limit before after }
     ensures limited { IsTrue result → limit ≢ 2 ^ 64 - 1 }
@@ -246,7 +246,7 @@ fn is_above(limit: u64, before: u64, after: u64) -> bool
 }
 
 impl Table {
-    /// No samples. This takes no memory.
+    /// Returns a table without samples. This takes no memory.
     pub(crate) fn new(alloc: Global) -> Table
         ensures { result ≡ record { kept = empty; staged = empty; added = []; noted = 0 } }
     {
@@ -261,19 +261,20 @@ impl Table {
         }
     }
 
-    /// The allocator of the lists.
+    /// Returns the allocator of the lists.
     pub(crate) fn allocator(&self) -> Global {
         *self.lists.allocator()
     }
 
-    /// How many samples are kept.
+    /// Returns how many samples are kept.
     pub(crate) fn total(&self) -> u64
         ensures { result ≡ total self.now.kept }
     {
         self.count
     }
 
-    /// Stages a series: its labels are judged, and then its samples, one after the other, up to the first that is refused.
+    /// Stages a series: its labels are judged, and then its samples, one after the other, up to the
+    /// first that is refused.
     pub(crate) fn stage(
         &mut self,
         labels: &mut LabelSet,
@@ -322,8 +323,8 @@ impl Table {
         }
     }
 
-    /// Stages a series from its bytes, where they begin with the head of the label set that is expected next, and answers whether they do. Its
-    /// labels were judged when they came.
+    /// Stages a series from its bytes, if they begin with the head of the label set that is
+    /// expected next, and returns whether they do. Its labels were judged when they came.
     pub(crate) fn stage_known(&mut self, bytes: &[u8]) -> Result<bool, Verdict>
         ensures kept { self.new.kept ≡ self.old.kept }
         ensures staged { (limits : LabelLimits) → HoldsNoneRefused limits self.old.staged
@@ -355,8 +356,8 @@ impl Table {
         self.places.learn(bytes);
     }
 
-    /// Whether what is staged would take the samples or the label sets above the capacity, if so
-    /// many label sets have a place without it.
+    /// Returns whether what is staged would take the samples or the label sets above the capacity,
+    /// if `places` label sets have a place without it.
     pub(crate) fn exceeds(&self, capacity: &Capacity, places: usize) -> bool
         requires { places ≡ length (label_sets self.now.kept) }
         ensures exceeds { result ≡ exceeds capacity.now self.now.kept self.now.staged }
@@ -400,14 +401,14 @@ impl Table {
         self.staged_count = 0;
     }
 
-    /// How many label sets have a place.
+    /// Returns how many label sets have a place.
     pub(crate) fn places(&self) -> usize
         ensures { result ≡ length (label_sets self.now.staged) }
     {
         self.places.len()
     }
 
-    /// A copy of the samples of a label set that are kept.
+    /// Returns a copy of the kept samples of a label set.
     pub(crate) fn to_vec(
         &self,
         alloc: Global,
@@ -421,7 +422,7 @@ impl Table {
         }
     }
 
-    /// The full blocks of a label set, where nothing is staged.
+    /// Returns the full blocks of a label set, if nothing is staged.
     pub(crate) fn sealed(&self, labels: &LabelSet) -> &[Box<Block>]
         requires { self.now.staged ≡ self.now.kept }
         ensures { map (λ b. b.value) result.now ≡ sealed_of (list_of self.now.kept labels.now) }
@@ -432,7 +433,7 @@ impl Table {
         }
     }
 
-    /// The samples of a label set behind its full blocks, where nothing is staged.
+    /// Returns the samples of a label set after its full blocks, if nothing is staged.
     pub(crate) fn open(&self, labels: &LabelSet) -> &[(i64, Word)]
         requires { self.now.staged ≡ self.now.kept }
         ensures samples { result.now ≡ open_of (list_of self.now.kept labels.now) }
@@ -444,7 +445,7 @@ impl Table {
         }
     }
 
-    /// The label sets that have samples which are kept, in order, each with these.
+    /// Returns the label sets that have kept samples, in order, each with these.
     pub(crate) fn series(&self) -> AllSeries<'_>
         ensures list { result ≡ held_series self.now.kept }
         ensures lists { AreListsOf self.now.kept result }
@@ -454,7 +455,7 @@ impl Table {
         AllSeries::new(self.places.iter(), self.lists.as_slice())
     }
 
-    /// What is staged, label set by label set. This takes no memory.
+    /// Returns what is staged, label set by label set. This takes no memory.
     pub(crate) fn added(&self) -> AllAdded<'_>
         ensures list { result ≡ self.now.added }
         ensures adds { AddsUp self.now.kept self.now.staged result }

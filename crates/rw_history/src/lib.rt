@@ -1,4 +1,5 @@
-//! A list of what has happened, for contracts alone: it takes no bytes, and its methods do nothing when the program runs.
+//! A list of what has happened, for contracts alone: it takes no bytes, and its methods do nothing
+//! when the program runs.
 #![tactic(auto)]
 
 ghost use Rattle.std.specs.Prelude.{◌≡◌, List, [], ◌∷◌, ◌++◌};
@@ -9,10 +10,11 @@ use crate::record::{Record, record_of};
 use logbook::Opening;
 use std::marker::Model;
 
-/// The items so far, as a list that only contracts see. The items themselves are not kept, and may be dropped or changed.
+/// The items so far, as a list that only contracts see. The items themselves are not kept, and may
+/// be dropped or changed.
 ///
-/// A history of what was written, sent or fed is as good as the clauses of its owner's methods: each method that adds an item, or leaves the
-/// history alone, has to ensure so.
+/// A history of what was written, sent or fed is as good as the clauses of its owner's methods:
+/// each method that adds an item, or leaves the history alone, has to ensure so.
 pub struct History<T> {
     items: Record<T>,
 }
@@ -24,14 +26,15 @@ impl<T> Model for History<T> {
 }
 
 impl<T> History<T> {
-    /// An empty history.
+    /// Returns an empty history.
     pub fn new() -> History<T>
         ensures { result ≡ [] }
     {
         History::of(&[])
     }
 
-    /// A history of the items of a slice, in order. A `History<u8>` so made stands for the bytes in an item of another history.
+    /// Returns a history of the items of a slice, in order. A `History<u8>` so made stands for the
+    /// bytes in an item of another history.
     pub fn of(items: &[T]) -> History<T>
         ensures { result ≡ items.now }
     {
@@ -54,7 +57,7 @@ impl<T> History<T> {
         self.items = record_of::<(&Record<T>, &[T]), T, Extended>(&(&self.items, items));
     }
 
-    /// A second history with the items of this one.
+    /// Returns a second history with the items of this one.
     pub fn again(&self) -> History<T>
         ensures { result ≡ self.now }
     {

@@ -70,7 +70,7 @@ setup-at config [] k j w e = absurd (none-some j e)
 setup-at config (i ∷ is) zero j w e = subst (λ (x : StoppedShard Line). IsSetUp config x.worker.value) (same_Some i j e) w.0
 setup-at config (i ∷ is) (suc k) j w e = setup-at config is k j w.1 e
 
--- the first of two lists of same shards has a shard where the second has one
+-- the first of two lists of same shards has a shard if the second has one
 same-at : (ls ms : List ShardHistory) (k : ℕ) (m : ShardHistory) → AreSame ls ms → slice_get ms k ≡ Some m → (l : ShardHistory) × (slice_get ls k ≡ Some l) × (m.setup ≡ l.setup)
 same-at [] [] k m s e = absurd (none-some m e)
 same-at [] (y ∷ ys) k m s e = absurd s

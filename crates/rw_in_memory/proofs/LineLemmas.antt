@@ -20,7 +20,7 @@ use Rattle.rw_simulation.proofs.Passed.{passed, passes_at}
 use Rattle.rw_in_memory.specs.Lines.{AreMade, IsAskedOnce}
 
 -- ---- lists
--- two lists with one element behind them
+-- two lists with one element after them
 last_same : {X : Type 0} (xs ys : List X) (x y : X) → xs ++ x ∷ [] ≡ ys ++ y ∷ [] → x ≡ y
 last_same xs ys x y e = same_Some x y (sym (at_last xs x) ∙ ap (λ l. slice_get l (length xs)) e ∙ ap (slice_get (ys ++ y ∷ [])) same_count ∙ at_last ys y)
   where
@@ -31,7 +31,7 @@ last_same xs ys x y e = same_Some x y (sym (at_last xs x) ∙ ap (λ l. slice_ge
     same_count : length xs ≡ length ys
     same_count = let a = length-append xs (x ∷ []) in let b = length-append ys (y ∷ []) in let c = ap length e in omega arith
 
--- what is added to a list has nothing that passes, where as many pass as before
+-- what is added to a list has nothing that passes, if as many pass as before
 none_pass : {X : Type 0} (p : X → Bool) (xs ys : List X) (k : ℕ) (y : X) → filter p (xs ++ ys) ≡ filter p xs → slice_get ys k ≡ Some y → p y ≡ true → ⊥
 none_pass p xs ys k y same at is = let w = slice_get_within (filter p ys) (passed p ys k) y (passes_at p ys k y at is) in let a = ap length (sym (filter-append p xs ys) ∙ same) in let b = length-append (filter p xs) (filter p ys) in omega arith
 

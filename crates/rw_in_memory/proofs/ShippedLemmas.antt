@@ -1,4 +1,4 @@
--- A shipper over lines, from its start to where the head is back.
+-- A shipper over lines, from its start until the head is back.
 use Rattle.std.proofs.Common.{◌≡◌, inl, inr, ℕ, ◌≤◌, List, [], ◌∷◌, ◌++◌, All, map, take, length, Option, None, Some, Result, Ok, Err, IfOk, IfSome, slice_get, get_or, refl, sym, ap, ◌∙◌, subst, arith}
 use Rattle.std.specs.Prelude.{IsSome, is_some, OnOk}
 use Rattle.std.specs.FinMap.{empty}
@@ -73,7 +73,7 @@ pub if_ok : {X E : Type 0} (P Q : X → Type 0) (r : Result X E) → IfOk r P �
 if_ok P Q (Ok x) h f = f x h
 if_ok P Q (Err e) h f = tt
 
--- ---- where nothing was fed yet
+-- ---- if nothing was fed yet
 pub none_read : (log : Sorting) (choice : Choice) → log ≡ record { choice = choice; pieces = []; placed = []; hand = [] } → HasRead log.pieces log.placed None
 unfolding reading segment
 none_read log choice is = subst (λ (l : Sorting). HasRead l.pieces l.placed None) (sym is) (record { all = refl; fault_is = refl })
@@ -154,7 +154,7 @@ module _ (opening : State) (path : List ℕ) (limit : ℕ) (config : ConfigField
   held : IsHeld now g.r v.head.store
   held = holds-in-memory opening path limit now g.r v.head.store setup (take fed.fed log) g.stopped g.placed machine work pieces_are first lines g.ended
 
-  -- nothing is left where the outcome says complete
+  -- nothing is left if the outcome says complete
   whole : (end : ℕ) → g.r.outcome ≡ Complete end → (length log ≤ fed.fed) × (end ≡ length now.log.placed) × (now.log.placed ≡ entries now.log.pieces)
   whole end is = (by_answer answer fed.whole fed.feeds, ends.0, ends.1.all)
     where

@@ -1,4 +1,5 @@
--- What a head in the same process holds of the samples of a shipper that was stopped in its first epoch.
+-- What a head in the same process holds of the samples of a shipper that was stopped in its first
+-- epoch.
 use Rattle.std.specs.Prelude.{◌≡◌, ◌⊎◌, ℕ, true, List, [], length, map, Some, slice_get, ⊤}
 use Rattle.std.specs.FinMap.{empty}
 use Rattle.rw_types.specs.Requests.{is_host_name}
@@ -31,7 +32,8 @@ IsAnyones epoch shard line = ⊤
 abbrev pub seat_of : Finished Line → Seated
 seat_of f = f.transport.seat
 
--- The workers' transports are lines to the endpoint of the machine's receiver, and their seats are all that there are of a head that began empty.
+-- The workers' transports are lines to the endpoint of the machine's receiver, and their seats are
+-- all seats of a head that began empty.
 pub record AreLines (c : Setup) (opening : State) (path : List ℕ) (limit : ℕ) (fs : List (Finished Line)) (store : Store) : Type 0 where
   pub host : is_host_name c.target.host ≡ true
   pub calm : c.busy ≡ 0
@@ -53,7 +55,8 @@ pub record IsFirst (c : Setup) (s : Shipping Line) : Type 0 where
 abbrev pub HasEnded : Shipping Line → Report Line → Type 0
 HasEnded s r = EndBy Orderly s.fleet r.workers.items ⊎ IsAbandoned r.outcome
 
--- So the head holds the samples, whatever was stored, refused, repeated or lost; nothing of a network is asked.
+-- The head holds the samples, whatever was stored, refused, repeated or lost; there is no premise
+-- on a network.
 abbrev pub HoldsInMemory : State → List ℕ → ℕ → Shipping Line → Report Line → Store → Type 0
 HoldsInMemory opening path limit s r store =
     (c : Setup) (fed : List Piece) → HasStopped (IsLine opening path limit) seen_by IsAnyones s r → PlacesAll s.log s.fleet → IsMachineOf c s → CanWork c → s.log.pieces ≡ map piece_of fed

@@ -1,4 +1,5 @@
--- A transport whose requests go to an endpoint in the same process, which asks a seat of a shared head.
+-- A transport whose requests go to an endpoint in the same process, which asks a seat of a shared
+-- head.
 use Rattle.std.specs.Prelude.{◌≡◌, ℕ, ◌≤◌, List, [], ◌∷◌, length, true, Option, None, Some, ⊤}
 use Rattle.rw_types.specs.Requests.{is_host_name}
 use Rattle.rw_shard_core.specs.SentRequest.{request_of}
@@ -17,11 +18,13 @@ abbrev pub AreMade : List ℕ → List Exchange → Type 0
 AreMade path [] = ⊤
 AreMade path (x ∷ xs) = ((host : List ℕ) × (body : List ℕ) × (is_host_name host ≡ true) × (x.request ≡ request_of host path body)) × AreMade path xs
 
--- Where its requests are such, the seat was asked for them, and for nothing else. The endpoint has this path, and reads bodies of at most so many bytes.
+-- If its requests are such, the seat was asked for them, and for nothing else. The endpoint has
+-- this path, and reads bodies of at most this many bytes.
 abbrev pub IsLine : State → List ℕ → ℕ → Line → Type 0
 IsLine opening path limit line = AreMade path line.seen → IsSeatOf path limit opening line.seen line.seat
 
--- the seat was asked for this body, which is within the limit, and gave that status; or it was not asked
+-- the seat was asked for this body, which is within the limit, and gave that status; or it was not
+-- asked
 abbrev pub IsAskedOnce : State → ℕ → Seated → List ℕ → Option ℕ → Seated → Type 0
 IsAskedOnce opening limit old body None new = new ≡ old
 IsAskedOnce opening limit old body (Some status) new = (length body ≤ limit) × HasAsked opening old body status new

@@ -33,7 +33,8 @@ pub record IsSound (config : ConfigFields) : Type 0 where
   pub capacity : 1 ≤ config.capacity
   pub batch : 1 ≤ config.batch
 
--- A shipper was fed the first pieces of a log: all of them, unless it failed or came to the fault of the log. Of its shards only what they were put has changed.
+-- A shipper was fed the first pieces of a log: all of them, unless it failed or came to the fault
+-- of the log. Of its shards only what they were put has changed.
 pub record HasFed {T : Type 0} (old new : Shipping T) (log : List Piece) (answer : Result (Unit {0}) FeedFault) : Type 0 where
   pub fed : ℕ
   pub pieces : new.log.pieces ≡ old.log.pieces ++ map piece_of (take fed log)
@@ -65,12 +66,13 @@ pub record IsOneEpoch (config : ConfigFields) (s : Shipping Line) : Type 0 where
   pub none_ended : s.fleet.ended ≡ []
   pub shards : length s.fleet.current ≡ config.shards
 
--- Some first pieces of the log were fed: all of them, and all of their entries placed, where
--- `shipped.fed` is `Ok`, and all entries before the fault, where it says damaged (`feeds`). The
--- shipper's own report is in `gathered`: what its workers were put, sent and read of each reply, and
--- that the parts name exactly what was dropped or refused so, and that the seats of the workers were
--- all that the head, which was `opening`, was asked. So it holds what is owed (`held`).
--- Work is abandoned only where the shipper failed, as `shipped.fed` then says, or a worker was cut.
+-- Some first pieces of the log were fed: all of them, and all of their entries placed, if
+-- `shipped.fed` is `Ok`, and all entries before the fault, if it says damaged (`feeds`). The
+-- shipper's own report is in `gathered`: what its workers were put, sent and read of each reply,
+-- that the parts name exactly what was dropped or refused, and that the seats of the workers
+-- received all questions that the head, which was `opening`, was asked. So it holds what is owed
+-- (`held`). Work is abandoned only if the shipper failed, as `shipped.fed` then says, or a worker
+-- was cut.
 pub record IsShippedTo (opening : State) (path : List ℕ) (limit : ℕ) (config : ConfigFields) (log : List Piece) (shipped : Shipped) : Type 0 where
   pub fed : ℕ
   pub s : Shipping Line
@@ -94,6 +96,7 @@ pub record IsNew (limits : Limits) (opening : State) : Type 0 where
   pub max_label_bytes : opening.limits.max_label_bytes ≡ limits.max_label_bytes
   pub busy : opening.busy ≡ limits.busy_first
 
--- The head began so. Its endpoint had the path of the target, and read bodies of up to 64 MiB.
+-- This is how the head began. Its endpoint had the path of the target, and read bodies of up to 64
+-- MiB.
 abbrev pub IsShipped : ConfigFields → Limits → List Piece → Shipped → Type 0
 IsShipped config limits log shipped = (opening : State) × IsNew limits opening × IsShippedTo opening config.target.path 67108864 config log shipped

@@ -18,7 +18,7 @@ pub(crate) struct Asker<R, L: Endpoint> {
 }
 
 impl<R: Drop, L: Endpoint> Asker<R, L> {
-    /// Gives the seat back.
+    /// Returns the seat.
     pub(crate) fn into_seat(self) -> Seat<L>
         ensures { result ≡ self.seat }
     {

@@ -8,8 +8,9 @@ ghost use Rattle.rw_sender.specs.declared.report.Report.{Report};
 ghost use Rattle.rw_in_memory.specs.Lines.{Line};
 ghost use Rattle.rw_in_memory.specs.Held.{HoldsInMemory};
 
-/// What a head in this process holds of the samples of a shipper that was stopped in its first epoch, however often memory was refused, and whatever the
-/// head answered. Its workers asked the seats of the head, each from a seat of its own, and all seats are back. No premise on a network is left.
+/// Law: what a head in this process holds of the samples of a shipper that was stopped in its first
+/// epoch, however often memory ran out, and whatever the head answered. Its workers asked the head,
+/// each from its own seat, and all seats were returned. No premise on a network is left.
 pub fn a_head_in_memory_holds_the_samples()
     ensures { (opening : State) (path : List ℕ) (limit : ℕ) (s : Shipping Line) (r : Report Line)
         (store : Store) → HoldsInMemory opening path limit s r store }

@@ -1,4 +1,5 @@
-//! A sender and its receiver in one process: the workers of a shipper ask the seats of a shared head, each request through the receiver's endpoint.
+//! A sender and its receiver in one process: the workers of a shipper ask the seats of a shared
+//! head, each request through the receiver's endpoint.
 #![tactic(auto)]
 
 mod asker;

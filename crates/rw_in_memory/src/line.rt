@@ -21,7 +21,7 @@ use std::sync::{Arc, Wait};
 /// The most bytes of a reply.
 const REPLY_ROOM: usize = 86;
 
-/// Serves a connection with one request. Gives what the seat answered, where it was asked.
+/// Serves a connection with one request. Returns what the seat answered, if it was asked.
 fn ask<R: Wait, L: Endpoint>(
     alloc: Global,
     receiver: &Receiver<L>,
@@ -36,7 +36,7 @@ fn ask<R: Wait, L: Endpoint>(
         return None;
     };
     let limits = receiver.limits();
-    // Its type says that it is one.
+    // Its type says that it is a valid path.
     let _ = limits.path.as_str();
     let mut reader = request;
     asker.status = None;
@@ -44,7 +44,7 @@ fn ask<R: Wait, L: Endpoint>(
     asker.status
 }
 
-/// The answer that a sender has: what was not asked is lost.
+/// Returns the answer that a sender gets: a request for which no seat was asked is lost.
 fn answer_of(status: Option<u16>) -> Result<Reply, Lost>
     ensures { IfOk result (λ r. status ≡ Some r.status) }
 {
@@ -64,10 +64,10 @@ fn note(seen: &mut History<Exchanged>, request: &[u8], answer: &Result<Reply, Lo
     seen.push(&Exchanged::of(request, answer));
 }
 
-/// A transport in memory: it lends each request to a receiver's endpoint, which asks a seat of a shared head. Contracts see
-/// the seat, and the exchanges so far.
+/// A transport in memory: it lends each request to a receiver's endpoint, which asks a seat of a
+/// shared head. Contracts see the seat, and the exchanges so far.
 ///
-/// What the endpoint refuses without asking is told as lost.
+/// What the endpoint refuses without asking is reported as lost.
 #[derive(Drop)]
 pub struct Line<R, L: Endpoint> {
     alloc: Global,
@@ -88,7 +88,8 @@ impl<R, L: Endpoint> Model for Line<R, L> {
 }
 
 impl<R, L: Endpoint> Line<R, L> {
-    /// One whose seat has not been asked yet. It takes two shares of one receiver, since the seat asks while its limits are lent.
+    /// Returns a transport whose seat was not asked yet. It takes two shares of one receiver, since
+    /// the seat asks while its limits are lent.
     pub fn new(
         rt: R,
         alloc: Global,
@@ -115,7 +116,7 @@ impl<R, L: Endpoint> Line<R, L> {
 }
 
 impl<R: Drop, L: Endpoint> Line<R, L> {
-    /// Gives the seat back.
+    /// Returns the seat.
     pub fn into_seat(self) -> Seat<L>
         ensures seat { result ≡ self.seat }
         ensures line { IsLine L.opening L.path L.limit self }

@@ -11,7 +11,8 @@ use std::alloc::{AllocError, Global};
 use std::marker::Model;
 use std::sync::{Arc, Wait};
 
-/// A seat for each shard, while there are any, and a pause for each worker. Contracts see the seats.
+/// A seat for each shard, while there are any, and a pause for each worker. Contracts see the
+/// seats.
 #[derive(Drop)]
 pub struct Lines<R, L: Endpoint, P> {
     rt: R,
@@ -33,7 +34,7 @@ impl<R, L: Endpoint, P> Model for Lines<R, L, P> {
 }
 
 impl<R, L: Endpoint, P> Lines<R, L, P> {
-    /// Over seats that were not asked yet.
+    /// Returns transports over seats that were not asked yet.
     pub fn new(
         rt: R,
         alloc: Global,

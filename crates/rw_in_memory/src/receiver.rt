@@ -7,8 +7,8 @@ use rw_recv_head::{Blank, Naming, Seat, SharedHead};
 use std::alloc::{AllocError, Global};
 use std::marker::{Brand, Model};
 
-/// Which receiver it is: its head, the path of its endpoint, and the most bytes of a body that the endpoint reads.
-/// Each call of a program picks it.
+/// Which receiver it is: its head, the path of its endpoint, and the most bytes of a body that the
+/// endpoint reads. Each call of a program picks it.
 pub trait Endpoint: Naming {
     ghost use Rattle.std.specs.Prelude.{ℕ, List};
 
@@ -25,7 +25,8 @@ impl Endpoint for Brand {
     ghost limit = { 0 };
 }
 
-/// A receiver: what its endpoint reads, and the head that it asks. Contracts see among how many seats the head is shared.
+/// A receiver: the limits of its endpoint, and the head that it asks. Contracts see among how many
+/// seats the head is shared.
 #[derive(Drop)]
 pub struct Receiver<L: Endpoint> {
     limits: Limits,
@@ -44,8 +45,8 @@ impl<L: Endpoint> Model for Receiver<L> {
 }
 
 impl<L: Endpoint> Receiver<L> {
-    /// Shares a head among so many seats, which were not asked yet, over a blank of one part for each of them and one
-    /// for the lock.
+    /// Shares a head among `n` seats, which were not asked yet, over a blank of one part for each
+    /// of them and one for the lock.
     pub fn open(
         alloc: Global,
         limits: Limits,
@@ -69,7 +70,7 @@ impl<L: Endpoint> Receiver<L> {
         }
     }
 
-    /// What its endpoint reads.
+    /// Returns the limits of its endpoint.
     pub fn limits(&self) -> &Limits
         ensures path { result.now.path ≡ L.path }
         ensures limit { result.now.max_body_bytes ≡ L.limit }
@@ -77,14 +78,14 @@ impl<L: Endpoint> Receiver<L> {
         &self.limits
     }
 
-    /// The head that its endpoint asks.
+    /// Returns the head that its endpoint asks.
     pub fn shared(&self) -> &SharedHead<L>
         ensures { result.now ≡ self.now }
     {
         &self.shared
     }
 
-    /// The head that the seats share.
+    /// Returns the head that the seats share.
     pub fn into_shared(self) -> SharedHead<L>
         ensures { result ≡ self }
     {

@@ -1,4 +1,4 @@
-//! A log that is shipped to a head in the same process.
+//! Ships a log to a head in the same process.
 
 ghost use Rattle.std.specs.Prelude.{◌≡◌, ◌+◌, [], None, map, All, length, IfOk};
 ghost use Rattle.std.specs.Arc.{arc_value};
@@ -24,11 +24,11 @@ use std::marker::Brand;
 use std::sync::{Arc, Wait};
 use std::thread::Threads;
 
-/// What was shipped, and what the head holds then.
+/// What was shipped, and what the head then holds.
 #[derive(Drop)]
 pub struct Shipped {
     pub outcome: Outcome,
-    /// `Ok` where the whole log was read and placed, and else why it was not.
+    /// `Ok` if the whole log was read and placed, or why it was not.
     pub fed: Result<(), FeedFault>,
     /// The samples that were not sent, or were refused: as in the report of a shipper.
     pub parts: Vec<Ledger>,
@@ -56,7 +56,7 @@ fn feed_all<R: Wait, C: Connect + Drop>(
     Ok(())
 }
 
-/// The seat of a worker's transport.
+/// Returns the seat of a worker's transport.
 fn seat_in<R: Drop, L: Endpoint>(finished: Finished<Line<R, L>>) -> Seat<L>
     ensures seat { result ≡ seat_of finished }
     ensures line { IsLine L.opening L.path L.limit finished.transport }
@@ -64,7 +64,7 @@ fn seat_in<R: Drop, L: Endpoint>(finished: Finished<Line<R, L>>) -> Seat<L>
     finished.transport.into_seat()
 }
 
-/// The seats of the workers' transports.
+/// Returns the seats of the workers' transports.
 fn seats_of<R: Drop, L: Endpoint>(
     alloc: Global,
     workers: Vec<Finished<Line<R, L>>>,
@@ -120,7 +120,7 @@ fn gathered<
     })
 }
 
-/// Lines to a receiver, beside a share of it, and a stop flag.
+/// Returns transports to a receiver, beside a share of it, and a stop flag.
 fn lined<R: Copy, L: Endpoint, P: Copy>(
     rt: R,
     alloc: Global,
@@ -137,7 +137,7 @@ fn lined<R: Copy, L: Endpoint, P: Copy>(
     Ok((receiver, Lines::new(rt, alloc, theirs, seats, pause), stop))
 }
 
-/// Ships a log to a receiver, each shard from a seat of its own.
+/// Ships a log to a receiver, each shard from its own seat.
 fn ship_to<
     R: Threads + Wait + Copy + Send + 'static,
     L: Endpoint + Send + Sync + 'static,
@@ -197,7 +197,7 @@ fn ship_shared<
     ship_to(rt, alloc, config, log, receiver, seats, pause)
 }
 
-/// The path of a target, as that of an endpoint.
+/// Returns the path of a target, as that of an endpoint.
 fn path_of(alloc: Global, target: &Target) -> Result<RequestPath, AllocError>
     ensures { IfOk result (λ path. path ≡ target.now.path) }
 {
@@ -208,7 +208,8 @@ fn path_of(alloc: Global, target: &Target) -> Result<RequestPath, AllocError>
     }
 }
 
-/// How many shards a configuration has. The other fields are read for what their types say of them.
+/// Returns how many shards a configuration has. The other fields are read for what their types say
+/// of them.
 fn count_of(config: &Config) -> u64
     ensures count { result ≡ config.now.shards }
     ensures sound { IsSound config.now }
@@ -219,13 +220,16 @@ fn count_of(config: &Config) -> u64
     fields.shards.get()
 }
 
-/// Ships a log to a new head in this process, by the threads of a sender, and gives what it did and the head.
+/// Ships a log to a new head in this process, by the threads of a sender, and returns what it did
+/// and the head.
 ///
-/// Each shard asks a seat of the head, over the receiver's endpoint, which has the path of the configured target and reads bodies
-/// of up to 64 MiB, whatever `limits` says of these two; no batch takes more. The pieces are fed one after the other, up to the fault of the log. What is left where a queue was cut, or memory
-/// was refused, the outcome lists.
+/// Each shard asks a seat of the head, over the receiver's endpoint, which has the path of the
+/// configured target and reads bodies of up to 64 MiB, whatever `limits` says of these two; no
+/// batch takes more. The pieces are fed one after the other, up to the fault of the log. What is
+/// left if a queue was cut, or memory ran out, is in the outcome.
 ///
-/// An `Err` means that memory or a thread was refused at the beginning, or memory for the report.
+/// An `Err` means that memory ran out or no thread could be made at the start, or that memory ran
+/// out for the report.
 pub fn ship<R: Threads + Wait + Copy + Send + 'static, P: Pause + Copy + Send + Drop + 'static>(
     rt: &R,
     alloc: Global,

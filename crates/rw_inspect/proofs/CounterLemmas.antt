@@ -24,7 +24,7 @@ sums_of-push : (es : List Entry) (e : Entry) → sums_of (es ++ e ∷ []) ≡ wi
 unfolding sums_of
 sums_of-push es e = fold-append with_entry no_sums es (e ∷ [])
 
--- the entries of the segment at hand
+-- the entries of the current segment
 pub here_none : (es : List Entry) (s : Sums) → es ≡ [] → s ≡ no_sums → s ≡ sums_of es
 unfolding sums_of
 here_none es s e n = rw e n

@@ -92,7 +92,7 @@ pub finder_none : (positions : List ℕ) (es : List Entry) (choice : Choice) (ca
 finder_none positions es choice cache notes e is c n =
     rw (e, n) record { counted = refl; choice = ap (λ (k : Taken). k.choice) c ∙ is; defined = sym (ap (λ (k : Taken). k.definitions) c); noted = refl }
 
--- an entry was taken, and its text noted where it is asked for
+-- an entry was taken, and its text noted if it is asked for
 pub finder_more : (positions : List ℕ) (es now : List Entry) (e : Entry) (count up : ℕ) (cache new : Taken) (notes grown : List (ℕ × Vec ℕ Global)) (note : Option (Vec ℕ Global)) → IsFinder positions es count cache notes
     → now ≡ es ++ e ∷ [] → up ≡ count + 1 → new.choice ≡ cache.choice → ((before : List Entry) → definitions_of before ≡ cache.definitions → definitions_of (before ++ e ∷ []) ≡ new.definitions)
     → notes_in (length es) note ≡ note_of positions es e → map told grown ≡ map told notes ++ notes_in count note → IsFinder positions now up new grown
@@ -117,7 +117,7 @@ pub is_noted : (positions : List ℕ) (es : List Entry) (e : Entry) (count : ℕ
 is_noted positions es e count cache notes text h asked is =
     ap (λ t. (length es, t) ∷ []) (is es h.defined) ∙ sym (ap (λ b. note_if b (length es) (entry_text es e)) (ap (is_asked positions) (sym h.counted) ∙ asked))
 
--- a definition is one of the definitions, and a sample is none
+-- a definition is one of the definitions, and a sample is not
 pub defined_ok : {T E : Type 0} (r : Result T E) (cache new : Taken) (e : Entry) (reference : ℕ) (l : Labels) → e ≡ Def reference l → OnOk r (new ≡ record cache { definitions = cache.definitions ++ Def reference l ∷ [] })
     → OnOk r ((before : List Entry) → definitions_of before ≡ cache.definitions → definitions_of (before ++ e ∷ []) ≡ new.definitions)
 defined_ok (Ok x) cache new e reference l is made =
@@ -162,7 +162,7 @@ sample_said r now old reference t word answer choice before any h said =
     on_ok r now old (sample_text reference t word (standing_in answer)) (entry_text before (Sample reference t word))
     (ap (sample_text reference t word) (h.standing ∙ ap (λ c. known c before reference) any)) said
 
--- the text of labels that are a label set, and of labels that are none
+-- the text of labels that are a label set, and of labels that are not
 pub set_said : {T E : Type 0} (r : Result T E) (now old : List ℕ) (labels set : Labels) → set ≡ labels → label_fault Utf8 labels ≡ None → OnOk r (now ≡ old ++ labels_text set) → OnOk r (now ≡ old ++ set_text labels)
 set_said r now old labels set same sound said =
     on_ok r now old (labels_text set) (set_text labels) (ap labels_text same ∙ sym (ap (λ o. labels_or o labels) sound)) said

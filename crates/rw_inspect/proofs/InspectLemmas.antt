@@ -10,11 +10,10 @@ use Rattle.rw_wal_format.specs.Segments.{Reading, segment}
 use Rattle.rw_wal_format.proofs.Growing.{reading-append}
 use Rattle.rw_wal_format.specs.declared.tail_fault.TailFault.{TailFault}
 use Rattle.rw_wal_tail.specs.Fed.{Fed}
-use Rattle.rw_sender.specs.Feeders.{HasTaken}
-use Rattle.rw_sender.proofs.TailLemmas.{took_again}
+use Rattle.rw_wal_tail.specs.Taking.{HasTaken, HasTakenAll}
 use Rattle.rw_inspect.specs.Counting.{Counted, counts_of}
 use Rattle.rw_inspect.specs.Inspecting.{AreRead, AreRows, IsInspected, IsRead, IsReportOfFirst, IsRow, ReadsFirst, ReadsInto, ReadsSegment, Reports, begun, behind, fault_in, log_of}
-use Rattle.rw_inspect.specs.Reading.{HasTakenAll, ReadsText}
+use Rattle.rw_inspect.specs.Reading.{ReadsText}
 use Rattle.rw_inspect.specs.Sums.{sums_of}
 use Rattle.rw_inspect.specs.Troubles.{not_rising, troubles_of}
 use Rattle.rw_inspect.specs.declared.report.Damage.{Damage}
@@ -46,7 +45,7 @@ rows-push done [] (r ∷ rs) text row h one = absurd h
 rows-push done (t ∷ ts) [] text row h one = absurd h
 rows-push done (t ∷ ts) (r ∷ rs) text row h one = (h.0, rows-push (done ++ t ∷ []) ts rs text row h.1 (subst (λ d. IsRow d text row) (sym (append_assoc done (t ∷ []) ts)) one))
 
--- there are rows where there are texts
+-- there are rows if there are texts
 pub first_row : (texts : List (List ℕ)) (rows : List Segment) (len : ℕ) (b : Bool) → AreRows [] texts rows → len ≡ length rows → b ≡ nat_eq len 0 → b ≡ none_yet texts
 first_row [] [] len b h e is = is ∙ ap (λ n. nat_eq n 0) e
 first_row [] (r ∷ rs) len b h e is = absurd h
@@ -80,8 +79,8 @@ inspected_more texts t new before after rows is_first left found h first r =
           ∙ ap (λ es. es ++ r.more) (h.all.read.all ∙ ap (λ (x : Reading). x.entries) old_read);
       sums_are = r.sums_are;
       passed =
-          ap (λ n. n + found.0.passed) (sym (h.all.passed ∙ ap (λ (x : Reading). x.skipped) old_read)) ∙ r.passed ∙ r.all.passed
-          ∙ ap (λ (x : Reading). x.skipped) new_read;
+          ap (λ ts. length ts + found.0.passed) (sym (h.all.passed ∙ ap (λ (x : Reading). x.skipped) old_read)) ∙ r.passed
+          ∙ ap length (r.all.passed ∙ ap (λ (x : Reading). x.skipped) new_read);
     } in
     record { same = same; all = r.all; rows_are = rows-push [] texts rows text found.0 h.rows_are row }
 
@@ -146,7 +145,7 @@ stops_at_end all rest t counted rows g is =
     )
 
 -- before the first segment
-pub inspected_none : (t : Fed) (counted : Counted) (rows : List Segment) → t ≡ record { pieces = []; given = 0; skipped = 0; fault = None } → counted ≡ record { entries = []; here = [] } → rows ≡ []
+pub inspected_none : (t : Fed) (counted : Counted) (rows : List Segment) → t ≡ record { pieces = []; given = 0; skipped = []; fault = None } → counted ≡ record { entries = []; here = [] } → rows ≡ []
     → IsInspected [] t counted rows None
 unfolding reading segment
 inspected_none t counted rows e c r =
@@ -160,10 +159,10 @@ inspected_none t counted rows e c r =
       rows_are = tt;
     }
 
--- a segment was read behind others
+-- a segment was read after others
 pub reads_segment : (is_first : Bool) (left_before left_after : Option (List ℕ)) (old begun_at new : Fed) (before anew after : Counted) (found : ℕ × Option TailFault) (row : Segment)
     → HasTakenAll old before.entries None → begun_at ≡ record old { pieces = begun is_first old.pieces } → anew ≡ record before { here = [] }
-    → ReadsText left_before left_after begun_at new anew after found → row.bytes ≡ found.0 → row.sums ≡ sums_of after.here → old.skipped + row.passed ≡ new.skipped
+    → ReadsText left_before left_after begun_at new anew after found → row.bytes ≡ found.0 → row.sums ≡ sums_of after.here → length old.skipped + row.passed ≡ length new.skipped
     → ReadsSegment is_first left_before old new before after (row, found.1)
 reads_segment is_first left_before left_after old begun_at new before anew after found row h b a r bytes_are sums_are passed = record {
   text = r.text;
@@ -177,32 +176,27 @@ reads_segment is_first left_before left_after old begun_at new before anew after
   passed = passed;
 }
 
--- where the next segment begins, the entries that were taken are those of the log
-pub begins_next : (is_first : Bool) (old begun_at : Fed) (before anew : Counted) → HasTakenAll old before.entries None → begun_at ≡ record old { pieces = begun is_first old.pieces } → anew ≡ record before { here = [] }
-    → HasTaken begun_at anew.entries
-begins_next is_first old begun_at before anew h b a =
-    let x = extends_begun is_first old.pieces in
-    let entries_now = ap (λ (e : Counted). e.entries) a in
-    rw entries_now (took_again old begun_at before.entries x.more h.taken_all (ap (λ (f : Fed). f.given) b) (ap (λ (f : Fed). entries f.pieces) b ∙ x.entries))
-  where
-    extends_begun : (f : Bool) (ps : List Piece) → Extends (reading page_size ps) (reading page_size (begun f ps))
-    extends_begun true ps = subst (λ qs. Extends (reading page_size ps) (reading page_size qs)) (append-nil ps) (reading-append page_size ps [] (omega arith))
-    extends_begun false ps = reading-append page_size ps (next_segment ∷ []) (omega arith)
+-- where the next segment begins, what was taken is counted
+pub begins_next : (begun_at : Fed) (before anew : Counted) → HasTaken begun_at before.entries → anew ≡ record before { here = [] } → HasTaken begun_at anew.entries
+begins_next begun_at before anew h a = let same = ap (λ (e : Counted). e.entries) a in rw same h
 
 -- records that were passed over stay passed over
 pub passed_grows : (is_first : Bool) (left_before left_after : Option (List ℕ)) (old begun_at new : Fed) (before anew after : Counted) (found : ℕ × Option TailFault)
-    → HasTakenAll old before.entries None → begun_at ≡ record old { pieces = begun is_first old.pieces } → ReadsText left_before left_after begun_at new anew after found → old.skipped ≤ new.skipped
+    → HasTakenAll old before.entries None → begun_at ≡ record old { pieces = begun is_first old.pieces } → ReadsText left_before left_after begun_at new anew after found → length old.skipped ≤ length new.skipped
 passed_grows is_first left_before left_after old begun_at new before anew after found h b r =
     let alike : reading page_size new.pieces ≡ reading page_size (begun is_first old.pieces ++ bytes r.text ∷ []) =
     ap (reading page_size) (sym (append-nil new.pieces)) ∙ r.same [] ∙ ap (λ (x : Fed). reading page_size (x.pieces ++ bytes r.text ∷ [])) b in
     let less = more_passed is_first old.pieces r.text in
     let now : new.skipped ≡ skipped (begun is_first old.pieces ++ bytes r.text ∷ []) = r.all.passed ∙ ap (λ (x : Reading). x.skipped) alike in
-    omega (arith, less, now, h.passed)
+    omega (arith, less, ap length now, ap length h.passed)
   where
-    more_passed : (f : Bool) (ps : List Piece) (text : List ℕ) → skipped ps ≤ skipped (begun f ps ++ bytes text ∷ [])
-    more_passed true ps text = (reading-append page_size ps (bytes text ∷ []) (omega arith)).skipped
+    more_within : (a b : Reading) → Extends a b → length a.skipped ≤ length b.skipped
+    more_within a b x = omega (arith, ap length x.skipped, length-append a.skipped x.more_skipped)
+
+    more_passed : (f : Bool) (ps : List Piece) (text : List ℕ) → length (skipped ps) ≤ length (skipped (begun f ps ++ bytes text ∷ []))
+    more_passed true ps text = more_within _ _ (reading-append page_size ps (bytes text ∷ []) (omega arith))
     more_passed false ps text =
-        subst (λ qs. skipped ps ≤ skipped qs) (sym (append_assoc ps (next_segment ∷ []) (bytes text ∷ []))) (reading-append page_size ps (next_segment ∷ bytes text ∷ []) (omega arith)).skipped
+        subst (λ qs. length (skipped ps) ≤ length (skipped qs)) (sym (append_assoc ps (next_segment ∷ []) (bytes text ∷ []))) (more_within _ _ (reading-append page_size ps (next_segment ∷ bytes text ∷ []) (omega arith)))
 
 -- the fault that was found is that of the log
 found_is : (texts : List (List ℕ)) (t : Fed) (counted : Counted) (rows : List Segment) (found : Option TailFault) → IsInspected texts t counted rows found → found ≡ fault (log_of texts)

@@ -25,7 +25,7 @@ sound_of : (damage : Option Damage) → is_some damage ≡ false → fault_in da
 sound_of None e = refl
 sound_of (Some d) e = let no : true ≡ false = e in absurd cc
 
--- it was written, or a beginning of it
+-- it was written, or a prefix of it
 pub plan_written : (choice : Choice) (lefts : List (Option (List ℕ))) (plan : List ℕ) (damage : Option Damage) (before after : Option (List ℕ)) → IsPlanOf choice lefts plan (fault_in damage) → is_some damage ≡ false
     → Appends before after plan → WritesPlan choice lefts before after
 plan_written choice lefts plan damage before after h none a =

@@ -3,7 +3,7 @@ use Rattle.std.proofs.Common.{◌≡◌, ℕ, List, ◌++◌, cond, Result, Ok, 
 use Rattle.std.specs.Prelude.{is_ok}
 use Rattle.std.specs.Result.{OnOk}
 
--- one more behind those before
+-- one more after those before
 pub more : (a b c t y : List ℕ) → b ≡ a ++ t → c ≡ b ++ y → c ≡ a ++ (t ++ y)
 more a b c t y first then = then ∙ ap (λ l. l ++ y) first ∙ append_assoc a t y
 

@@ -17,12 +17,12 @@ use Rattle.rw_inspect.specs.declared.sums.Sums.{Sums}
 use Rattle.rw_inspect.specs.declared.troubles.Trouble.{Trouble}
 use Rattle.rw_relabel.specs.Choices.{legacy}
 
--- the entries so far, and those of the segment at hand
+-- the entries so far, and those of the current segment
 pub record Counted : Type 0 where
   pub entries : List Entry
   pub here : List Entry
 
--- what is counted of entries; where no rules are given, all label sets are series
+-- what is counted of entries; if no rules are given, all label sets are series
 unfoldable pub counts_of : List Entry → Counts
 counts_of entries = record {
   sums = sums_of entries;
@@ -72,7 +72,8 @@ abbrev pub CanBeNoted : Taken → ℤ → Judged → Type 0
 CanBeNoted cache t (judged.Rising number) = (number < length (series_of cache.choice cache.definitions)) × (is_after (get cache.noted number) t ≡ true)
 CanBeNoted cache t _ = Unit {0}
 
--- a sample was placed: a cache of the entries before it is one with it, and a trouble that it has is one more
+-- a sample was placed: a cache of the entries before it is one with it, and its trouble, if it has
+-- one, is one more
 pub record IsPlaced (cache new : Taken) (troubles now : List (ℕ × Trouble)) (position reference : ℕ) (t : ℤ) : Type 0 where
   pub placed : (before : List Entry) (word : ℕ) → IsCacheOf before cache → position ≡ length before
       → IsCacheOf (before ++ Sample reference t word ∷ []) new × (now ≡ troubles ++ trouble_of before (Sample reference t word))

@@ -19,7 +19,7 @@ use Rattle.rw_inspect.specs.declared.finding.Found.{Found}
 use Rattle.rw_inspect.specs.declared.report.Segment.{Segment}
 use Rattle.rw_types.specs.Gathering.{gather}
 
--- all label sets, with names of any text
+-- all label sets, with any UTF-8 names
 abbrev pub any_names : Choice
 any_names = record { names = Utf8; rules = [] }
 
@@ -50,12 +50,12 @@ unfoldable pub sample_text : ℕ → ℤ → ℕ → Standing → List ℕ
 sample_text reference t word standing =
     codes "sample " ++ decimal reference ++ codes " " ++ signed_decimal t ++ codes " " ++ value_text word ++ codes " " ++ standing_text standing
 
--- an entry, behind these
+-- an entry, after these
 abbrev pub entry_text : List Entry → Entry → List ℕ
 entry_text before (Def reference labels) = series_text reference labels
 entry_text before (Sample reference t word) = sample_text reference t word (known any_names before reference)
 
--- the entry at a position among entries that stand behind others, where there is one
+-- the entry at a position among entries that are after others, if there is one
 abbrev pub text_from : List Entry → List Entry → ℕ → Option (List ℕ)
 text_from before [] n = None
 text_from before (e ∷ es) zero = Some (entry_text before e)
@@ -64,12 +64,13 @@ text_from before (e ∷ es) (suc n) = text_from (before ++ e ∷ []) es n
 abbrev pub text_at : List Entry → ℕ → Option (List ℕ)
 text_at es position = text_from [] es position
 
--- the name of the segment in which a position stands
+-- the name of the segment in which a position is
 abbrev pub name_at : List Segment → ℕ → List ℕ
 name_at [] position = []
 name_at (s ∷ segments) position = if nat_lt position s.sums.entries then string_bytes s.name else name_at segments (position - s.sums.entries)
 
--- the line of a position that is there, by the name of its segment and the text of its entry, and of one that is not
+-- the line of a position that exists, by the name of its segment and the text of its entry, and of
+-- one that does not
 unfoldable pub there_text : ℕ → List ℕ → List ℕ → List ℕ
 there_text position name text = decimal position ++ codes " " ++ name ++ codes " " ++ text ++ codes "\n"
 
@@ -100,7 +101,7 @@ pub record Finds (lefts : List (Option (List ℕ))) (positions : List ℕ) (r : 
 abbrev pub is_asked : List ℕ → ℕ → Bool
 is_asked positions position = list_any (λ p. nat_eq p position) positions
 
--- what is noted of an entry behind others: its text with its position, where that is asked for
+-- what is noted of an entry after others: its text with its position, if that is asked for
 abbrev pub note_if : Bool → ℕ → List ℕ → List (ℕ × List ℕ)
 note_if true position text = (position, text) ∷ []
 note_if false position text = []
@@ -128,7 +129,7 @@ pub record IsFinder (positions : List ℕ) (es : List Entry) (count : ℕ) (cach
   pub defined : definitions_of es ≡ cache.definitions
   pub noted : map told notes ≡ gather (note_of positions) es
 
--- the positions, all entries so far, and those of the segment at hand
+-- the positions, all entries so far, and those of the current segment
 pub record Finding : Type 0 where
   pub positions : Vec ℕ Global
   pub entries : List Entry

@@ -6,7 +6,7 @@ use Rattle.rw_wal_format.specs.Pieces.{Piece, bytes, next_segment, entries, faul
 use Rattle.rw_wal_format.specs.declared.tail_fault.TailFault.{TailFault}
 use Rattle.rw_wal_tail.specs.Fed.{Fed}
 use Rattle.rw_inspect.specs.Counting.{Counted, counts_of}
-use Rattle.rw_inspect.specs.Reading.{HasTakenAll}
+use Rattle.rw_wal_tail.specs.Taking.{HasTakenAll}
 use Rattle.rw_inspect.specs.Sums.{sums_of}
 use Rattle.rw_inspect.specs.Troubles.{not_rising, troubles_of}
 use Rattle.rw_inspect.specs.declared.segments.Named.{Named}
@@ -14,7 +14,7 @@ use Rattle.rw_inspect.specs.declared.report.Damage.{Damage}
 use Rattle.rw_inspect.specs.declared.report.Report.{Report}
 use Rattle.rw_inspect.specs.declared.report.Segment.{Segment}
 
--- what is said of the source of a named segment
+-- what the source of a named segment has left
 abbrev pub source_of : {S : Type 0} {X : Type 0} → (S → X) → Named S → X
 source_of f n = f n.source
 
@@ -23,7 +23,7 @@ abbrev pub AllSure : List Bool → Type 0
 AllSure [] = ⊤
 AllSure (sure ∷ more) = (sure ≡ true) × AllSure more
 
--- a source that has this left is read to its end, and gives this text
+-- a source that has this left is read to its end, and returns this text
 abbrev pub IsRead : Option (List ℕ) → List ℕ → Type 0
 IsRead left text = (after : Option (List ℕ)) × Consumes left after text × IsAtEnd after
 
@@ -33,7 +33,7 @@ AreRead lefts [] = ⊤
 AreRead [] (text ∷ texts) = ⊥
 AreRead (left ∷ lefts) (text ∷ texts) = IsRead left text × AreRead lefts texts
 
--- the same, and where no fault was found they are those of all
+-- the same, and if no fault was found they are those of all
 pub record ReadsFirst (lefts : List (Option (List ℕ))) (texts : List (List ℕ)) (found : Option TailFault) : Type 0 where
   pub read : AreRead lefts texts
   pub whole : found ≡ None → length texts ≡ length lefts
@@ -46,13 +46,14 @@ abbrev pub log_of : List (List ℕ) → List Piece
 log_of [] = []
 log_of (text ∷ texts) = bytes text ∷ flat_map behind texts
 
--- What is found in a segment behind others: its bytes, the entries that it adds to the log, and the records passed over in it.
+-- What is found in a segment after others: its bytes, the entries that it adds to the log, and the
+-- records skipped in it.
 pub record IsRow (done : List (List ℕ)) (text : List ℕ) (row : Segment) : Type 0 where
   pub length_is : row.bytes ≡ length text
   pub more : List Entry
   pub adds : entries (log_of (done ++ text ∷ [])) ≡ entries (log_of done) ++ more
   pub sums_are : row.sums ≡ sums_of more
-  pub passed : skipped (log_of done) + row.passed ≡ skipped (log_of (done ++ text ∷ []))
+  pub passed : length (skipped (log_of done)) + row.passed ≡ length (skipped (log_of (done ++ text ∷ [])))
 
 -- one row for each segment, in order
 abbrev pub AreRows : List (List ℕ) → List (List ℕ) → List Segment → Type 0
@@ -66,7 +67,7 @@ pub record IsInspected (texts : List (List ℕ)) (t : Fed) (counted : Counted) (
   pub all : HasTakenAll t counted.entries found
   pub rows_are : AreRows [] texts rows
 
--- where the next segment begins
+-- the pieces when the next segment begins
 abbrev pub begun : Bool → List Piece → List Piece
 begun true pieces = pieces
 begun false pieces = pieces ++ next_segment ∷ []
@@ -81,7 +82,7 @@ pub record ReadsSegment (is_first : Bool) (left : Option (List ℕ)) (t new : Fe
   pub more : List Entry
   pub adds : after.entries ≡ before.entries ++ more
   pub sums_are : found.0.sums ≡ sums_of more
-  pub passed : t.skipped + found.0.passed ≡ new.skipped
+  pub passed : length t.skipped + found.0.passed ≡ length new.skipped
 
 -- the fault of a damage
 abbrev pub fault_in : Option Damage → Option TailFault
@@ -95,14 +96,16 @@ pub record IsReportOf (texts : List (List ℕ)) (r : Report) : Type 0 where
   pub first_are : r.first_not_rising.items ≡ take 10 (not_rising (troubles_of (entries (log_of texts))))
   pub fault_is : fault_in r.damage ≡ fault (log_of texts)
 
--- The report of the first segments of these sources, up to the end of one with a fault; of all where there is none.
+-- The report of the first segments of these sources, up to the end of one with a fault, or of all
+-- if there is no fault.
 pub record IsReportOfFirst (lefts : List (Option (List ℕ))) (r : Report) : Type 0 where
   pub texts : List (List ℕ)
   pub read : ReadsFirst lefts texts (fault (log_of texts))
   pub report : IsReportOf texts r
 
--- The first segments of these sources were read, up to the end of one with a fault, or all: what was taken are the entries of their log,
--- each row is what was found in a segment, and the fault is that of the log.
+-- The first segments of these sources were read, up to the end of one with a fault, or all: what
+-- was taken are the entries of their log, each row is what was found in a segment, and the fault is
+-- that of the log.
 pub record ReadsInto (lefts : List (Option (List ℕ))) (taken : List Entry) (rows : List Segment) (found : Option TailFault) : Type 0 where
   pub texts : List (List ℕ)
   pub read : ReadsFirst lefts texts found

@@ -2,35 +2,20 @@
 use Rattle.std.specs.Prelude.{◌≡◌, ℕ, List, [], ◌∷◌, ◌++◌, length, Option}
 use Rattle.std.specs.Io.KnownBytes.{Consumes, IsAtEnd}
 use Rattle.rw_types.specs.declared.entry.Entry.{Entry}
-use Rattle.rw_wal_format.specs.Pieces.{Piece, bytes, entries, page_size, reading, skipped}
+use Rattle.rw_wal_format.specs.Pieces.{Piece, bytes, entries, page_size, reading}
 use Rattle.rw_wal_format.specs.declared.tail_fault.TailFault.{TailFault}
 use Rattle.rw_wal_tail.specs.Fed.{Fed}
-use Rattle.rw_sender.specs.Feeders.{HasRead, HasTaken}
+use Rattle.rw_wal_tail.specs.Taking.{HasTaken, HasTakenAll}
 use Rattle.rw_inspect.specs.Counting.{Counted}
 use Rattle.rw_inspect.specs.declared.reading.Next.{Next}
 use Rattle.rw_inspect.specs.declared.reading.Next.TheVariants as next
 
--- one more entry of the same pieces was given
-pub record Gives (e : Entry) (old new : Fed) : Type 0 where
-  pub fed : new.pieces ≡ old.pieces
-  pub has : (taken : List Entry) → HasTaken old taken → HasTaken new (taken ++ e ∷ [])
+-- what was taken when this came: one entry more, or all that there are
+abbrev pub ComesNext : List Entry → Fed → Next → Type 0
+ComesNext taken new (next.Entry e) = HasTaken new (taken ++ e ∷ [])
+ComesNext taken new (next.End found) = HasTakenAll new taken found
 
--- all entries were taken, with this fault behind them, if there is one
-pub record HasTakenAll (t : Fed) (taken : List Entry) (found : Option TailFault) : Type 0 where
-  pub taken_all : HasTaken t taken
-  pub read : HasRead t.pieces taken found
-  pub passed : t.skipped ≡ skipped t.pieces
-
--- no entry was left
-pub record Ends (found : Option TailFault) (old new : Fed) : Type 0 where
-  pub fed : new.pieces ≡ old.pieces
-  pub all : (taken : List Entry) → HasTaken old taken → HasTakenAll new taken found
-
-abbrev pub ComesNext : Fed → Fed → Next → Type 0
-ComesNext old new (next.Entry e) = Gives e old new
-ComesNext old new (next.End found) = Ends found old new
-
--- entries were counted, of the segment at hand
+-- entries were counted, of the current segment
 pub record Grows (old new : Counted) : Type 0 where
   pub more : List Entry
   pub entries_are : new.entries ≡ old.entries ++ more
@@ -42,14 +27,13 @@ pub record TakesAll (t new : Fed) (before after : Counted) (found : Option TailF
   pub all : HasTakenAll new after.entries found
   pub grows : Grows before after
 
--- one more piece of so many bytes was read and fed
+-- one more piece of this many bytes was read and fed
 pub record FeedsMore (left_before left_after : Option (List ℕ)) (before after : Fed) (n : ℕ) : Type 0 where
   pub text : List ℕ
   pub read : Consumes left_before left_after text
   pub counted : n ≡ length text
   pub fed : after ≡ record before { pieces = before.pieces ++ bytes text ∷ [] }
-  pub more : List Entry
-  pub goes_on : entries after.pieces ≡ entries before.pieces ++ more
+  pub still : (taken : List Entry) → HasTaken before taken → HasTaken after taken
 
 -- pieces, whatever comes after them, are read as earlier ones and this text
 abbrev pub AreFed : List Piece → List ℕ → List Piece → Type 0

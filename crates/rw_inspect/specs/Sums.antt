@@ -1,4 +1,4 @@
--- What entries of a log add up to.
+-- The totals of entries of a log.
 use Rattle.std.specs.Prelude.{◌+◌, ℤ, List, Option, None, Some, fold, int_lt, if◌then◌else◌}
 use Rattle.rw_types.specs.declared.entry.Entry.{Entry}
 use Rattle.rw_types.specs.declared.entry.Entry.TheVariants.{Def, Sample}
@@ -13,15 +13,15 @@ abbrev pub later : Option ℤ → ℤ → Option ℤ
 later None t = Some t
 later (Some latest) t = if int_lt t latest then Some latest else Some t
 
--- the sums of no entry
+-- the totals of an empty log
 abbrev pub no_sums : Sums
 no_sums = record { entries = 0; series = 0; samples = 0; earliest = None; latest = None }
 
--- an entry more
+-- one more entry
 abbrev pub with_entry : Sums → Entry → Sums
 with_entry s (Def reference labels) = record s { entries = s.entries + 1; series = s.series + 1 }
 with_entry s (Sample reference t word) = record s { entries = s.entries + 1; samples = s.samples + 1; earliest = sooner s.earliest t; latest = later s.latest t }
 
--- the sums of entries
+-- the totals of entries
 unfoldable pub sums_of : List Entry → Sums
 sums_of entries = fold with_entry no_sums entries

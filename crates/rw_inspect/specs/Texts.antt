@@ -15,11 +15,11 @@ use Rattle.rw_inspect.specs.declared.sums.Sums.{Sums}
 abbrev pub right_text : ℕ → List ℕ → List ℕ
 right_text width text = take (width - length text) (codes "                        ") ++ text
 
--- a number behind its name
+-- a number after its name
 unfoldable pub field_text : List ℕ → ℕ → List ℕ
 field_text name n = name ++ decimal n
 
--- a timestamp, or what stands for none
+-- a timestamp, or the text for its absence
 abbrev pub time_text : List ℕ → Option ℤ → List ℕ
 time_text none None = none
 time_text none (Some t) = signed_decimal t
@@ -38,11 +38,11 @@ escaped b =
 unfoldable pub quoted : List ℕ → List ℕ
 quoted text = 34 ∷ flat_map escaped text ++ 34 ∷ []
 
--- one behind its name
+-- one after its name
 unfoldable pub quoted_field : List ℕ → List ℕ → List ℕ
 quoted_field name text = name ++ quoted text
 
--- what is said of a fault
+-- the text about a fault
 abbrev pub fault_words : TailFault → List ℕ
 fault_words tail.OutOfMemory = codes "out of memory"
 fault_words tail.BadType = codes "no fragment has this type byte"
@@ -61,7 +61,7 @@ next_step tail.Compressed = codes "let Prometheus write its log with --no-storag
 next_step tail.TornSegment = codes "copy the segment again, or let Prometheus repair the log as it starts; send ships what stands before the fault"
 next_step f = codes "copy the segment again and compare; send ships what stands before the fault, and nothing behind it"
 
--- how many pages so many bytes take
+-- how many pages this many bytes take
 abbrev pub pages_of : ℕ → ℕ
 pages_of n = if n % 32768 == 0 then n / 32768 else n / 32768 + 1
 
@@ -125,7 +125,7 @@ abbrev pub placed : (Segment → ℕ → List ℕ) → List Segment → Option F
 placed text segments None = []
 placed text segments (Some p) = any_spot text (slice_get segments p.segment) p.offset
 
--- a fault, where it stands, and what to do next
+-- a fault, where it is, and what to do next
 unfoldable pub damage_text : List Segment → Damage → List ℕ
 damage_text segments d =
     codes "fault: " ++ fault_words d.fault ++ codes "\n" ++ placed spot_text segments d.place ++ codes "next: " ++ next_step d.fault ++ codes "\n"

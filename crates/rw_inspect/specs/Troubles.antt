@@ -9,8 +9,9 @@ use Rattle.rw_inspect.specs.declared.troubles.Trouble.TheVariants.{NoSeries, Bad
 use Rattle.rw_relabel.specs.Choices.{legacy}
 use Rattle.rw_types.specs.Gathering.{gather}
 
--- A sample after these entries, of whose reference this is known: its reference has no definition before it, or one whose labels are no
--- label set, or an earlier sample of its label set has the same timestamp or a later one. No rules are asked.
+-- A sample after these entries, of whose reference this is known: its reference has no definition
+-- before it, or one whose labels are not a label set, or an earlier sample of its label set has the
+-- same timestamp or a later one. No rules are evaluated.
 abbrev pub trouble_as : List Entry → ℤ → Standing → List (ℕ × Trouble)
 trouble_as before t Unknown = (length before, NoSeries) ∷ []
 trouble_as before t (Bad f) = (length before, BadLabels) ∷ []

@@ -1,4 +1,4 @@
-//! The entries of a log, counted one after the other.
+//! Counts the entries of a log, one after the other.
 
 ghost use Rattle.std.specs.Prelude.{◌≡◌, ◌++◌, ◌∷◌, [], take, OnOk, OnErr};
 ghost use Rattle.rw_inspect.specs.Counting.{counts_of, CanBeNoted, IsJudged, IsPlaced};
@@ -24,7 +24,8 @@ pub(crate) enum Judged {
     Rising(u64),
 }
 
-/// Counts the entries of a log. It keeps no sample. Contracts see all entries so far, and those of the segment at hand.
+/// Counts the entries of a log. It keeps no sample. Contracts see all entries so far, and those of
+/// the current segment.
 #[derive(Drop)]
 pub struct Counter {
     taken: History<Entry>,
@@ -48,7 +49,7 @@ impl Model for Counter {
         c.troubles };
 }
 
-/// What becomes of a sample with this reference and timestamp, where all label sets are kept.
+/// Returns what becomes of a sample with this reference and timestamp, if all label sets are kept.
 fn judge(cache: &Cache, reference: u64, t: i64) -> Judged
     ensures judged { IsJudged cache.now reference t result }
     ensures noted { CanBeNoted cache.now t result }
@@ -67,7 +68,7 @@ fn judge(cache: &Cache, reference: u64, t: i64) -> Judged
     }
 }
 
-/// Places the sample at a position: it is noted where it rises.
+/// Places the sample at a position: it is noted if it is later than those before it.
 fn place(
     cache: &mut Cache,
     troubles: &mut Troubles,
@@ -90,7 +91,7 @@ fn place(
 }
 
 impl Counter {
-    /// Before the first entry. This takes no memory.
+    /// Returns a counter before the first entry. This takes no memory.
     pub fn new(alloc: Global) -> Counter
         ensures { result ≡ record { entries = []; here = [] } }
     {
@@ -139,7 +140,7 @@ impl Counter {
         Ok(())
     }
 
-    /// The next segment begins.
+    /// Begins the next segment.
     pub fn next_segment(&mut self)
         ensures { self.new ≡ record self.old { here = [] } }
     {
@@ -147,14 +148,14 @@ impl Counter {
         self.sums_here = Sums::new();
     }
 
-    /// What the entries of the segment at hand add up to.
+    /// Returns the totals of the entries of the current segment.
     pub fn sums_here(&self) -> Sums
         ensures { result ≡ sums_of self.now.here }
     {
         self.sums_here
     }
 
-    /// What is counted of all entries.
+    /// Returns what is counted of all entries.
     pub fn counts(&self) -> Counts
         ensures { result ≡ counts_of self.now.entries }
     {
@@ -167,7 +168,8 @@ impl Counter {
         }
     }
 
-    /// The positions of the first ten samples that do not rise.
+    /// Returns the positions of the first ten samples that are not later than the last one of their
+    /// series.
     pub fn first_not_rising(&self) -> &[u64]
         ensures { result.now ≡ take 10 (not_rising (troubles_of self.now.entries)) }
     {

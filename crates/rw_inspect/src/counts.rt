@@ -10,8 +10,8 @@ pub struct Counts {
     pub label_sets: u64,
     /// Samples without a definition of their reference before them.
     pub without_series: u64,
-    /// Samples whose labels are no label set.
+    /// Samples whose labels are not a label set.
     pub bad_labels: u64,
-    /// Samples that do not rise: an earlier sample of the label set has the same timestamp or a later one.
+    /// Samples that are not later than an earlier one of their label set.
     pub not_rising: u64,
 }

@@ -32,7 +32,7 @@ pub struct Found {
     pub damage: Option<Damage>,
 }
 
-/// All label sets, with names of any text.
+/// Returns the choice of all label sets, with any UTF-8 names.
 fn any_names(alloc: Global) -> Choice
     ensures { result ≡ any_names }
 {
@@ -112,7 +112,7 @@ fn push_sample(
     push_known(out, known)
 }
 
-/// Adds an entry that stands behind those of the cache.
+/// Adds an entry that is after those of the cache.
 fn push_entry(
     out: &mut Vec<u8>,
     alloc: Global,
@@ -131,7 +131,7 @@ fn push_entry(
     }
 }
 
-/// The text that is noted of a position.
+/// Returns the text that is noted for a position.
 fn text_noted<'a>(notes: &'a [(u64, Vec<u8>)], position: u64) -> Option<&'a [u8]>
     ensures { MatchOption result (noted_at (map told notes.now) position
         ≡ None) (λ text. noted_at (map told notes.now) position ≡ Some text.now) }
@@ -144,7 +144,7 @@ fn text_noted<'a>(notes: &'a [(u64, Vec<u8>)], position: u64) -> Option<&'a [u8]
     None
 }
 
-/// The name of the segment in which a position stands.
+/// Returns the name of the segment in which a position is.
 fn name_at<'a>(segments: &'a [Segment], position: u64) -> &'a str
     ensures { result.now ≡ name_at segments.now position }
 {
@@ -158,7 +158,7 @@ fn name_at<'a>(segments: &'a [Segment], position: u64) -> &'a str
     ""
 }
 
-/// Adds the line of a position that is there.
+/// Adds the line of a position that exists.
 #[tactic(auto, unfolding(crate::specs::Finding::there_text))]
 fn push_there(out: &mut Vec<u8>, position: u64, name: &str, text: &[u8]) -> Result<(), AllocError>
     ensures { OnOk result (out.new.items ≡ out.old.items ++ there_text position name.now text.now) }
@@ -171,7 +171,7 @@ fn push_there(out: &mut Vec<u8>, position: u64, name: &str, text: &[u8]) -> Resu
     out.extend_from_slice(b"\n")
 }
 
-/// Adds the line of a position that is not there.
+/// Adds the line of a position that does not exist.
 #[tactic(auto, unfolding(crate::specs::Finding::not_there_text))]
 fn push_not_there(out: &mut Vec<u8>, position: u64) -> Result<(), AllocError>
     ensures { OnOk result (out.new.items ≡ out.old.items ++ not_there_text position) }
@@ -180,7 +180,7 @@ fn push_not_there(out: &mut Vec<u8>, position: u64) -> Result<(), AllocError>
     out.extend_from_slice(b" is not there\n")
 }
 
-/// Takes the definition of an entry, where it is one.
+/// Takes the definition of an entry, if it is one.
 fn define(cache: &mut Cache, entry: Entry) -> Result<(), AllocError>
     ensures choice { OnOk result (cache.new.choice ≡ cache.old.choice) }
     ensures defined { OnOk result
@@ -194,7 +194,7 @@ fn define(cache: &mut Cache, entry: Entry) -> Result<(), AllocError>
     }
 }
 
-/// Adds the text of an entry, where there is one. This takes no memory.
+/// Adds the text of an entry, if there is one. This takes no memory.
 fn add_note(notes: &mut Vec<(u64, Vec<u8>)>, position: u64, note: Option<Vec<u8>>)
     requires { vec_len notes.old < vec_capacity notes.old }
     ensures { map told notes.new.items ≡ map told notes.old.items ++ notes_in position note }
@@ -204,7 +204,8 @@ fn add_note(notes: &mut Vec<(u64, Vec<u8>)>, position: u64, note: Option<Vec<u8>
     }
 }
 
-/// Notes the entries at some positions of a log. Contracts see the positions, all entries so far, and those of the segment at hand.
+/// Notes the entries at some positions of a log. Contracts see the positions, all entries so far,
+/// and those of the current segment.
 #[derive(Drop)]
 struct Finder {
     alloc: Global,
@@ -229,7 +230,7 @@ impl Model for Finder {
 }
 
 impl Finder {
-    /// Before the first entry.
+    /// Returns a finder before the first entry.
     fn new(alloc: Global, positions: Vec<u64>) -> Finder
         ensures { result ≡ record { positions = positions; entries = []; here = [] } }
     {
@@ -244,7 +245,7 @@ impl Finder {
         }
     }
 
-    /// The text of the next entry, where its position is asked for.
+    /// Returns the text of the next entry, if its position is asked for.
     fn note_of(&self, entry: &Entry) -> Result<Option<Vec<u8>>, AllocError>
         ensures { IfOk result (λ note. notes_in (length self.now.entries) note
             ≡ note_of self.now.positions.items self.now.entries entry.now) }
@@ -257,7 +258,7 @@ impl Finder {
         Ok(Some(text))
     }
 
-    /// Adds the line of a position, and answers whether it has an entry.
+    /// Adds the line of a position, and returns whether it has an entry.
     fn push_line(
         &self,
         out: &mut Vec<u8>,
@@ -282,7 +283,7 @@ impl Finder {
         }
     }
 
-    /// The lines of all positions, and how many of them have no entry.
+    /// Returns the lines of all positions, and how many of them have no entry.
     fn lines(&self, segments: &[Segment]) -> Result<(Vec<u8>, u64), AllocError>
         ensures text { IfOk result (λ found. found.0.items
             ≡ flat_map (position_text segments.now self.now.entries) self.now.positions.items) }
@@ -330,10 +331,12 @@ impl Taker for Finder {
     }
 }
 
-/// Reads the segments of a log in order, to the end of the last one or of the first one with a fault, and prints for each position, in their order,
-/// the entry there: `POS SEGMENT series REF LABELS`, or `POS SEGMENT sample REF T VALUE LABELS` with the label set that its reference
-/// stands for there, each line ended by LF. `bad FAULT` stands for labels that are no label set, whatever names are taken, `noseries` for
-/// those of a reference without a definition before it, and `POS is not there` where there is no entry.
+/// Reads the segments of a log in order, to the end of the last one or of the first one with a
+/// fault, and returns for each position, in the order given, a line for the entry there: `POS
+/// SEGMENT series REF LABELS`, or `POS SEGMENT sample REF T VALUE LABELS` with the label set that
+/// its reference stands for there, each line ended by LF. `bad FAULT` stands for labels that are
+/// not a label set, whatever names are accepted, `noseries` for those of a reference without a
+/// definition before it, and `POS is not there` if there is no entry.
 pub fn find_entries<S: Source + Drop>(
     alloc: Global,
     segments: Vec<Named<S>>,
@@ -343,7 +346,11 @@ pub fn find_entries<S: Source + Drop>(
     ensures sure { AllSure (map (source_of S.is_sure) segments.items) → result ≡ Err Failed → ⊥ }
 {
     let mut finder = Finder::new(alloc, positions);
-    let LogRead { segments, damage } = read_into(alloc, segments, &mut finder)?;
+    let LogRead {
+        segments,
+        damage,
+        skipped: _,
+    } = read_into(alloc, segments, &mut finder)?;
     let (text, missing) = finder.lines(&segments)?;
     Ok(Found {
         text,

@@ -1,4 +1,4 @@
-//! The entries of the segment at hand, added up.
+//! The totals of the entries of the current segment.
 
 ghost use Rattle.std.specs.Prelude.{◌≡◌, ◌++◌, ◌∷◌, [], OnOk, OnErr};
 ghost use Rattle.rw_inspect.specs.Sums.{sums_of};
@@ -9,7 +9,7 @@ use rw_types::Entry;
 use std::alloc::AllocError;
 use std::marker::Model;
 
-/// What the entries of the segment at hand add up to. Contracts see the entries.
+/// The totals of the entries of the current segment. Contracts see the entries.
 #[derive(Drop)]
 pub(crate) struct Here {
     entries: History<Entry>,
@@ -29,7 +29,7 @@ impl Model for Here {
 }
 
 impl Here {
-    /// Before the first entry.
+    /// Returns the totals before the first entry.
     pub(crate) fn new() -> Here
         ensures { result ≡ [] }
     {
@@ -49,7 +49,7 @@ impl Here {
         Ok(())
     }
 
-    /// What they add up to.
+    /// Returns the totals.
     pub(crate) fn sums(&self) -> Sums
         ensures { result ≡ sums_of self.now }
     {

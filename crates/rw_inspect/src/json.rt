@@ -1,4 +1,4 @@
-//! A report as JSON (RFC 8259), one object a line.
+//! Prints a report as JSON (RFC 8259), one object a line.
 
 ghost use Rattle.std.specs.Prelude.{◌≡◌, ◌++◌, OnOk, IfOk, flat_map};
 ghost use Rattle.rw_inspect.specs.Texts.{any_damage, counted_json, damage_json, dropped_json, first_json, found_json, listed, measures_json, name_json, next_json, next_step, placed, report_json, said_json, segment_json, sizes_json, spot_json, sums_json, totals_json};
@@ -107,7 +107,7 @@ fn push_dropped(out: &mut Vec<u8>, counts: &Counts) -> Result<(), AllocError>
     push_field(out, b",\"not_rising\":", counts.not_rising)
 }
 
-/// Adds the first positions of samples that do not rise.
+/// Adds the first positions of samples that are not later than the last one of their series.
 #[tactic(auto, unfolding(crate::specs::Texts::first_json))]
 fn push_first(out: &mut Vec<u8>, first: &[u64]) -> Result<(), AllocError>
     ensures { OnOk result (out.new.items ≡ out.old.items ++ first_json first.now) }
@@ -153,7 +153,7 @@ fn push_spot(out: &mut Vec<u8>, segment: &Segment, offset: u64) -> Result<(), Al
     push_field(out, b",\"behind\":", segment.bytes.saturating_sub(offset))
 }
 
-/// Adds where a fault stands.
+/// Adds the place of a fault.
 fn push_place(
     out: &mut Vec<u8>,
     segments: &[Segment],
@@ -179,7 +179,7 @@ fn push_said(out: &mut Vec<u8>, fault: TailFault) -> Result<(), AllocError>
     push_quoted_field(out, b"{\"type\":\"fault\",\"fault\":", words.as_bytes())
 }
 
-/// Adds a text as what to do next.
+/// Adds a text as the next step.
 #[tactic(auto, unfolding(crate::specs::Texts::next_json))]
 fn push_next(out: &mut Vec<u8>, text: &str) -> Result<(), AllocError>
     ensures { OnOk result (out.new.items ≡ out.old.items ++ next_json text.now) }
@@ -188,7 +188,7 @@ fn push_next(out: &mut Vec<u8>, text: &str) -> Result<(), AllocError>
     out.extend_from_slice(b"}\n")
 }
 
-/// Adds what to do next.
+/// Adds the next step.
 fn push_advice(out: &mut Vec<u8>, fault: TailFault) -> Result<(), AllocError>
     ensures { OnOk result (out.new.items ≡ out.old.items ++ next_json (next_step fault)) }
 {
@@ -220,7 +220,7 @@ fn push_any_damage(
     }
 }
 
-/// A report as JSON: a line for each segment, one for all, and one for a fault.
+/// Returns a report as JSON: a line for each segment, one for all, and one for a fault.
 #[tactic(auto, unfolding(crate::specs::Texts::report_json))]
 pub fn json_of(alloc: Global, report: &Report) -> Result<Vec<u8>, AllocError>
     ensures { IfOk result (λ text. text.items ≡ report_json report.now) }

@@ -1,4 +1,5 @@
-//! What a log holds, counted: series, samples, timestamps, and the samples that a sender would drop.
+//! What a log holds, counted: series, samples, timestamps, and the samples that a sender would
+//! drop.
 #![tactic(auto)]
 
 mod counter;
@@ -12,6 +13,7 @@ mod reading;
 mod report;
 mod segments;
 mod sizes;
+mod skipped;
 mod sums;
 mod table;
 mod taker;
@@ -25,6 +27,7 @@ pub use json::json_of;
 pub use planning::plan_segments;
 pub use report::{Damage, Report, Segment};
 pub use segments::{LogRead, Named, inspect, read_into};
+pub use skipped::SkippedRecords;
 pub use sums::Sums;
 pub use table::table_of;
 pub use taker::Taker;

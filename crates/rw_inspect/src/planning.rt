@@ -1,4 +1,4 @@
-//! The plan of a log that stands in several segments.
+//! The plan of a log that is in several segments.
 
 ghost use Rattle.std.specs.Prelude.{◌≡◌, ◌⊎◌, [], map, true, false, Ok, Err, None, Some, IfOk, OnOk};
 ghost use Rattle.rw_types.specs.declared.transfer.ReadFault.TheVariants.{OutOfMemory, Failed};
@@ -44,7 +44,7 @@ impl Taker for Planning {
     }
 }
 
-/// Reads the segments of a log in order, and answers their plan, or the fault of the log.
+/// Reads the segments of a log in order, and returns their plan, or the fault of the log.
 fn plan_of_all<S: Source + Drop>(
     alloc: Global,
     choice: Choice,
@@ -62,14 +62,16 @@ fn plan_of_all<S: Source + Drop>(
     let LogRead {
         segments: _,
         damage,
+        skipped: _,
     } = read_into(alloc, segments, &mut planning)?;
     let Planning { planner, here: _ } = planning;
     Ok((planner.into_text()?, damage))
 }
 
-/// Reads the segments of a log in order, to the end of the last one, and writes what the rules make of its entries: for each
-/// definition in log order `REF kept NUMBER LABELS`, `REF filtered LABELS` or `REF bad FAULT`, and then
-/// `samples kept A filtered B bad C noseries D`, each line ended by LF. Where the log has a fault, nothing is written, and the answer is its damage.
+/// Reads the segments of a log in order, to the end of the last one, and writes what the rules make
+/// of its entries: for each definition in log order `REF kept NUMBER LABELS`, `REF filtered LABELS`
+/// or `REF bad FAULT`, and then `samples kept A filtered B bad C noseries D`, each line ended by
+/// LF. If the log has a fault, nothing is written, and the result is its damage.
 pub fn plan_segments<S: Source + Drop, W: Sink>(
     alloc: Global,
     choice: Choice,
@@ -82,12 +84,12 @@ pub fn plan_segments<S: Source + Drop, W: Sink>(
     ensures sound { OnOk result
         (W.has_failed writer.old ≡ false → W.has_failed writer.new ≡ false) }
 
-    // A fault is the one that the log has, and nothing is written then, or where memory ran out.
+    // A fault is the one that the log has. Then nothing is written, nor if memory ran out.
     ensures damaged { IfOk result (λ damage. (f : TailFault) → fault_in damage ≡ Some f
         → ReadsToFault (map (source_of S.remaining) segments.items) f × (writer.new ≡ writer.old)) }
     ensures memory { result ≡ Err OutOfMemory → writer.new ≡ writer.old }
 
-    // Where a device fails, the writer holds a beginning of the plan.
+    // If a device fails, the writer holds a prefix of the plan.
     ensures device { result ≡ Err Failed
         → ((AllSure (map (source_of S.is_sure) segments.items) → ⊥) × (writer.new ≡ writer.old))
         ⊎ ((W.has_failed writer.new ≡ true)

@@ -28,7 +28,7 @@ pub(crate) fn push_right_number(out: &mut Vec<u8>, width: usize, n: u64) -> Resu
     push_right(out, width, buffer.format(n).as_bytes())
 }
 
-/// Adds a timestamp at the right end of a column; a dash where there is none.
+/// Adds a timestamp at the right end of a column; a dash if there is none.
 pub(crate) fn push_right_time(
     out: &mut Vec<u8>,
     width: usize,
@@ -45,7 +45,7 @@ pub(crate) fn push_right_time(
     }
 }
 
-/// Adds a number behind its name.
+/// Adds a number after its name.
 #[tactic(auto, unfolding(crate::specs::Texts::field_text))]
 pub(crate) fn push_field(out: &mut Vec<u8>, name: &[u8], n: u64) -> Result<(), AllocError>
     ensures { OnOk result (out.new.items ≡ out.old.items ++ field_text name.now n) }
@@ -54,7 +54,7 @@ pub(crate) fn push_field(out: &mut Vec<u8>, name: &[u8], n: u64) -> Result<(), A
     push_number(out, n)
 }
 
-/// Adds a timestamp, or `null` where there is none.
+/// Adds a timestamp, or `null` if there is none.
 fn push_time(out: &mut Vec<u8>, time: Option<i64>) -> Result<(), AllocError>
     ensures { OnOk result (out.new.items ≡ out.old.items ++ time_text (codes "null") time) }
 {
@@ -64,7 +64,7 @@ fn push_time(out: &mut Vec<u8>, time: Option<i64>) -> Result<(), AllocError>
     }
 }
 
-/// Adds a timestamp behind its name.
+/// Adds a timestamp after its name.
 #[tactic(auto, unfolding(crate::specs::Texts::time_json))]
 pub(crate) fn push_time_field(
     out: &mut Vec<u8>,
@@ -77,7 +77,7 @@ pub(crate) fn push_time_field(
     push_time(out, time)
 }
 
-/// The hexadecimal digit of a number below 16.
+/// Returns the hexadecimal digit of a number below 16.
 fn digit(n: u8) -> u8
     requires { n < 16 }
     ensures { result ≡ digit n }
@@ -120,7 +120,7 @@ fn push_quoted(out: &mut Vec<u8>, text: &[u8]) -> Result<(), AllocError>
     out.extend_from_slice(b"\"")
 }
 
-/// Adds a JSON string behind its name.
+/// Adds a JSON string after its name.
 #[tactic(auto, unfolding(crate::specs::Texts::quoted_field))]
 pub(crate) fn push_quoted_field(
     out: &mut Vec<u8>,
@@ -133,7 +133,7 @@ pub(crate) fn push_quoted_field(
     push_quoted(out, text)
 }
 
-/// Adds numbers, each behind a separator.
+/// Adds numbers, each after a separator.
 pub(crate) fn push_numbers(
     out: &mut Vec<u8>,
     separator: &[u8],

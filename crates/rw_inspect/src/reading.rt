@@ -1,9 +1,10 @@
 //! A segment, read to its end.
 
-ghost use Rattle.std.specs.Prelude.{◌≡◌, ◌<◌, ◌+◌, ℕ, [], length, true, Err, Ok, Some, None, IfOk, OnOk};
+ghost use Rattle.std.specs.Prelude.{◌≡◌, ◌<◌, ◌+◌, ℕ, List, [], length, true, Err, Ok, Some, None, IfOk, OnOk};
 ghost use Rattle.std.specs.Io.KnownBytes.{Consumes, IsAtEnd};
 ghost use Rattle.rw_types.specs.declared.transfer.ReadFault.TheVariants.{Failed};
-ghost use Rattle.rw_sender.specs.Feeders.{HasTaken};
+ghost use Rattle.rw_types.specs.declared.entry.Entry.{Entry};
+ghost use Rattle.rw_wal_tail.specs.Taking.{HasTaken};
 ghost use Rattle.rw_inspect.specs.Reading.{ComesNext, FeedsMore, ReadsText, TakesAll};
 
 use crate::taker::Taker;
@@ -15,13 +16,15 @@ use std::alloc::AllocError;
 #[derive(Debug, Drop)]
 pub(crate) enum Next {
     Entry(Entry),
-    /// No entry more as far as the log has come, and this fault, if it has one.
+    /// No more entries as far as the log has come, and the fault, if it has one.
     End(Option<TailFault>),
 }
 
-/// What comes next.
+/// Returns what comes next.
 fn next_of(tail: &mut Tail) -> Result<Next, AllocError>
-    ensures { IfOk result (ComesNext tail.old tail.new) }
+    ensures comes { (taken : List Entry) → HasTaken tail.old taken
+        → IfOk result (ComesNext taken tail.new) }
+    ensures pieces { tail.new.pieces ≡ tail.old.pieces }
 {
     match tail.next_entry() {
         Ok(Some(entry)) => Ok(Next::Entry(entry)),
@@ -33,7 +36,8 @@ fn next_of(tail: &mut Tail) -> Result<Next, AllocError>
     }
 }
 
-/// Takes the entries that the reader of the log has left, and answers the fault behind them, if there is one.
+/// Takes the entries that the reader of the log has left, and returns the fault after them, if
+/// there is one.
 fn take_all<T: Taker>(tail: &mut Tail, taker: &mut T) -> Result<Option<TailFault>, AllocError>
     requires { HasTaken tail.old (T.counted taker.old).entries }
     ensures ok { IfOk result
@@ -49,7 +53,7 @@ fn take_all<T: Taker>(tail: &mut Tail, taker: &mut T) -> Result<Option<TailFault
     Err(AllocError)
 }
 
-/// Feeds what one read gives, and answers how many bytes it gave; none at the end of the input.
+/// Feeds what one read returns, and returns how many bytes that was; 0 means the end of the input.
 fn feed_some<S: Source>(
     source: &mut S,
     chunk: &mut [u8],
@@ -73,14 +77,14 @@ fn feed_some<S: Source>(
     Ok(Some(count as u64))
 }
 
-/// So many bytes and some more. A number that does not fit is want of memory.
+/// Returns the sum of two numbers of bytes. A sum that does not fit counts as out of memory.
 fn sum(bytes: u64, more: u64) -> Result<u64, AllocError>
     ensures { IfOk result (λ n. n ≡ bytes + more) }
 {
     bytes.checked_add(more).ok_or(AllocError)
 }
 
-/// Reads a segment to its end, also behind a fault, counts its bytes, and lets its entries be taken.
+/// Reads a segment to its end, even after a fault, counts its bytes, and lets its entries be taken.
 pub(crate) fn read_text<S: Source, T: Taker>(
     source: &mut S,
     chunk: &mut [u8],

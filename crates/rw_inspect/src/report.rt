@@ -1,6 +1,7 @@
 //! What was found in a log.
 
 use crate::counts::Counts;
+use crate::skipped::SkippedRecords;
 use crate::sums::Sums;
 use rw_wal_tail::{FaultPlace, TailFault};
 
@@ -9,7 +10,7 @@ use rw_wal_tail::{FaultPlace, TailFault};
 pub struct Segment {
     pub name: String,
     pub bytes: u64,
-    /// Records that were passed over, since they are empty or of another type.
+    /// Records that were skipped, since they are empty or of another type.
     pub passed: u64,
     pub sums: Sums,
 }
@@ -18,7 +19,7 @@ pub struct Segment {
 #[derive(Clone, Copy, Debug, PartialEq, Eq)]
 pub struct Damage {
     pub fault: TailFault,
-    /// Where it stands.
+    /// Where it is.
     pub place: Option<FaultPlace>,
 }
 
@@ -27,7 +28,9 @@ pub struct Damage {
 pub struct Report {
     pub segments: Vec<Segment>,
     pub counts: Counts,
-    /// The positions of the first ten samples that do not rise.
+    /// The positions of the first ten samples that are not later than the last one of their series.
     pub first_not_rising: Vec<u64>,
     pub damage: Option<Damage>,
+    /// The records that were passed over, by type. No clause says what these are.
+    pub skipped: Vec<SkippedRecords>,
 }

@@ -3,11 +3,13 @@
 ghost use Rattle.std.specs.Prelude.{◌≡◌, ◌<◌, [], ℕ, List, length, map, true, Err, None, IfOk, OnOk, ◌++◌, ◌∷◌, vec_len};
 ghost use Rattle.rw_types.specs.declared.transfer.ReadFault.TheVariants.{Failed};
 ghost use Rattle.rw_inspect.specs.Inspecting.{AllSure, IsInspected, IsReportOfFirst, ReadsFirst, ReadsInto, ReadsSegment, Reports, begun, fault_in, source_of};
-ghost use Rattle.rw_inspect.specs.Reading.{HasTakenAll};
+ghost use Rattle.rw_types.specs.declared.entry.Entry.{Entry};
+ghost use Rattle.rw_wal_tail.specs.Taking.{HasTaken, HasTakenAll};
 
 use crate::counter::Counter;
 use crate::reading::read_text;
 use crate::report::{Damage, Report, Segment};
+use crate::skipped::{SkippedRecords, skipped_records};
 use crate::taker::Taker;
 use rw_types::{ReadFault, Source};
 use rw_wal_tail::{Tail, TailFault};
@@ -23,11 +25,13 @@ pub struct Named<S> {
     pub source: S,
 }
 
-/// How far a log was read: a row for each segment, and its damage, if it has one.
+/// How far a log was read: a row for each segment, its damage, if it has one, and the records that
+/// were passed over, by type.
 #[derive(Debug, Drop)]
 pub struct LogRead {
     pub segments: Vec<Segment>,
     pub damage: Option<Damage>,
+    pub skipped: Vec<SkippedRecords>,
 }
 
 fn zeros(alloc: Global, len: usize) -> Result<Vec<u8>, AllocError>
@@ -36,9 +40,10 @@ fn zeros(alloc: Global, len: usize) -> Result<Vec<u8>, AllocError>
     vec![in alloc; 0; len]
 }
 
-/// The next segment begins.
+/// Begins the next segment.
 fn begin_segment<T: Taker>(is_first: bool, tail: &mut Tail, taker: &mut T)
     ensures fed { tail.new ≡ record tail.old { pieces = begun is_first tail.old.pieces } }
+    ensures taken { (taken : List Entry) → HasTaken tail.old taken → HasTaken tail.new taken }
     ensures here { T.counted taker.new ≡ record (T.counted taker.old) { here = [] } }
     ensures task { T.task taker.new ≡ T.task taker.old }
 {
@@ -58,7 +63,7 @@ fn add_row(rows: &mut Vec<Segment>, row: Segment) -> Result<(), AllocError>
     }
 }
 
-/// Reads the next segment, and answers what was found in it, and its fault.
+/// Reads the next segment, and returns what was found in it, and its fault.
 fn read_segment<S: Source + Drop, T: Taker>(
     is_first: bool,
     segment: Named<S>,
@@ -87,7 +92,7 @@ fn read_segment<S: Source + Drop, T: Taker>(
     Ok((found, fault))
 }
 
-/// Reads segments up to the end of the first one with a fault, and answers the fault.
+/// Reads segments up to the end of the first one with a fault, and returns the fault.
 fn read_all<S: Source + Drop, T: Taker>(
     alloc: Global,
     segments: Vec<Named<S>>,
@@ -114,7 +119,7 @@ fn read_all<S: Source + Drop, T: Taker>(
     Ok(None)
 }
 
-/// The damage of a log with this fault, if it has one.
+/// Returns the damage of a log with this fault, if it has one.
 fn damage_of(tail: &Tail, fault: Option<TailFault>) -> Option<Damage>
     ensures { fault_in result ≡ fault }
 {
@@ -127,7 +132,8 @@ fn damage_of(tail: &Tail, fault: Option<TailFault>) -> Option<Damage>
     }
 }
 
-/// Reads the segments of a log in order, to the end of the last one or of the first one with a fault, and lets their entries be taken.
+/// Reads the segments of a log in order, to the end of the last one or of the first one with a
+/// fault, and lets their entries be taken.
 pub fn read_into<S: Source + Drop, T: Taker>(
     alloc: Global,
     segments: Vec<Named<S>>,
@@ -143,17 +149,23 @@ pub fn read_into<S: Source + Drop, T: Taker>(
     let mut tail = Tail::new(alloc);
     let mut rows = Vec::new(alloc);
     let fault = read_all(alloc, segments, &mut tail, taker, &mut rows)?;
+    let skipped = skipped_records(alloc, &tail)?;
     Ok(LogRead {
         segments: rows,
         damage: damage_of(&tail, fault),
+        skipped,
     })
 }
 
-/// The report of what was read, and counted.
+/// Returns the report of what was read and counted.
 fn report_of(alloc: Global, counts: &Counter, read: LogRead) -> Result<Report, AllocError>
     ensures { IfOk result (Reports counts.now.entries read.segments.items read.damage) }
 {
-    let LogRead { segments, damage } = read;
+    let LogRead {
+        segments,
+        damage,
+        skipped,
+    } = read;
     let mut first_not_rising = Vec::new(alloc);
     first_not_rising.extend_from_slice(counts.first_not_rising())?;
     Ok(Report {
@@ -161,10 +173,12 @@ fn report_of(alloc: Global, counts: &Counter, read: LogRead) -> Result<Report, A
         counts: counts.counts(),
         first_not_rising,
         damage,
+        skipped,
     })
 }
 
-/// Reads the segments of a log in order, to the end of the last one or of the first one with a fault, and reports what is in them.
+/// Reads the segments of a log in order, to the end of the last one or of the first one with a
+/// fault, and reports what is in them.
 pub fn inspect<S: Source + Drop>(
     alloc: Global,
     segments: Vec<Named<S>>,

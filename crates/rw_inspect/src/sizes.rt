@@ -16,7 +16,7 @@ pub(crate) struct Sizes {
     pub(crate) passed: u64,
 }
 
-/// How many pages so many bytes take.
+/// Returns how many pages this many bytes take.
 fn pages_of(bytes: u64) -> u64
     ensures { result ≡ pages_of bytes }
 {
@@ -27,14 +27,14 @@ fn pages_of(bytes: u64) -> u64
     }
 }
 
-/// A sum. One that does not fit is want of memory.
+/// Returns a sum. A sum that does not fit counts as out of memory.
 fn sum(a: u64, b: u64) -> Result<u64, AllocError>
     ensures { IfOk result (λ n. n ≡ a + b) }
 {
     a.checked_add(b).ok_or(AllocError)
 }
 
-/// Those of a segment.
+/// Returns the sizes of a segment.
 pub(crate) fn sizes_of(segment: &Segment) -> Sizes
     ensures { result ≡ sizes_of segment.now }
 {
@@ -45,7 +45,7 @@ pub(crate) fn sizes_of(segment: &Segment) -> Sizes
     }
 }
 
-/// Those with a segment more.
+/// Returns the sizes with one more segment.
 fn with_segment(sizes: &Sizes, segment: &Segment) -> Result<Sizes, AllocError>
     ensures { IfOk result (λ s. s ≡ with_segment sizes.now segment.now) }
 {
@@ -57,7 +57,7 @@ fn with_segment(sizes: &Sizes, segment: &Segment) -> Result<Sizes, AllocError>
     })
 }
 
-/// Those of all segments.
+/// Returns the sizes of all segments.
 pub(crate) fn sizes_in(segments: &[Segment]) -> Result<Sizes, AllocError>
     ensures { IfOk result (λ s. s ≡ sizes_in segments.now) }
 {

@@ -1,4 +1,4 @@
-//! What entries add up to.
+//! The totals of entries.
 
 ghost use Rattle.std.specs.Prelude.{◌≡◌, ◌+◌, IfOk};
 ghost use Rattle.rw_inspect.specs.Sums.{later, no_sums, sooner, with_entry};
@@ -6,20 +6,20 @@ ghost use Rattle.rw_inspect.specs.Sums.{later, no_sums, sooner, with_entry};
 use rw_types::Entry;
 use std::alloc::AllocError;
 
-/// What some entries of a log add up to. Timestamps are in milliseconds since the Unix epoch.
+/// The totals of some entries of a log. Timestamps are in milliseconds since the Unix epoch.
 #[derive(Clone, Copy, Debug, PartialEq, Eq)]
 pub struct Sums {
     pub entries: u64,
     /// Definitions of series.
     pub series: u64,
     pub samples: u64,
-    /// The least timestamp of a sample, where there is a sample.
+    /// The least timestamp of a sample, if there is a sample.
     pub earliest: Option<i64>,
     /// The greatest one.
     pub latest: Option<i64>,
 }
 
-/// One more. A count that does not fit is want of memory.
+/// Returns a count increased by one. A count that does not fit counts as out of memory.
 pub(crate) fn one_more(count: u64) -> Result<u64, AllocError>
     ensures { IfOk result (λ n. n ≡ count + 1) }
 {
@@ -45,7 +45,7 @@ fn later(latest: Option<i64>, t: i64) -> Option<i64>
 }
 
 impl Sums {
-    /// Those of no entry.
+    /// Returns the totals of an empty log.
     pub(crate) fn new() -> Sums
         ensures { result ≡ no_sums }
     {
@@ -58,7 +58,7 @@ impl Sums {
         }
     }
 
-    /// Those with an entry more.
+    /// Returns these totals with one more entry.
     pub(crate) fn with(&self, entry: &Entry) -> Result<Sums, AllocError>
         ensures { IfOk result (λ sums. sums ≡ with_entry self.now entry.now) }
     {

@@ -1,4 +1,4 @@
-//! A report as a table.
+//! Prints a report as a table.
 
 ghost use Rattle.std.specs.Prelude.{◌≡◌, ◌++◌, OnOk, IfOk, flat_map};
 ghost use Rattle.rw_inspect.specs.Texts.{any_damage, columns_text, count_columns, damage_text, file_text, found_text, line_text, offset_text, placed, positions_text, report_text, rising_text, row_text, series_text, size_columns, spot_text, time_columns};
@@ -89,7 +89,7 @@ fn push_positions(out: &mut Vec<u8>, first: &[u64]) -> Result<(), AllocError>
     out.extend_from_slice(b"\n")
 }
 
-/// Adds how many samples do not rise, and the first positions.
+/// Adds how many samples are not later than the last one of their series, and the first positions.
 #[tactic(auto, unfolding(crate::specs::Texts::rising_text))]
 fn push_rising(out: &mut Vec<u8>, count: u64, first: &[u64]) -> Result<(), AllocError>
     ensures { OnOk result (out.new.items ≡ out.old.items ++ rising_text count first.now) }
@@ -130,7 +130,7 @@ fn push_file(out: &mut Vec<u8>, segment: &Segment) -> Result<(), AllocError>
     out.extend_from_slice(segment.name.as_bytes())
 }
 
-/// Adds an offset, and how many bytes stand from there on.
+/// Adds an offset, and how many bytes are from there on.
 #[tactic(auto, unfolding(crate::specs::Texts::offset_text))]
 fn push_offset(out: &mut Vec<u8>, offset: u64, behind: u64) -> Result<(), AllocError>
     ensures { OnOk result (out.new.items ≡ out.old.items ++ offset_text offset behind) }
@@ -149,7 +149,7 @@ fn push_spot(out: &mut Vec<u8>, segment: &Segment, offset: u64) -> Result<(), Al
     push_offset(out, offset, segment.bytes.saturating_sub(offset))
 }
 
-/// Adds where a fault stands.
+/// Adds the place of a fault.
 fn push_place(
     out: &mut Vec<u8>,
     segments: &[Segment],
@@ -166,7 +166,7 @@ fn push_place(
     }
 }
 
-/// Adds a fault, where it stands, and what to do next.
+/// Adds a fault, where it is, and what to do next.
 #[tactic(auto, unfolding(crate::specs::Texts::damage_text))]
 fn push_damage(out: &mut Vec<u8>, segments: &[Segment], damage: &Damage) -> Result<(), AllocError>
     ensures { OnOk result (out.new.items ≡ out.old.items ++ damage_text segments.now damage.now) }
@@ -195,7 +195,8 @@ fn push_any_damage(
     }
 }
 
-/// A report as a table: a row for each segment, one for all, what was found in the log, and its fault.
+/// Returns a report as a table: a row for each segment, one for all, what was found in the log, and
+/// its fault.
 #[tactic(auto, unfolding(crate::specs::Texts::report_text))]
 pub fn table_of(alloc: Global, report: &Report) -> Result<Vec<u8>, AllocError>
     ensures { IfOk result (λ text. text.items ≡ report_text report.now) }

@@ -1,4 +1,4 @@
-//! What takes the entries of a log.
+//! The visitor of the entries of a log.
 
 ghost use Rattle.std.specs.Prelude.{◌≡◌, ◌++◌, ◌∷◌, [], OnOk};
 ghost use Rattle.rw_inspect.specs.Counting.{Counted};
@@ -9,16 +9,17 @@ use crate::sums::Sums;
 use rw_types::Entry;
 use std::alloc::AllocError;
 
-/// What takes the entries of a log, segment by segment. Contracts see all entries so far, and those of the segment at hand.
+/// A visitor of the entries of a log, segment by segment. Contracts see all entries so far, and
+/// those of the current segment.
 pub trait Taker {
-    /// What it is to do, which stays.
+    /// Fixed parameters of the visitor.
     type Task;
 
     ghost counted: { Self → Counted };
 
     ghost task: { Self → Self.Task };
 
-    /// The next segment begins.
+    /// Begins the next segment.
     fn next_segment(&mut self)
         ensures here { counted self.new ≡ record (counted self.old) { here = [] } }
         ensures task { task self.new ≡ task self.old };
@@ -33,7 +34,7 @@ pub trait Taker {
             }) }
         ensures task { OnOk result (task self.new ≡ task self.old) };
 
-    /// What the entries of the segment at hand add up to.
+    /// Returns the totals of the entries of the current segment.
     fn sums_here(&self) -> Sums
         ensures sums { result ≡ sums_of (counted self.now).here };
 }

@@ -1,4 +1,4 @@
-//! Samples that a sender would drop, counted.
+//! Counts the samples that a sender would drop.
 
 ghost use Rattle.std.specs.Prelude.{◌≡◌, ◌++◌, ◌∷◌, [], ℕ, count_by, length, take, OnOk, OnErr};
 ghost use Rattle.rw_inspect.specs.Troubles.{has_bad_labels, has_no_series, not_rising};
@@ -8,7 +8,8 @@ use rw_history::History;
 use std::alloc::{AllocError, Global};
 use std::marker::Model;
 
-/// How many positions of samples that do not rise are kept.
+/// The number of positions that are kept of samples that are not later than the last one of their
+/// series.
 const MOST_POSITIONS: u64 = 10;
 
 /// Why a sender would drop a sample.
@@ -16,13 +17,14 @@ const MOST_POSITIONS: u64 = 10;
 pub(crate) enum Trouble {
     /// No series was defined under its reference before it.
     NoSeries,
-    /// The labels of its series are no label set.
+    /// The labels of its series are not a label set.
     BadLabels,
     /// An earlier sample of its label set has the same timestamp or a later one.
     NotRising,
 }
 
-/// Samples in trouble, counted. Contracts see all of them, each with its position; of those that do not rise the first ten positions are kept.
+/// Samples that a sender would drop, counted. Contracts see all of them, each with its position; of
+/// those that are not later than the last one of their series the first ten positions are kept.
 #[derive(Drop)]
 pub(crate) struct Troubles {
     all: History<(u64, Trouble)>,
@@ -46,7 +48,7 @@ impl Model for Troubles {
 }
 
 impl Troubles {
-    /// None so far. This takes no memory.
+    /// Returns counts that are all 0. This takes no memory.
     pub(crate) fn new(alloc: Global) -> Troubles
         ensures { result ≡ [] }
     {
@@ -59,7 +61,7 @@ impl Troubles {
         }
     }
 
-    /// One more.
+    /// Counts one more sample.
     pub(crate) fn push(&mut self, position: u64, trouble: Trouble) -> Result<(), AllocError>
         ensures ok { OnOk result (self.new ≡ self.old ++ (position, trouble) ∷ []) }
         ensures err { OnErr result (self.new ≡ self.old) }
@@ -98,7 +100,8 @@ impl Troubles {
         self.not_rising
     }
 
-    /// The positions of the first ten that do not rise.
+    /// Returns the positions of the first ten samples that are not later than the last one of their
+    /// series.
     pub(crate) fn first_not_rising(&self) -> &[u64]
         ensures { result.now ≡ take 10 (not_rising self.now) }
     {

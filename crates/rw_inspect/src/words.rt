@@ -1,11 +1,11 @@
-//! What is said of a fault.
+//! The texts about a fault.
 
 ghost use Rattle.std.specs.Prelude.{◌≡◌};
 ghost use Rattle.rw_inspect.specs.Texts.{fault_words, next_step};
 
 use rw_wal_tail::TailFault;
 
-/// What is wrong.
+/// Returns what is wrong.
 pub(crate) fn fault_words(fault: TailFault) -> &'static str
     ensures { result.now ≡ fault_words fault }
 {
@@ -24,7 +24,7 @@ pub(crate) fn fault_words(fault: TailFault) -> &'static str
     }
 }
 
-/// What to do next.
+/// Returns what to do next.
 pub(crate) fn next_step(fault: TailFault) -> &'static str
     ensures { result.now ≡ next_step fault }
 {

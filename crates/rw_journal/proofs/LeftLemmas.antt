@@ -12,7 +12,7 @@ same_last : (xs : Segments) (a b : List ℕ) → xs ++ a ∷ [] ≡ xs ++ b ∷ 
 same_last [] a b e = cc
 same_last (x ∷ xs) a b e = let e' : xs ++ a ∷ [] ≡ xs ++ b ∷ [] = cc in same_last xs a b e'
 
--- where a crash leaves what is seen, all of it is synced
+-- if a crash leaves what is seen, all of it is synced
 pub all_synced : (image : Image) → Only (segments_of image) (IsLeftOf image) → length image.last.items ≤ image.synced
 all_synced image only =
     let left : IsLeftOf image (contents image.done.items (take image.synced image.last.items ++ [])) = record { more = []; no_longer = omega arith; folder = refl } in

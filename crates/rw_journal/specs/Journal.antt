@@ -7,7 +7,7 @@ use Rattle.rw_journal.specs.declared.journal.JournalError.TheVariants.{Failed}
 abbrev pub Segments : Type 0
 Segments = List (List ℕ)
 
--- the last segment is changed so, and no other
+-- the last segment is changed in this way, and no other
 abbrev pub on_last : (List ℕ → List ℕ) → Segments → Segments
 on_last f [] = []
 on_last f (s ∷ []) = f s ∷ []
@@ -39,11 +39,13 @@ pub record IsCutEnd (n : ℕ) (old left : Segments) : Type 0 where
   pub no_shorter : n ≤ at
   pub folder : left ≡ on_last (take at) old
 
--- What a crash leaves while a next segment is being begun: it exists and is empty, or it does not exist.
+-- What a crash leaves while a next segment is being begun: it exists and is empty, or it does not
+-- exist.
 abbrev pub IsBegun : Segments → Segments → Type 0
 IsBegun old left = (left ≡ old) ⊎ (left ≡ old ++ [] ∷ [])
 
--- Time goes on: a crash since t might have left what it might have left before, or what it may leave now.
+-- Time goes on: a crash since t might have left what it might have left before, or what it may
+-- leave now.
 pub record Elapses (before now : ℕ) (past since : ℕ → Segments → Type 0) (may_leave : Segments → Type 0) : Type 0 where
   pub later : before ≤ now
   pub nothing_else : (t : ℕ) (c : Segments) → t ≤ before → since t c → past t c ⊎ may_leave c

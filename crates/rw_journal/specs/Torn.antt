@@ -1,4 +1,5 @@
--- What a crash leaves of bytes that are written page by page, each page synced before the next one is begun.
+-- What a crash leaves of bytes that are written page by page, each page synced before the next one
+-- is begun.
 use Rattle.std.specs.Prelude.{◌≡◌, ◌⊎◌, ℕ, ◌+◌, ◌-◌, ◌%◌, ◌≤◌, List, [], ◌++◌, length, take, drop}
 use Rattle.rw_journal.specs.Journal.{Segments, with_more}
 
@@ -10,15 +11,16 @@ left_at page offset = page - offset % page
 abbrev pub page_end : ℕ → ℕ → ℕ
 page_end page offset = offset + left_at page offset
 
--- A crash left this of a segment to which `written` was being written, with its first `synced` bytes
--- on the disk: these are as they were written, and whatever comes after them ends within their page.
+-- A crash left this of a segment to which `written` was being written, with its first `synced`
+-- bytes on the disk: these are as they were written, and whatever comes after them ends within
+-- their page.
 pub record IsTorn (page synced : ℕ) (written left : List ℕ) : Type 0 where
   pub known : synced ≤ length written
   pub front : take synced left ≡ take synced written
   pub within : length left ≤ page_end page synced
 
--- Of what was being written from an offset on, the first `synced` bytes were on the disk, and a part
--- that ends within their page was on its way: there is nothing of it, or a torn part of it.
+-- Of what was being written from an offset on, the first `synced` bytes were on the disk, and a
+-- part that ends within their page was on its way: there is nothing of it, or a torn part of it.
 pub record IsTornFrom (tears : List ℕ → List ℕ → Type 0) (page offset : ℕ) (written left : List ℕ) : Type 0 where
   pub synced : ℕ
   pub known : synced ≤ length written
@@ -31,8 +33,8 @@ pub record IsTornFrom (tears : List ℕ → List ℕ → Type 0) (page offset : 
   pub no_longer : length torn ≤ length part
   pub segment : left ≡ take synced written ++ torn
 
--- Segments to whose last one, of `offset` bytes, `written` was being appended: all that was there is
--- there, and after it a torn part of `written`.
+-- Segments to whose last one, of `offset` bytes, `written` was being appended: all that was there
+-- is there, and after it a torn part of `written`.
 pub record IsTornLog (tears : List ℕ → List ℕ → Type 0) (page offset : ℕ) (old : Segments) (written : List ℕ) (left : Segments) : Type 0 where
   pub more : List ℕ
   pub folder : left ≡ with_more old more

@@ -1,4 +1,5 @@
-//! A folder of segments to which bytes are appended: what a read returns, and what a crash may leave.
+//! A folder of segments to which bytes are appended: what a read returns, and what a crash may
+//! leave.
 
 ghost use Rattle.std.specs.Prelude.{◌≡◌, ◌<◌, ◌≤◌, ◌++◌, [], ◌∷◌, ℕ, List, length, take, get_or, IfOk, OnOk};
 ghost use Rattle.rw_journal.specs.declared.journal.JournalError.TheVariants.{OutOfMemory};
@@ -9,7 +10,7 @@ use std::alloc::{AllocError, AllocFailed, Global};
 /// Why a call of a journal failed.
 #[derive(Clone, Copy, Debug, PartialEq, Eq)]
 pub enum JournalError {
-    /// Memory was refused.
+    /// Memory ran out.
     OutOfMemory,
     /// The device failed.
     Failed,
@@ -31,8 +32,8 @@ impl<T: Drop> From<AllocFailed<T>> for JournalError {
     }
 }
 
-/// A folder of segments. Bytes are appended to the last segment, and a next one may be begun. A crash
-/// may leave anything of the bytes that are not synced.
+/// A folder of segments. Bytes are appended to the last segment, and a next one may be begun. A
+/// crash may leave anything of the bytes that are not synced.
 ///
 /// After an `Err` the folder has to be opened again: it then holds what a crash may leave.
 pub trait Journal {
@@ -45,7 +46,8 @@ pub trait Journal {
     /// The current moment, as a number that never decreases.
     ghost moment: { Self → ℕ };
 
-    /// What a crash at some moment since that one might have left, during a call or between two calls.
+    /// What a crash at some moment since that one might have left, during a call or between two
+    /// calls.
     ghost left_since: { Self → ℕ → Segments → Type 0 };
 
     /// What a crash may leave of bytes that are being written.
@@ -96,7 +98,8 @@ pub trait Journal {
             (left_since self.new) (may_leave self.new) }
         ensures cause { HasCause (faults self.old) (faults self.new) result };
 
-    /// Begins a next segment, which is empty, and syncs it. Everything in the folder must be synced.
+    /// Begins a next segment, which is empty, and syncs it. Everything in the folder must be
+    /// synced.
     fn begin(&mut self) -> Result<(), JournalError>
         requires { Only (seen self.old) (may_leave self.old) }
         ensures begun { OnOk result (seen self.new ≡ seen self.old ++ [] ∷ []) }

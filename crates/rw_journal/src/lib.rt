@@ -1,5 +1,5 @@
-//! A folder of segments that outlives a crash: what its calls promise for each moment, and a journal in
-//! memory that keeps these promises and can crash.
+//! A folder of segments that outlives a crash: what its calls promise for each moment, and a
+//! journal in memory that keeps these promises and can crash.
 #![tactic(auto)]
 
 mod image;

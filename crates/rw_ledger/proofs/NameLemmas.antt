@@ -59,7 +59,7 @@ module _ {X : Type 0} where
   behind : (p : ℕ) (x : X) (e : ℕ × X) (es : List (ℕ × X)) (r : Ordering) → r ≡ Greater → by_order r ((p, x) ∷ e ∷ es) ((e.0, x) ∷ es) (e ∷ put nat_cmp p x es) ≡ e ∷ put nat_cmp p x es
   behind p x e es r is = ap (λ o. by_order o ((p, x) ∷ e ∷ es) ((e.0, x) ∷ es) (e ∷ put nat_cmp p x es)) is
 
-  -- a new position goes where those before it are lower and the others higher
+  -- a new position goes if those before it are lower and the others higher
   insert_is_put : (es : List (ℕ × X)) (p : ℕ) (x : X) (i : ℕ) → i ≤ length es → ((k : ℕ) (d : ℕ × X) → k < i → (get_or es k d).0 < p) → ((k : ℕ) (d : ℕ × X) → i ≤ k → k < length es → p < (get_or es k d).0)
       → insert es i (p, x) ≡ put nat_cmp p x es
   insert_is_put [] p x zero within before after = refl
@@ -70,14 +70,14 @@ module _ {X : Type 0} where
       ap (λ r. e ∷ r) (insert_is_put es p x i (omega arith) (λ k d lt. before (suc k) d (omega arith)) (λ k d le lt. after (suc k) d (omega arith) (omega arith)))
       ∙ sym (behind p x e es (nat_cmp p e.0) (sym (nat_cmp_is p e.0 Greater (before 0 e (omega arith)))))
 
-  -- a position at which nothing stands
+  -- a position at which nothing is
   find_none : (es : List (ℕ × X)) (p : ℕ) → ((k : ℕ) (d : ℕ × X) → k < length es → (get_or es k d).0 ≡ p → ⊥) → find nat_cmp p es ≡ None
   find_none [] p apart = refl
   find_none (e ∷ es) p apart =
       ap (λ b. cond b (Some e.1) (find nat_cmp p es)) (eq_of p e.0 (nat_cmp p e.0) refl (λ same. apart 0 e (omega arith) (sym same)))
       ∙ find_none es p (λ k d lt same. apart (suc k) d (omega arith) same)
 
-  -- the position that stands at the place behind all lower ones
+  -- the position that is at the place after all lower ones
   find_at : (es : List (ℕ × X)) (p i : ℕ) (d : ℕ × X) → i < length es → ((k : ℕ) (d : ℕ × X) → k < i → (get_or es k d).0 < p) → (get_or es i d).0 ≡ p → find nat_cmp p es ≡ Some (get_or es i d).1
   find_at [] p i d lt before here = absurd (omega arith)
   find_at (e ∷ es) p zero d lt before here = ap (λ r. cond (is_eq r) (Some e.1) (find nat_cmp p es)) (sym (nat_cmp_is p e.0 Equal (sym here)))
@@ -89,7 +89,7 @@ module _ {X : Type 0} where
   rest_none true x o e = absurd cc
   rest_none false x o e = e
 
-  -- a position that is not found stands nowhere
+  -- a position that is not found is nowhere
   apart_from_none : (es : List (ℕ × X)) (p k : ℕ) (d : ℕ × X) → find nat_cmp p es ≡ None → k < length es → (get_or es k d).0 ≡ p → ⊥
   apart_from_none [] p k d none lt same = omega arith
   apart_from_none (e ∷ es) p zero d none lt same =
@@ -117,7 +117,7 @@ module _ {X : Type 0} where
   found_at_place es p i e lt before is here =
       find_at es p i e lt before (ap (λ (x : ℕ × X). x.0) (sym is) ∙ here) ∙ ap (λ (x : ℕ × X). Some x.1) (sym is)
 
-  -- and one that does not stand at its place stands nowhere
+  -- and one that is not at its place is nowhere
   pub none_at_place : (es : List (ℕ × X)) (p i : ℕ) → T (is_sorted nat_cmp es) → ((k : ℕ) (d : ℕ × X) → k < i → (get_or es k d).0 < p) → ((d : ℕ × X) → i < length es → p < (get_or es i d).0) → find nat_cmp p es ≡ None
   none_at_place es p i sorted before here =
       find_none es p

@@ -13,11 +13,12 @@ use std::slice;
 /// Why a sample was dropped.
 #[derive(Clone, Copy, Debug, PartialEq, Eq)]
 pub enum Reason {
-    /// The receiver refused its batch for good, with this HTTP status.
+    /// The receiver refused its batch permanently, with this HTTP status.
     Status(u16),
-    /// The labels of its series are not a label set. The number stands for the fault, as `LabelFault` counts them.
+    /// The labels of its series are not a label set. The number stands for the fault, as
+    /// `LabelFault` counts them.
     BadLabels(u8),
-    /// No definition of its reference stands before it in the log.
+    /// No definition of its reference comes before it in the log.
     NoSeries,
     /// A sample before it in its series has the same timestamp or a later one.
     NotRising,
@@ -25,7 +26,8 @@ pub enum Reason {
 
 /// The positions of dropped samples in the log, each with its reason, and room for more of them.
 ///
-/// To name a sample takes no memory, since its room is made before. To name a position behind all others takes no longer as the ledger grows.
+/// Naming a sample takes no memory, since the room is reserved before. Naming a position after all
+/// others takes no longer as the ledger grows.
 #[derive(Debug, Drop)]
 pub struct Ledger {
     names: Vec<(u64, Reason)>,
@@ -49,7 +51,7 @@ impl Model for Ledger {
         × (vec_len l.names + l.room ≤ vec_capacity l.names) };
 }
 
-/// The place where a position stands, or would stand.
+/// Returns the index of a position, or the index at which it would be inserted.
 fn place_of(names: &[(u64, Reason)], pos: u64) -> usize
     requires { IsTrue (map.is_sorted nat_cmp names.now) }
     ensures { IsPlaceOf pos names.now result }
@@ -66,7 +68,7 @@ fn place_of(names: &[(u64, Reason)], pos: u64) -> usize
 }
 
 impl Ledger {
-    /// A ledger without names and without room. This takes no memory.
+    /// Returns a ledger without names and without room. This takes no memory.
     pub fn new(alloc: Global) -> Ledger
         ensures names { result.names ≡ map.empty }
         ensures room { result.room ≡ 0 }
@@ -77,7 +79,7 @@ impl Ledger {
         }
     }
 
-    /// Adds room for `n` more names. An `Err` leaves the ledger as it was.
+    /// Reserves room for `n` more names. An `Err` leaves the ledger as it was.
     pub fn room(&mut self, n: usize) -> Result<(), AllocError>
         ensures ok { OnOk result (self.new.room ≡ self.old.room + n) }
         ensures names { self.new.names ≡ self.old.names }
@@ -91,7 +93,7 @@ impl Ledger {
         Ok(())
     }
 
-    /// For how many more names there is room.
+    /// Returns for how many more names there is room.
     pub fn left(&self) -> usize
         ensures { result ≡ self.now.room }
     {
@@ -107,7 +109,8 @@ impl Ledger {
         self.room -= n;
     }
 
-    /// Names the sample at position `pos` as dropped, for `reason`. This uses the room for one name.
+    /// Names the sample at position `pos` as dropped, for `reason`. This uses the room for one
+    /// name.
     pub fn name(&mut self, pos: u64, reason: Reason)
         requires room { 0 < self.old.room }
         requires unnamed { map.get self.old.names pos ≡ None }
@@ -119,7 +122,8 @@ impl Ledger {
         self.room -= 1;
     }
 
-    /// Why the sample at position `pos` was dropped; `None` where the ledger does not name it.
+    /// Returns why the sample at position `pos` was dropped, or `None` if the ledger does not name
+    /// it.
     pub fn get(&self, pos: u64) -> Option<Reason>
         ensures { result ≡ map.get self.now.names pos }
     {
@@ -133,14 +137,14 @@ impl Ledger {
         None
     }
 
-    /// The named positions in ascending order, each with its reason.
+    /// Returns the named positions in ascending order, each with its reason.
     pub fn iter(&self) -> slice::Iter<'_, (u64, Reason)>
         ensures { iter_rest result ≡ map.entries self.now.names }
     {
         self.names.iter()
     }
 
-    /// How many samples are named.
+    /// Returns how many samples are named.
     pub fn total(&self) -> usize
         ensures { result ≡ map.len self.now.names }
     {

@@ -31,7 +31,7 @@ use Rattle.rw_log_commands.proofs.LabelledLemmas.{labelled-push}
 use Rattle.rw_relabel.specs.Choices.{legacy}
 use Rattle.rw_types.specs.declared.names.Names.TheVariants.{Legacy}
 
--- the label set of a reference that stands so, where no rule drops one
+-- the label set of a reference that is so, if no rule drops one
 abbrev pub label_set_in : Standing → Option Labels
 label_set_in (Kept l) = Some l
 label_set_in _ = None

@@ -1,4 +1,5 @@
--- The body of a log segment: the message of its samples that have a label set, in its canonical spelling.
+-- The body of a log segment: the message of its samples that have a label set, in its canonical
+-- spelling.
 use Rattle.std.specs.Prelude.{ℕ, List, [], ◌∷◌}
 use Rattle.rw_wal_format.specs.Pieces.{bytes, entries}
 use Rattle.rw_write_request.specs.Canon.{canon}

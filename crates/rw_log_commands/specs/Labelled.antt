@@ -14,7 +14,7 @@ abbrev pub unless_faulty : Option LabelFault → Labels → Option Labels
 unless_faulty None l = Some l
 unless_faulty (Some f) l = None
 
--- labels, where they are a label set with legacy names
+-- labels, if they are a label set with legacy names
 abbrev pub if_label_set : Option Labels → Option Labels
 if_label_set None = None
 if_label_set (Some l) = unless_faulty (label_fault Legacy l) l
@@ -38,6 +38,7 @@ abbrev pub labelled_after : List Entry → List Entry → List LabelledSample
 labelled_after before [] = []
 labelled_after before (e ∷ es) = labelled_of before e ++ labelled_after (before ++ e ∷ []) es
 
--- the samples that have a label set, in order, each with the labels of the last definition of its reference before it
+-- the samples that have a label set, in order, each with the labels of the last definition of its
+-- reference before it
 unfoldable pub labelled : List Entry → List LabelledSample
 labelled es = labelled_after [] es

@@ -19,12 +19,13 @@ labels_at sets n = get_or sets n []
 abbrev pub IsNumber : List Labels → ℕ → Type 0
 IsNumber sets n = HasNumber sets (labels_at sets n) n
 
--- Each series stands with the number of its labels.
+-- Each series has the number of its labels.
 pub record IsNumbered (sets : List Labels) (g : Groups) : Type 0 where
   pub labels : labels_of g.series ≡ map (labels_at sets) g.numbers
   pub numbers : AllByRecursion (IsNumber sets) g.numbers
 
--- The cache has the definitions, and no rules. The samples are grouped, by the numbers of the cache.
+-- The cache has the definitions, and no rules. The samples are grouped, by the numbers of the
+-- cache.
 pub record IsLabelling (es : List Entry) (cached : Taken) (g : Groups) : Type 0 where
   pub choice : cached.choice ≡ legacy
   pub definitions : definitions_of es ≡ cached.definitions

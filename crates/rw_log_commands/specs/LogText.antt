@@ -14,7 +14,8 @@ AreRecords ([] ∷ ls) recs = AreRecords ls recs
 AreRecords ((b ∷ bs) ∷ ls) [] = ⊥
 AreRecords ((b ∷ bs) ∷ ls) (rec ∷ recs) = IsRecordOf (b ∷ bs) rec × AreRecords ls recs
 
--- The line of this number, counted from 1, has no record although it is not empty, and each line before it is good.
+-- The line of this number, counted from 1, has no record although it is not empty, and each line
+-- before it is good.
 pub record IsBadLine (text : List ℕ) (number : ℕ) : Type 0 where
   pub front : List (List ℕ)
   pub line : List ℕ
@@ -36,7 +37,7 @@ have_room pages offset (rec ∷ recs) =
 abbrev pub segment_of : List (List ℕ) → List ℕ
 segment_of recs = log_all page_size 0 recs
 
--- the length of the longest record; 0 where there is none
+-- the length of the longest record, or 0 without a record
 abbrev pub longest_of : List (List ℕ) → ℕ
 longest_of [] = 0
 longest_of (rec ∷ recs) = max (length rec) (longest_of recs)
@@ -47,7 +48,8 @@ IsFaultOfText text fault.OutOfMemory = Unit {0}
 IsFaultOfText text (fault.Line number) = IsBadLine text number
 IsFaultOfText text _ = ⊥
 
--- The records of the first lines of a text fill a segment: those of all lines, or so many that the next one has no room.
+-- The records of the first lines of a text fill a segment: those of all lines, or as many as leave
+-- no room for the next one.
 pub record Fills (pages : ℕ) (text segment rest : List ℕ) : Type 0 where
   pub front : List (List ℕ)
   pub records : List (List ℕ)

@@ -8,7 +8,7 @@ use Rattle.rw_log_commands.specs.Running.{output_of}
 use Rattle.rw_text.specs.declared.tool_fault.ToolFault.{ToolFault}
 use Rattle.rw_text.specs.declared.tool_fault.ToolFault.TheVariants.{OutOfMemory, Log, Line, SegmentFull, Device}
 
--- a fault of log text for one segment: its first bad line, or else records that have no room
+-- a fault of log text for one segment: its first bad line, or otherwise records that have no room
 abbrev pub IsFaultOfLog : ℕ → List ℕ → ToolFault → Type 0
 IsFaultOfLog pages text OutOfMemory = Unit {0}
 IsFaultOfLog pages text (Log f) = ⊥
@@ -44,20 +44,22 @@ abbrev pub WritesLog : Bool → ℕ → Option (List ℕ) → Option (List ℕ) 
 WritesLog hex pages left_before left_after before after =
     (recs : List (List ℕ)) × ReadsRecords pages left_before left_after recs × Appends before after (output_of hex (segment_of recs))
 
--- a beginning of it was written
+-- a prefix of it was written
 abbrev pub WritesLogPart : Bool → ℕ → Option (List ℕ) → Option (List ℕ) → Option (List ℕ) → Option (List ℕ) → Type 0
 WritesLogPart hex pages left_before left_after before after =
     (recs : List (List ℕ)) × ReadsRecords pages left_before left_after recs
     × ((n : ℕ) × (n ≤ length (output_of hex (segment_of recs))) × Appends before after (take n (output_of hex (segment_of recs))))
 
--- a fault of log text for segments one after the other: its first bad line, or else a record that has no room in an empty segment
+-- a fault of log text for segments one after the other: its first bad line, or otherwise a record
+-- that has no room in an empty segment
 abbrev pub IsFaultOfAny : ℕ → List ℕ → ToolFault → Type 0
 IsFaultOfAny pages text (Line number) = IsBadLine text number
 IsFaultOfAny pages text SegmentFull = (recs : List (List ℕ)) × AreRecords (lines text) recs × (pages * (page_size - 7) < longest_of recs)
 IsFaultOfAny pages text OutOfMemory = Unit {0}
 IsFaultOfAny pages text e = ⊥
 
--- log text for segments one after the other: each line is good, and each record has room in an empty segment
+-- log text for segments one after the other: each line is good, and each record has room in an
+-- empty segment
 pub record IsForSegments (pages : ℕ) (text : List ℕ) : Type 0 where
   pub records : List (List ℕ)
   pub good : AreRecords (lines text) records

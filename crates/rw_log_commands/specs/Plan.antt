@@ -22,7 +22,7 @@ filtered_text reference l = decimal reference ++ codes " filtered " ++ labels_te
 abbrev pub kept_text : ℕ → ℕ → Labels → List ℕ
 kept_text reference number l = decimal reference ++ codes " kept " ++ decimal number ++ codes " " ++ labels_text l ++ codes "\n"
 
--- the line of a definition with these labels, which stand so, where the series are these
+-- the line of a definition with these labels, if the series are these
 abbrev pub definition_text : List Labels → ℕ → Labels → Standing → List ℕ
 definition_text series reference labels Unknown = []
 definition_text series reference labels (Bad f) = bad_text reference f
@@ -73,7 +73,7 @@ counts_of standings = record {
   noseries = count_by is_unknown standings;
 }
 
--- a count behind its word
+-- a count after its word
 unfoldable pub count_text : List ℕ → ℕ → List ℕ
 count_text word n = word ++ decimal n
 

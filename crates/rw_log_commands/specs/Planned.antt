@@ -23,7 +23,7 @@ pub record IsPlanned (choice : Choice) (entries : List Entry) (cached : Taken) (
   pub lines : text ≡ lines choice entries
   pub counts : counted ≡ counts_of (standings choice entries)
 
--- the counts once a sample stands so
+-- the counts with one more sample of which this is known
 abbrev pub with_sample : SampleCounts → Standing → SampleCounts
 with_sample c (Kept l) = record c { kept = c.kept + 1 }
 with_sample c Filtered = record c { filtered = c.filtered + 1 }

@@ -10,7 +10,7 @@ abbrev pub WritesPlan : Choice → Bool → Option (List ℕ) → Option (List �
 WritesPlan choice hex left_before left_after before after =
     (segment : List ℕ) × ReadsInput hex None left_before left_after segment × Appends before after (plan_of choice segment)
 
--- the same, and a beginning of its plan was written
+-- the same, and a prefix of its plan was written
 abbrev pub WritesPlanPart : Choice → Bool → Option (List ℕ) → Option (List ℕ) → Option (List ℕ) → Option (List ℕ) → Type 0
 WritesPlanPart choice hex left_before left_after before after =
     (segment : List ℕ) × ReadsInput hex None left_before left_after segment

@@ -15,7 +15,7 @@ abbrev pub StandsFor : Bool → List ℕ → List ℕ → Type 0
 StandsFor false input segment = input ≡ segment
 StandsFor true input segment = read_text input ≡ Ok segment
 
--- what is written of a text, which is hexadecimal text with a newline at its end, or the bytes alone
+-- what is written of a text: hexadecimal text with a newline at its end, or the bytes alone
 abbrev pub output_of : Bool → List ℕ → List ℕ
 output_of false text = text
 output_of true text = hex_text text ++ 10 ∷ []
@@ -33,7 +33,7 @@ abbrev pub WritesBody : Bool → Option (List ℕ) → Option (List ℕ) → Opt
 WritesBody hex left_before left_after before after =
     (segment : List ℕ) × ReadsInput hex None left_before left_after segment × Appends before after (output_of hex (body_of segment))
 
--- the same, and a beginning of its body was written
+-- the same, and a prefix of its body was written
 abbrev pub WritesPart : Bool → Option (List ℕ) → Option (List ℕ) → Option (List ℕ) → Option (List ℕ) → Type 0
 WritesPart hex left_before left_after before after =
     (segment : List ℕ) × ReadsInput hex None left_before left_after segment

@@ -1,26 +1,14 @@
 -- Entries that are taken from a reader of a log as its bytes come.
-use Rattle.std.specs.Prelude.{◌≡◌, ◌≢◌, ◌≤◌, ℕ, List, ◌++◌, [], ◌∷◌, length, take, Bool, true, Option, Some, None}
+use Rattle.std.specs.Prelude.{◌≡◌, ◌≢◌, ℕ, List, ◌++◌, [], ◌∷◌, Bool, true, Option, Some}
 use Rattle.std.specs.Io.KnownBytes.{Consumes, IsAtEnd}
 use Rattle.rw_types.specs.declared.entry.Entry.{Entry}
-use Rattle.rw_wal_format.specs.Laws.{Extends}
-use Rattle.rw_wal_format.specs.Pieces.{Piece, bytes, entries, fault, page_size, reading}
+use Rattle.rw_wal_format.specs.Pieces.{Piece, bytes, fault}
 use Rattle.rw_wal_format.specs.declared.tail_fault.TailFault.{TailFault}
 use Rattle.rw_wal_format.specs.declared.tail_fault.TailFault.TheVariants as tail
 use Rattle.rw_wal_tail.specs.Fed.{Fed}
+use Rattle.rw_wal_tail.specs.Taking.{HasTaken}
 use Rattle.rw_text.specs.declared.tool_fault.ToolFault.{ToolFault}
 use Rattle.rw_text.specs.declared.tool_fault.ToolFault.TheVariants.{OutOfMemory, Log, Line, SegmentFull, Device}
-
--- the entries that the reader gave were taken
-pub record HasTaken (t : Fed) (taken : List Entry) : Type 0 where
-  pub front : taken ≡ take t.given (entries t.pieces)
-  pub within : t.given ≤ length (entries t.pieces)
-
--- all entries of the pieces were taken, and the pieces have no fault
-pub record HasTakenAll (pieces : List Piece) (t : Fed) (taken : List Entry) : Type 0 where
-  pub fed : t.pieces ≡ pieces
-  pub given : t.given ≡ length (entries pieces)
-  pub all : taken ≡ entries pieces
-  pub sound : fault pieces ≡ None
 
 -- A fault of the log is the one that the pieces have. It is one of those that the format names.
 abbrev pub IsFaultOf : List Piece → ToolFault → Type 0
@@ -35,7 +23,7 @@ pub record FeedsMore (left_before left_after : Option (List ℕ)) (before after 
   pub text : List ℕ
   pub read : Consumes left_before left_after text
   pub fed : after ≡ record before { pieces = before.pieces ++ bytes text ∷ [] }
-  pub goes_on : Extends (reading page_size before.pieces) (reading page_size after.pieces)
+  pub still : (taken : List Entry) → HasTaken before taken → HasTaken after taken
 
 -- a segment was read to the end, and it has a fault, or none
 pub record ReadsSegment (has : Option TailFault) (left_before left_after : Option (List ℕ)) (segment : List ℕ) : Type 0 where

@@ -16,20 +16,20 @@ pub(crate) struct SampleCounts {
     pub(crate) kept: u64,
     /// Samples of series that the rules drop.
     pub(crate) filtered: u64,
-    /// Samples whose labels are no label set.
+    /// Samples whose labels are not a label set.
     pub(crate) bad: u64,
     /// Samples without a definition before them.
     pub(crate) noseries: u64,
 }
 
-/// One more. A count that does not fit is want of memory.
+/// Returns a count increased by one. A count that does not fit counts as out of memory.
 fn one_more(count: u64) -> Result<u64, AllocError>
     ensures { IfOk result (λ n. n ≡ count + 1) }
 {
     count.checked_add(1).ok_or(AllocError)
 }
 
-/// Adds a count behind its word.
+/// Adds a count after its word.
 #[tactic(auto, unfolding(crate::specs::Plan::count_text))]
 fn push_count(out: &mut Vec<u8>, word: &[u8], count: u64) -> Result<(), AllocError>
     ensures { OnOk result (out.new.items ≡ out.old.items ++ count_text word.now count) }
@@ -39,7 +39,7 @@ fn push_count(out: &mut Vec<u8>, word: &[u8], count: u64) -> Result<(), AllocErr
 }
 
 impl SampleCounts {
-    /// Counts a sample of which this is known.
+    /// Counts a sample by what is known of its reference.
     pub(crate) fn count(&mut self, found: &Known<'_>) -> Result<(), AllocError>
         ensures { OnOk result (self.new ≡ with_sample self.old (standing_in found.now)) }
     {
@@ -52,7 +52,7 @@ impl SampleCounts {
         Ok(())
     }
 
-    /// Adds the line that says them.
+    /// Adds the line of the counts.
     pub(crate) fn push_to(&self, out: &mut Vec<u8>) -> Result<(), AllocError>
         ensures { OnOk result (out.new.items ≡ out.old.items ++ counts_text self.now) }
     {

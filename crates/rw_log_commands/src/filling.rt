@@ -11,7 +11,7 @@ use rw_wal_format::PAGE_BYTES;
 use rw_wal_write::{LogFault, SegmentWriter};
 use std::alloc::{AllocError, Global};
 
-/// Writes the record of a line, if it has one, and answers whether there was room for it.
+/// Writes the record of a line, if it has one, and returns whether there was room for it.
 fn log_line(
     alloc: Global,
     writer: &mut SegmentWriter<Room>,
@@ -39,14 +39,14 @@ fn log_line(
     }
 }
 
-/// A segment, and what of a text follows the lines whose records it holds.
+/// A segment, and the rest of a text after the lines whose records it holds.
 #[derive(Drop)]
 pub(crate) struct Filled<'a> {
     pub(crate) segment: Vec<u8>,
     pub(crate) rest: &'a [u8],
 }
 
-/// A writer of a segment in memory.
+/// Returns a writer of a segment in memory.
 fn new_segment(alloc: Global, pages: usize) -> Result<SegmentWriter<Room>, AllocError>
     requires some { 1 ≤ pages }
     requires most { pages ≤ 4096 }
@@ -65,7 +65,7 @@ fn end_filling(writer: SegmentWriter<Room>, rest: &[u8]) -> Filled<'_>
     }
 }
 
-/// The segment of the records with which a text begins, as many as have room.
+/// Returns the segment of the records with which a text begins, as many as have room.
 pub(crate) fn fill(alloc: Global, text: &[u8], pages: usize) -> Result<Filled<'_>, AllocError>
     requires some { 1 ≤ pages }
     requires most { pages ≤ 4096 }

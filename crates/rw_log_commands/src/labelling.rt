@@ -13,11 +13,12 @@ use rw_write_request::Message;
 use std::alloc::{AllocError, Global};
 use std::marker::Model;
 
-/// The samples of the entries so far, as a message, and the label set of each reference. Contracts see the entries.
+/// The samples of the entries so far, as a message, and the label set of each reference. Contracts
+/// see the entries.
 #[derive(Drop)]
 pub struct Labelling {
     taken: History<Entry>,
-    /// It has no rules, and so keeps every label set with legacy names.
+    /// It has no rules, so it keeps every label set with legacy names.
     cache: Cache,
     grouping: Grouping,
 }
@@ -35,7 +36,7 @@ impl Model for Labelling {
 }
 
 impl Labelling {
-    /// Before the first entry.
+    /// Returns a labelling before the first entry.
     pub fn new(alloc: Global) -> Labelling
         ensures { result ≡ [] }
     {
@@ -46,7 +47,7 @@ impl Labelling {
         }
     }
 
-    /// The message of the samples that have a label set.
+    /// Returns the message of the samples that have a label set.
     pub fn into_message(self) -> Message
         ensures { result ≡ message (labelled self) }
     {

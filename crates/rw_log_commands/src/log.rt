@@ -23,7 +23,7 @@ const PAGE_DATA_BYTES: usize = 32 * 1024 - 7;
 /// The names of segment files have eight digits.
 const MAX_SEGMENTS: u32 = 100_000_000;
 
-/// The segment of the records of log text.
+/// Returns the segment of the records of log text.
 fn one_segment(alloc: Global, text: &[u8], pages: usize) -> Result<Vec<u8>, ToolFault>
     requires some { 1 ≤ pages }
     requires most { pages ≤ 4096 }
@@ -39,7 +39,7 @@ fn one_segment(alloc: Global, text: &[u8], pages: usize) -> Result<Vec<u8>, Tool
     Ok(filled.segment)
 }
 
-/// Reads log text to its end, and answers the segment of its records.
+/// Reads log text to its end, and returns the segment of its records.
 fn read_segment<R: Source>(
     alloc: Global,
     reader: &mut R,
@@ -59,9 +59,10 @@ fn read_segment<R: Source>(
     one_segment(alloc, &text, pages)
 }
 
-/// Reads log text and writes one segment (wal.md) of its records, of at most so many pages.
-/// The text has one record a line: `series REF LABELS`, `sample REF T VALUE` or `raw HEX`. With `hex` the output is lower case hexadecimal text and a newline.
-/// All lines are read and judged before anything is written.
+/// Reads log text and writes one segment (wal.md) of its records, of at most `pages` pages. The
+/// text has one record a line: `series REF LABELS`, `sample REF T VALUE` or `raw HEX`. With `hex`
+/// the output is lower case hexadecimal text and a newline. All lines are read and judged before
+/// anything is written.
 pub fn run_log<R: Source, W: Sink>(
     alloc: Global,
     reader: &mut R,
@@ -78,7 +79,8 @@ pub fn run_log<R: Source, W: Sink>(
     ensures writer_sound { OnOk result
         (W.has_failed writer.old ≡ false → W.has_failed writer.new ≡ false) }
 
-    // A line that is no log text comes before records that have no room, and nothing is written at either.
+    // A line that is not log text comes before records that have no room. Nothing is written in
+    // either case.
     ensures line { (n : ℕ) → result ≡ Err (Line n)
         → ReadsFaulty pages (R.remaining reader.old) (R.remaining reader.new) (Line n) }
     ensures full { result ≡ Err SegmentFull
@@ -86,7 +88,7 @@ pub fn run_log<R: Source, W: Sink>(
     ensures no_other { (f : TailFault) → result ≡ Err (Log f) → ⊥ }
     ensures untouched { IfErr result (λ e. e ≢ Device → writer.new ≡ writer.old) }
 
-    // Where a device fails, the writer holds a beginning of the output.
+    // If a device fails, the writer holds a prefix of the output.
     ensures device { result ≡ Err Device
         → ((R.has_failed reader.new ≡ true) × (writer.new ≡ writer.old))
         ⊎ ((W.has_failed writer.new ≡ true)
@@ -112,7 +114,7 @@ fn judge_for_segments(alloc: Global, text: &[u8], pages: usize) -> Result<(), To
     Ok(())
 }
 
-/// Writes a segment into the file of its number. A file that is there is replaced.
+/// Writes a segment into the file of its number. An existing file is replaced.
 fn put_segment(
     rt: &impl Files,
     alloc: Global,
@@ -155,9 +157,10 @@ fn put_segments(
     Err(ToolFault::Device)
 }
 
-/// Reads log text as `run_log` does, and writes its segments into the folder `dir`, as files `00000000`, `00000001` and so on.
-/// A record that has no room in what is left of a segment begins the next one. Without a record there is one empty file.
-/// All lines are read and judged before a file is written.
+/// Reads log text as `run_log` does, and writes its segments into the folder `dir`, as files
+/// `00000000`, `00000001` and so on. A record that has no room in the rest of a segment begins the
+/// next one. Without a record there is one empty file. All lines are read and judged before a file
+/// is written.
 pub fn run_log_dir<R: Source>(
     rt: &impl Files,
     alloc: Global,

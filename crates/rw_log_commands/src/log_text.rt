@@ -7,7 +7,7 @@ ghost use Rattle.rw_log_commands.specs.LogText.{longest_of, AreRecords, IsFaultO
 use rw_text::{TextFault, ToolFault, first_line, read_record};
 use std::alloc::Global;
 
-/// The length of the record of a line; 0 for an empty line, which has none.
+/// Returns the length of the record of a line; 0 for an empty line, which has none.
 fn record_len(alloc: Global, line: &[u8]) -> Result<usize, TextFault>
     ensures ok { IfOk result (λ len. (recs : List (List ℕ)) × AreRecords (line.now ∷ []) recs
         × (len ≡ longest_of recs)) }
@@ -21,7 +21,7 @@ fn record_len(alloc: Global, line: &[u8]) -> Result<usize, TextFault>
     Ok(rec.len())
 }
 
-/// Judges each line of a text, and answers the length of the longest record.
+/// Judges each line of a text, and returns the length of the longest record.
 pub(crate) fn judge(alloc: Global, text: &[u8]) -> Result<usize, ToolFault>
     ensures ok { IfOk result (λ longest. (recs : List (List ℕ)) × AreRecords (lines text.now) recs
         × (longest ≡ longest_of recs)) }

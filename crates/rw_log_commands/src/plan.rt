@@ -28,7 +28,7 @@ impl Taker for Planner {
     }
 }
 
-/// Reads a log segment (wal.md) to its end, and answers its plan.
+/// Reads a log segment (wal.md) to its end, and returns its plan.
 fn read_plan<R: Source>(alloc: Global, reader: &mut R, choice: Choice) -> Result<Vec<u8>, ToolFault>
     ensures ok { IfOk result (λ v. (segment : List ℕ)
         × ReadsSegment None (R.remaining reader.old) (R.remaining reader.new) segment
@@ -41,7 +41,7 @@ fn read_plan<R: Source>(alloc: Global, reader: &mut R, choice: Choice) -> Result
     Ok(planner.into_text()?)
 }
 
-/// Reads the hexadecimal text of a segment to its end, and answers its plan.
+/// Reads the hexadecimal text of a segment to its end, and returns its plan.
 fn read_hex_plan<R: Source>(
     alloc: Global,
     reader: &mut R,
@@ -61,16 +61,17 @@ fn read_hex_plan<R: Source>(
     read_plan(alloc, &mut segment.as_slice(), choice)
 }
 
-/// Which series the settings send.
+/// Returns which series the settings send.
 fn choice_in(settings: Settings) -> Choice
     ensures { result ≡ choice_of settings.config }
 {
     settings.config.into_fields().into_choice()
 }
 
-/// Reads a log segment (wal.md) and writes what the rules make of it: for each definition in log order `REF kept NUMBER LABELS`,
-/// `REF filtered LABELS` or `REF bad FAULT`, and then `samples kept A filtered B bad C noseries D`, each line ended by LF.
-/// With `hex` the input is hexadecimal text in which white space is ignored. Nothing is written before the whole plan is made.
+/// Reads a log segment (wal.md) and writes what the rules make of it: for each definition in log
+/// order `REF kept NUMBER LABELS`, `REF filtered LABELS` or `REF bad FAULT`, and then `samples kept
+/// A filtered B bad C noseries D`, each line ended by LF. With `hex` the input is hexadecimal text
+/// in which white space is ignored. Nothing is written before the whole plan is made.
 pub fn run_plan<R: Source, W: Sink>(
     alloc: Global,
     reader: &mut R,
@@ -85,7 +86,8 @@ pub fn run_plan<R: Source, W: Sink>(
     ensures writer_sound { OnOk result
         (W.has_failed writer.old ≡ false → W.has_failed writer.new ≡ false) }
 
-    // A fault of the data is the one that the input has, and nothing is written then, or where memory ran out.
+    // A fault of the data is the one that the input has. Then nothing is written, nor if memory ran
+    // out.
     ensures log { (f : TailFault) → result ≡ Err (Log f)
         → ReadsFault hex f (R.remaining reader.old) (R.remaining reader.new) }
     ensures line { (n : ℕ) → result ≡ Err (Line n)
@@ -93,7 +95,7 @@ pub fn run_plan<R: Source, W: Sink>(
     ensures no_full { result ≡ Err SegmentFull → ⊥ }
     ensures untouched { IfErr result (λ e. e ≢ Device → writer.new ≡ writer.old) }
 
-    // Where a device fails, the writer holds a beginning of the plan.
+    // If a device fails, the writer holds a prefix of the plan.
     ensures device { result ≡ Err Device
         → ((R.has_failed reader.new ≡ true) × (writer.new ≡ writer.old))
         ⊎ ((W.has_failed writer.new ≡ true)

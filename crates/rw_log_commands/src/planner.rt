@@ -15,7 +15,8 @@ use rw_types::{Entry, LabelFault, LabelSet, RawLabels};
 use std::alloc::{AllocError, Global};
 use std::marker::Model;
 
-/// The plan of the entries so far. Contracts see the rules, the entries, and whether a call was refused: then each later one is refused too.
+/// The plan of the entries so far. Contracts see the rules, the entries, and whether a call has
+/// failed: then each later call fails too.
 #[derive(Drop)]
 pub struct Planner {
     alloc: Global,
@@ -83,7 +84,7 @@ fn count(cache: &Cache, counts: &mut SampleCounts, reference: u64) -> Result<(),
 }
 
 impl Planner {
-    /// Before the first entry.
+    /// Returns a planner before the first entry.
     pub fn new(alloc: Global, choice: Choice) -> Planner
         ensures { result ≡ record { choice = choice; entries = []; has_failed = false } }
     {
@@ -130,7 +131,7 @@ impl Planner {
         Ok(())
     }
 
-    /// The plan of the entries. A planner of which a call was refused has none.
+    /// Returns the plan of the entries. A planner of which a call has failed has none.
     pub fn into_text(self) -> Result<Vec<u8>, AllocError>
         ensures text { IfOk result (λ v. v.items ≡ plan_text self.choice self.entries) }
         ensures sound { OnOk result (self.has_failed ≡ false) }

@@ -5,7 +5,8 @@ ghost use Rattle.std.specs.Io.KnownBytes.{Consumes, IsAtEnd};
 ghost use Rattle.rw_types.specs.declared.entry.Entry.{Entry};
 ghost use Rattle.rw_wal_format.specs.Pieces.{bytes, entries};
 ghost use Rattle.rw_relabel.specs.declared.choice.Choice.{Choice};
-ghost use Rattle.rw_log_commands.specs.Taking.{HasTaken, HasTakenAll, IsFaultOf, FeedsMore, ReadsSegment, StopsReading};
+ghost use Rattle.rw_wal_tail.specs.Taking.{HasTaken, HasTakenAll};
+ghost use Rattle.rw_log_commands.specs.Taking.{IsFaultOf, FeedsMore, ReadsSegment, StopsReading};
 ghost use Rattle.rw_text.specs.declared.tool_fault.ToolFault.TheVariants.{OutOfMemory, Device};
 
 use rw_text::ToolFault;
@@ -16,7 +17,7 @@ use std::alloc::{AllocError, Global};
 /// How many bytes one read asks for.
 const CHUNK: usize = 64 * 1024;
 
-/// What takes the entries of a log.
+/// A visitor of the entries of a log.
 pub(crate) trait Taker {
     /// The entries so far.
     ghost taken: { Self → List Entry };
@@ -38,7 +39,8 @@ fn zeros(alloc: Global, len: usize) -> Result<Vec<u8>, AllocError>
 /// Takes the entries that the reader of the log has left.
 fn take_all<T: Taker>(tail: &mut Tail, taker: &mut T) -> Result<(), ToolFault>
     requires { HasTaken tail.old (T.taken taker.old) }
-    ensures ok { OnOk result (HasTakenAll tail.old.pieces tail.new (T.taken taker.new)) }
+    ensures ok { OnOk result (HasTakenAll tail.new (T.taken taker.new) None) }
+    ensures pieces { OnOk result (tail.new.pieces ≡ tail.old.pieces) }
     ensures choice { OnOk result (T.choice taker.new ≡ T.choice taker.old) }
     ensures err { IfErr result (IsFaultOf tail.old.pieces) }
 {
@@ -48,7 +50,7 @@ fn take_all<T: Taker>(tail: &mut Tail, taker: &mut T) -> Result<(), ToolFault>
     Ok(())
 }
 
-/// Feeds what one read gives. False is the end of the input.
+/// Feeds what one read returns. `false` means the end of the input.
 fn feed_some<R: Source>(
     reader: &mut R,
     chunk: &mut [u8],

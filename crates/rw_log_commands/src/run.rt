@@ -27,7 +27,7 @@ impl Taker for Labelling {
     }
 }
 
-/// Reads to the end.
+/// Reads the input to its end.
 pub(crate) fn read_input<R: Source>(alloc: Global, reader: &mut R) -> Result<Vec<u8>, ToolFault>
     ensures read { IfOk result
         (λ v. Consumes (R.remaining reader.old) (R.remaining reader.new) v.items) }
@@ -41,7 +41,8 @@ pub(crate) fn read_input<R: Source>(alloc: Global, reader: &mut R) -> Result<Vec
     Ok(input)
 }
 
-/// Reads a log segment (wal.md) to its end, and answers the canonical body of its samples that have a label set (Remote-Write 1.0).
+/// Reads a log segment (wal.md) to its end, and returns the canonical body of its samples that have
+/// a label set (Remote-Write 1.0).
 fn read_body<R: Source>(alloc: Global, reader: &mut R) -> Result<Vec<u8>, ToolFault>
     ensures ok { IfOk result (λ v. (segment : List ℕ)
         × ReadsSegment None (R.remaining reader.old) (R.remaining reader.new) segment
@@ -54,7 +55,7 @@ fn read_body<R: Source>(alloc: Global, reader: &mut R) -> Result<Vec<u8>, ToolFa
     Ok(encode(alloc, &labelling.into_message())?)
 }
 
-/// Reads the hexadecimal text of a segment to its end, and answers its body.
+/// Reads the hexadecimal text of a segment to its end, and returns its body.
 fn read_hex_body<R: Source>(alloc: Global, reader: &mut R) -> Result<Vec<u8>, ToolFault>
     ensures ok { IfOk result (λ v. (segment : List ℕ)
         × ReadsInput true None (R.remaining reader.old) (R.remaining reader.new) segment
@@ -70,7 +71,7 @@ fn read_hex_body<R: Source>(alloc: Global, reader: &mut R) -> Result<Vec<u8>, To
     read_body(alloc, &mut segment.as_slice())
 }
 
-/// What is written of a text.
+/// Returns the output for a text: itself, or its hexadecimal digits.
 pub(crate) fn output_of(alloc: Global, text: Vec<u8>, hex: bool) -> Result<Vec<u8>, AllocError>
     ensures { IfOk result (λ v. v.items ≡ output_of hex text.items) }
 {
@@ -82,9 +83,10 @@ pub(crate) fn output_of(alloc: Global, text: Vec<u8>, hex: bool) -> Result<Vec<u
     Ok(digits.into_bytes())
 }
 
-/// Reads a log segment (wal.md) and writes the canonical body of its samples that have a label set (Remote-Write 1.0).
-/// With `hex` the input is hexadecimal text in which white space is ignored, and the output is lower case hexadecimal text and a newline.
-/// Nothing is written before the whole body is made.
+/// Reads a log segment (wal.md) and writes the canonical body of its samples that have a label set
+/// (Remote-Write 1.0). With `hex` the input is hexadecimal text in which white space is ignored,
+/// and the output is lower case hexadecimal text and a newline. Nothing is written before the whole
+/// body is made.
 pub fn run_body<R: Source, W: Sink>(
     alloc: Global,
     reader: &mut R,
@@ -98,7 +100,8 @@ pub fn run_body<R: Source, W: Sink>(
     ensures writer_sound { OnOk result
         (W.has_failed writer.old ≡ false → W.has_failed writer.new ≡ false) }
 
-    // A fault of the data is the one that the input has, and nothing is written then, or where memory ran out.
+    // A fault of the data is the one that the input has. Then nothing is written, nor if memory ran
+    // out.
     ensures log { (f : TailFault) → result ≡ Err (Log f)
         → ReadsFault hex f (R.remaining reader.old) (R.remaining reader.new) }
     ensures line { (n : ℕ) → result ≡ Err (Line n)
@@ -106,7 +109,7 @@ pub fn run_body<R: Source, W: Sink>(
     ensures no_full { result ≡ Err SegmentFull → ⊥ }
     ensures untouched { IfErr result (λ e. e ≢ Device → writer.new ≡ writer.old) }
 
-    // Where a device fails, the writer holds a beginning of the output.
+    // If a device fails, the writer holds a prefix of the output.
     ensures device { result ≡ Err Device
         → ((R.has_failed reader.new ≡ true) × (writer.new ≡ writer.old))
         ⊎ ((W.has_failed writer.new ≡ true)

@@ -12,7 +12,7 @@ use Rattle.rw_log_folder.specs.declared.listing.Place.{Place}
 abbrev pub comes_before : Name → Name → Bool
 comes_before x y = is_lt (ordering_then (nat_cmp x.number y.number) (nat_cmp x.digits y.digits))
 
--- `sorted` has these names, by rising number
+-- `sorted` has these names, by ascending number
 abbrev pub AreByNumber : List Name → List Name → Type 0
 AreByNumber names sorted = IsPermutation names sorted × IsSortedBy comes_before sorted
 
@@ -29,22 +29,22 @@ place_in checkpoint segment = record { checkpoint = checkpoint; segment = segmen
 abbrev pub is_above : ℕ → Name → Bool
 is_above number segment = ltb number segment.number
 
--- a segment of this number is there
+-- a segment of this number exists
 abbrev pub has_number : List Name → ℕ → Bool
 has_number segments n = list_any (λ (s : Name). s.number == n) segments
 
--- a segment of a greater number is there
+-- a segment of a greater number exists
 abbrev pub has_above : List Name → ℕ → Bool
 has_above segments n = list_any (is_above n) segments
 
--- n is the least number above `last` that is missing although a greater one is there
+-- n is the least number above `last` that is missing although a greater one exists
 pub record IsGap (last : ℕ) (segments : List Name) (n : ℕ) : Type 0 where
   pub above : last < n
   pub absent : has_number segments n ≡ false
   pub later : has_above segments n ≡ true
   pub least : (k : ℕ) → last < k → k < n → has_number segments k ≡ true
 
--- no number above `last` is missing before one that is there
+-- no number above `last` is missing before one that exists
 abbrev pub IsWhole : ℕ → List Name → Type 0
 IsWhole last segments =
     (k : ℕ) → last < k → has_above segments k ≡ true → has_number segments k ≡ true
@@ -54,8 +54,8 @@ abbrev pub gap_after : ℕ → List Name → Option ℕ
 gap_after last [] = None
 gap_after last (s ∷ ss) = if ltb (last + 1) s.number then Some (last + 1) else gap_after s.number ss
 
--- the files of a log that is read from this checkpoint on: its segments by rising number, and then
--- those of the folder with greater numbers than the checkpoint's, none missing between
+-- the files of a log that is read from this checkpoint on: its segments by ascending number, and
+-- then those of the folder with greater numbers than the checkpoint's, none missing between
 pub record IsReadFrom (checkpoint : Checkpoint) (segments : List Name) (places : List Place) : Type 0 where
   pub first : List Name
   pub then_ : List Name
@@ -64,7 +64,7 @@ pub record IsReadFrom (checkpoint : Checkpoint) (segments : List Name) (places :
   pub whole : IsWhole checkpoint.name.number (filter (is_above checkpoint.name.number) segments)
   pub is : places ≡ map (place_in (Some checkpoint.name)) first ++ map (place_in None) then_
 
--- the files of a log: from a checkpoint on, or, without one, all segments by rising number
+-- the files of a log: from a checkpoint on, or, without one, all segments by ascending number
 abbrev pub IsReadAfter : Option Checkpoint → List Name → List Place → Type 0
 IsReadAfter None segments places =
     (sorted : List Name) × AreByNumber segments sorted × (places ≡ map (place_in None) sorted)
@@ -75,7 +75,7 @@ abbrev pub IsLogOrder : Listing → List Place → Type 0
 IsLogOrder listing places = (newest : Option Checkpoint)
     × IsNewest listing.checkpoints.items newest × IsReadAfter newest listing.segments.items places
 
--- the least number that is missing after the newest checkpoint although a greater one is there
+-- the least number that is missing after the newest checkpoint although a greater one exists
 abbrev pub IsMissing : Listing → ℕ → Type 0
 IsMissing listing n = (checkpoint : Checkpoint) × IsNewest listing.checkpoints.items (Some checkpoint)
     × IsGap checkpoint.name.number (filter (is_above checkpoint.name.number) listing.segments.items) n

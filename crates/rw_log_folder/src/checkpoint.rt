@@ -21,10 +21,10 @@ use std::path::Path;
 use std::rt::Files;
 use std::sync::Arc;
 
-/// What the name of a checkpoint's folder begins with.
+/// The prefix of the name of a checkpoint's folder.
 const CHECKPOINT: &str = "checkpoint.";
 
-/// How often a folder is listed if a file is gone before it is opened.
+/// How often a folder is listed at most, if a file is gone before it is opened.
 const MOST_LISTINGS: usize = 3;
 
 /// Why the files of a log cannot be opened.
@@ -65,7 +65,7 @@ impl From<OrderFault> for FilesFault {
 #[derive(Drop)]
 pub struct LogFiles<R: Files<File = File>> {
     pub files: Vec<Opened<SegmentFile<R>>>,
-    /// The number of a segment that is missing; then the only file is one that cannot be read.
+    /// The number of a segment that is missing. Then there is only one file, which cannot be read.
     pub missing: Option<u64>,
 }
 
@@ -82,8 +82,9 @@ fn name_of(text: &str) -> Option<Name>
     }
 }
 
-/// Returns the number of a checkpoint by the name of its folder; none if it is no such name. The
-/// server has not finished one whose name goes on after the number.
+/// Returns the number of a checkpoint by the name of its folder, or `None` if the name is not that
+/// of a checkpoint. A name that goes on after the number belongs to one that the server has not
+/// finished.
 fn checkpoint_of(text: &str) -> Option<Name>
     ensures { IfSome result (λ name. IsCheckpointName text.now name.number) }
 {
@@ -107,7 +108,7 @@ fn add_name(alloc: Global, listing: &mut Listing, text: &str) -> Result<(), Allo
     }
 }
 
-/// Lists a folder, without what is in its checkpoints.
+/// Lists a folder, without the contents of its checkpoints.
 fn list<R: Files + AllocGlobal + Copy>(rt: &R, dir: &str) -> Result<Listing, ToolFault> {
     let alloc = rt.alloc();
     let entries = match fs::read_dir(rt, dir) {
@@ -121,7 +122,7 @@ fn list<R: Files + AllocGlobal + Copy>(rt: &R, dir: &str) -> Result<Listing, Too
     for entry in entries {
         match entry {
             Ok(entry) => add_name(alloc, &mut listing, entry.file_name())?,
-            // no UTF-8
+            // The name is not UTF-8.
             Err(error) if error.kind() == ErrorKind::InvalidFilename => {}
             Err(error) => return Err(fault_of(&error)),
         }
@@ -129,7 +130,7 @@ fn list<R: Files + AllocGlobal + Copy>(rt: &R, dir: &str) -> Result<Listing, Too
     Ok(listing)
 }
 
-/// Returns whether a folder has a checkpoint; no, if it cannot be read.
+/// Returns whether a folder has a checkpoint. The answer is `false` if the folder cannot be read.
 pub fn has_checkpoint<R: Files + AllocGlobal + Copy>(rt: &R, dir: &str) -> bool {
     match list(rt, dir) {
         Ok(listing) => !listing.checkpoints.is_empty(),
@@ -154,7 +155,7 @@ fn folder_name(alloc: Global, checkpoint: Name) -> Result<String, AllocError> {
     Ok(text)
 }
 
-/// Lists what is in a checkpoint.
+/// Lists the contents of a checkpoint.
 fn list_checkpoint<R: Files + AllocGlobal + Copy>(
     rt: &R,
     dir: &str,
@@ -195,8 +196,8 @@ fn segment_at(alloc: Global, place: Place) -> Result<SegmentName, AllocError> {
     })
 }
 
-/// Returns the files of a log, of which those of the checkpoint and the first one after it are open.
-/// The first one of them that cannot be opened is the only one in `closed`.
+/// Returns the files of a log, of which those of the checkpoint and the first one after it are
+/// open. If one of these cannot be opened, the first such file is the only one in `closed`.
 fn open_files<R: Files<File = File> + AllocGlobal + Copy>(
     rt: &R,
     dir: &str,
@@ -280,10 +281,11 @@ pub(crate) fn first_files<R: Files<File = File> + AllocGlobal + Copy>(
 /// Returns the files of a log, from the newest checkpoint of its folder on: the segments of that
 /// checkpoint, and then those of the folder that come after it.
 ///
-/// The files of the checkpoint and the first one after it are open, so that they can be read even if
-/// a server removes them. If one of them is gone before it is opened, the folder is listed again,
-/// three times at most. If a segment is missing, or the folder or one of these files cannot be read,
-/// there is one file, which cannot be read: the first one that cannot be opened, if it is known.
+/// The files of the checkpoint and the first one after it are open, so that they can be read even
+/// if a server removes them. If one of them is gone before it is opened, the folder is listed
+/// again, three times at most. If a segment is missing, or the folder or one of these files cannot
+/// be read, there is one file whose reads fail: the first one that cannot be opened, if it is
+/// known.
 pub fn log_files<R: Files<File = File> + AllocGlobal + Copy>(
     rt: &R,
     dir: &str,

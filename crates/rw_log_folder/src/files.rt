@@ -26,12 +26,12 @@ pub struct SegmentFile<R> {
     path: PathBuf,
     name: String,
     number: u64,
-    /// They are told when it is opened.
+    /// They count it when it is opened.
     counters: Option<Arc<SendCounters, Global>>,
 }
 
 impl<R> SegmentFile<R> {
-    /// The name of the file in its folder; empty where the folder cannot be read.
+    /// Returns the name of the file in its folder, or the empty text if the folder cannot be read.
     pub fn name(&self) -> &str
         ensures { result.now ≡ string_bytes self.now.name }
     {
@@ -40,7 +40,7 @@ impl<R> SegmentFile<R> {
 }
 
 impl<R: Files> SegmentFile<R> {
-    /// How many bytes it has now; none where that cannot be asked.
+    /// Returns how many bytes the file has now, or 0 if that is not known.
     fn bytes(&self) -> u64 {
         match fs::metadata(&self.rt, self.path.as_path()) {
             Ok(metadata) => metadata.len(),
@@ -76,7 +76,8 @@ pub(crate) struct SegmentName {
     pub(crate) name: String,
 }
 
-/// The number of a segment by the name of its file; none where it is no name of a segment.
+/// Returns the number of a segment by the name of its file, or `None` if the name is not that of a
+/// segment.
 pub(crate) fn number_of(name: &str) -> Option<u64>
     ensures { MatchOption result ((n : ℕ) → n < 2 ^ 64 → IsNameOf name.now n → ⊥)
         (IsNameOf name.now) }
@@ -94,7 +95,7 @@ fn put_in_order(names: &mut Vec<SegmentName>)
     names.sort_unstable_by_key(|segment| (segment.number, segment.name.len()));
 }
 
-/// Why a folder cannot be read.
+/// Returns the fault of a folder that cannot be read.
 pub(crate) fn fault_of(error: &io::Error) -> ToolFault {
     match error.kind() {
         ErrorKind::OutOfMemory => ToolFault::OutOfMemory,
@@ -102,7 +103,7 @@ pub(crate) fn fault_of(error: &io::Error) -> ToolFault {
     }
 }
 
-/// The names of a folder's segments, in order.
+/// Returns the names of a folder's segments, in order.
 pub(crate) fn names_in<R: Files + AllocGlobal + Copy>(
     rt: &R,
     dir: &str,
@@ -126,7 +127,7 @@ pub(crate) fn names_in<R: Files + AllocGlobal + Copy>(
                     }
                 }
             }
-            // no UTF-8
+            // The name is not UTF-8.
             Err(error) if error.kind() == ErrorKind::InvalidFilename => {}
             Err(error) => return Err(fault_of(&error)),
         }
@@ -135,7 +136,7 @@ pub(crate) fn names_in<R: Files + AllocGlobal + Copy>(
     Ok(names)
 }
 
-/// The file of a segment. The counters are told when it is opened.
+/// Returns the file of a segment. The counters count it when it is opened.
 pub(crate) fn file_of<R: Files + AllocGlobal + Copy>(
     rt: &R,
     dir: &str,
@@ -156,7 +157,7 @@ pub(crate) fn file_of<R: Files + AllocGlobal + Copy>(
     })
 }
 
-/// Appends a file that cannot be read.
+/// Appends a file whose reads fail.
 pub(crate) fn push_unreadable<R: Files<File = File> + AllocGlobal + Copy>(
     rt: &R,
     files: &mut Vec<Opened<SegmentFile<R>>>,
@@ -172,7 +173,7 @@ pub(crate) fn push_unreadable<R: Files<File = File> + AllocGlobal + Copy>(
     Ok(())
 }
 
-/// Tells the counters, if there are any, how many bytes the files have.
+/// Sets in the counters, if there are any, how many bytes the files have.
 pub(crate) fn count_bytes<R: Files<File = File> + AllocGlobal + Copy>(
     files: &[Opened<SegmentFile<R>>],
     counters: Option<&Arc<SendCounters, Global>>,
@@ -186,9 +187,10 @@ pub(crate) fn count_bytes<R: Files<File = File> + AllocGlobal + Copy>(
     }
 }
 
-/// The segments of a log in a folder, in the order of their numbers: the files whose names are one to eight decimal digits, and of two names
-/// of one number the shorter first. Other names are passed over. Of a folder that cannot be read there is one segment, which cannot be read.
-/// Counters are told how many bytes the segments have, and of each one that is opened.
+/// Returns the segments of a log in a folder, in the order of their numbers: the files whose names
+/// are one to eight decimal digits, and of two names of one number the shorter first. Other names
+/// are skipped. A folder that cannot be read yields one segment whose reads fail. The counters get
+/// the number of bytes of all segments, and count each one that is opened.
 pub fn segment_files<R: Files<File = File> + AllocGlobal + Copy>(
     rt: &R,
     dir: &str,

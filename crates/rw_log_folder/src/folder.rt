@@ -1,4 +1,4 @@
-//! The segments of a folder in which a writer goes on writing.
+//! The segments of a folder to which a writer may still be writing.
 
 use crate::checkpoint::{FilesFault, first_files};
 use crate::files::{SegmentName, names_in};
@@ -20,13 +20,14 @@ pub(crate) struct Current {
     pub(crate) file: Std<File>,
 }
 
-/// The segments of a log in a folder, as they come: the files whose names are one to eight decimal digits, by number, and of two names of one number the
-/// shorter first. What stands in them nobody can know.
+/// The segments of a log in a folder, as they come: the files whose names are one to eight decimal
+/// digits, by number, and of two names of one number the shorter first. No contract says what they
+/// contain.
 #[derive(Drop)]
 pub struct Folder<R> {
     rt: R,
     dir: String,
-    /// None before the first one is there.
+    /// `None` before the first one is there.
     current: Option<Current>,
     /// The one after it, once it was seen.
     ahead: Option<SegmentName>,
@@ -39,12 +40,12 @@ pub struct Folder<R> {
     counters: Arc<SendCounters, Global>,
 }
 
-/// The path of a segment.
+/// Returns the path of a segment.
 fn path_of(alloc: Global, dir: &str, name: &str) -> Result<PathBuf, AllocError> {
     Path::new(dir).join(alloc, name)
 }
 
-/// The first of the names in order that comes after this one.
+/// Returns the first of the names in order that comes after this one.
 fn name_after(names: Vec<SegmentName>, current: &Option<Current>) -> Option<SegmentName> {
     for next in names {
         let is_after = match current {
@@ -62,7 +63,8 @@ fn name_after(names: Vec<SegmentName>, current: &Option<Current>) -> Option<Segm
 }
 
 impl<R: Files<File = File> + AllocGlobal + Copy> Folder<R> {
-    /// Of the folder of this name, from its first segment on. The counters are told of each segment that is opened.
+    /// Returns the segments of the folder of this name, from the first one on. The counters count
+    /// each segment that is opened.
     pub fn new(rt: R, dir: String, counters: Arc<SendCounters, Global>) -> Folder<R> {
         let opened = Vec::new(rt.alloc());
         Folder {
@@ -77,9 +79,10 @@ impl<R: Files<File = File> + AllocGlobal + Copy> Folder<R> {
         }
     }
 
-    /// Of the folder of this name, from its newest checkpoint on, if it has one when it is first
-    /// read: the segments of that checkpoint, and then those of the folder that come after it. The
-    /// files of the checkpoint and the first one after it are opened before the first byte is given.
+    /// Returns the segments of the folder of this name, from its newest checkpoint on, if it has
+    /// one when it is first read: the segments of that checkpoint, and then those of the folder
+    /// that come after it. The files of the checkpoint and the first one after it are opened before
+    /// the first byte is read.
     pub fn from_checkpoint(rt: R, dir: String, counters: Arc<SendCounters, Global>) -> Folder<R> {
         let opened = Vec::new(rt.alloc());
         Folder {
@@ -102,7 +105,7 @@ impl<R: Files<File = File> + AllocGlobal + Copy> Folder<R> {
         }
     }
 
-    /// Opens what is read first, if it is there.
+    /// Opens the file that is read first, if it is there.
     fn begin(&mut self) -> Result<(), ReadFault> {
         if !self.from_checkpoint {
             return match self.next_name()? {
@@ -126,7 +129,7 @@ impl<R: Files<File = File> + AllocGlobal + Copy> Folder<R> {
         }
     }
 
-    /// The segment after the current one that is there now.
+    /// Returns the segment after the current one that is there now.
     fn next_name(&self) -> Result<Option<SegmentName>, ReadFault> {
         match names_in(&self.rt, self.dir.as_str()) {
             Ok(names) => Ok(name_after(names, &self.current)),
@@ -149,7 +152,7 @@ impl<R: Files<File = File> + AllocGlobal + Copy> Folder<R> {
         }
     }
 
-    /// The number that is missing before the segment that was seen.
+    /// Returns the number that is missing before the segment that was seen.
     fn missing(&self) -> Option<u64> {
         match (&self.current, &self.ahead) {
             (Some(current), Some(ahead)) => {
@@ -196,7 +199,7 @@ impl<R: Files<File = File> + AllocGlobal + Copy> Segments for Folder<R> {
             return Ok(Ahead::Nothing);
         }
         self.ahead = self.next_name()?;
-        // a listing may have passed by the place of a segment that came in the meantime
+        // The listing may have missed a segment that was created while it was read.
         if self.missing().is_some() {
             self.ahead = self.next_name()?;
         }

@@ -1,5 +1,5 @@
-//! The files of a log in a folder: which of them are read, in which order, and the files themselves,
-//! opened when they are first read.
+//! The files of a log in a folder: which of them are read, in which order, and the files
+//! themselves, opened when they are first read.
 //!
 //! A log is read from its first segment on, or from its newest checkpoint on and then the segments
 //! after it.
@@ -9,6 +9,7 @@ mod checkpoint;
 mod files;
 mod folder;
 mod listing;
+mod newest_segment;
 mod opened;
 mod order;
 
@@ -16,5 +17,6 @@ pub use checkpoint::{LogFiles, has_checkpoint, log_files};
 pub use files::{SegmentFile, segment_files};
 pub use folder::Folder;
 pub use listing::{Checkpoint, Listing, Name, Place};
+pub use newest_segment::watch_newest_segment;
 pub use opened::{Open, Opened};
 pub use order::{OrderFault, log_order};

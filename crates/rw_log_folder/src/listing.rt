@@ -1,4 +1,4 @@
-//! What a listing of a folder gives, and what is read of it.
+//! The listing of a folder, and the files of it that are read.
 
 /// The number in the name of a segment or of a checkpoint, and with how many digits it is written:
 /// `00000010` is 10 with eight digits.
@@ -25,7 +25,7 @@ pub struct Listing {
 /// A file that is read: a segment of a checkpoint, or of the folder itself.
 #[derive(Clone, Copy)]
 pub struct Place {
-    /// None for a segment of the folder itself.
+    /// `None` for a segment of the folder itself.
     pub checkpoint: Option<Name>,
     pub segment: Name,
 }

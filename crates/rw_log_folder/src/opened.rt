@@ -1,4 +1,4 @@
-//! What is opened when it is first read.
+//! A source that is opened when it is first read.
 
 ghost use Rattle.std.specs.Prelude.{◌≡◌, ℕ, List, Option, IfOk};
 ghost use Rattle.std.specs.Io.{ReadsAtMost};
@@ -11,7 +11,7 @@ use rw_types::{Failed, Source};
 pub trait Open {
     type S: Source + Drop;
 
-    /// What a source that it opens has left, where that is known.
+    /// The bytes that a source that it opens has left, if they are known.
     ghost text: { Self → Option (List ℕ) };
 
     /// Opens it at its first byte.
@@ -19,7 +19,8 @@ pub trait Open {
         ensures { IfOk result (λ s. Self.S.remaining s ≡ text self.now) };
 }
 
-/// Reads what it opens when it is first read. Contracts see the bytes that are left of what was opened, and before that those that it will open.
+/// Opens a source when it is first read, and reads it. Contracts see the bytes that are left of
+/// what was opened, and before that those that it will open.
 #[derive(Drop)]
 pub struct Opened<O: Open> {
     place: O,
@@ -28,7 +29,7 @@ pub struct Opened<O: Open> {
 }
 
 impl<O: Open> Opened<O> {
-    /// Not yet opened.
+    /// Returns a source that is not yet opened.
     pub(crate) fn new(place: O) -> Opened<O> {
         Opened {
             place,
@@ -46,14 +47,14 @@ impl<O: Open> Opened<O> {
         !self.failed
     }
 
-    /// What it opens.
+    /// Returns the place that it opens.
     pub fn place(&self) -> &O
         ensures { result.now ≡ self.now.place }
     {
         &self.place
     }
 
-    /// Each read fails, and nothing is opened.
+    /// Returns a source whose reads fail. Nothing is opened.
     pub(crate) fn unreadable(place: O) -> Opened<O> {
         Opened {
             place,

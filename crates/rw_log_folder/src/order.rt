@@ -55,7 +55,7 @@ fn newest(checkpoints: Vec<Checkpoint>) -> Option<Checkpoint>
     checkpoints.pop()
 }
 
-/// The first number after `last` that is missing among names in order.
+/// Returns the first number after `last` that is missing among names in order.
 fn gap_after(last: u64, names: &[Name]) -> Option<u64>
     ensures { result ≡ gap_after last names.now }
 {
@@ -93,7 +93,7 @@ fn keep_above(segments: &mut Vec<Name>, number: u64)
     segments.retain(|segment| number < segment.number);
 }
 
-/// The files of a log without a checkpoint.
+/// Returns the files of a log without a checkpoint.
 fn whole_folder(alloc: Global, segments: Vec<Name>) -> Result<Vec<Place>, AllocError>
     ensures { IfOk result (λ places. IsReadAfter None segments.items places.items) }
 {
@@ -104,7 +104,7 @@ fn whole_folder(alloc: Global, segments: Vec<Name>) -> Result<Vec<Place>, AllocE
     Ok(places)
 }
 
-/// The files of a checkpoint, and those after it.
+/// Returns the files of a checkpoint, and those after it.
 fn both_places(
     alloc: Global,
     checkpoint: Name,
@@ -120,7 +120,7 @@ fn both_places(
     Ok(places)
 }
 
-/// The files of a log from a checkpoint on.
+/// Returns the files of a log from a checkpoint on.
 fn log_from(
     alloc: Global,
     checkpoint: Checkpoint,
@@ -150,14 +150,14 @@ fn log_from(
 }
 
 /// Returns the files of a log in the order in which they are read: the segments of the newest
-/// checkpoint by rising number, and then the segments of the folder with greater numbers than the
-/// checkpoint's, by rising number. Without a checkpoint these are all segments of the folder. Of two
-/// names of one number the shorter comes first.
+/// checkpoint by ascending number, and then the segments of the folder with greater numbers than
+/// the checkpoint's, by ascending number. Without a checkpoint these are all segments of the
+/// folder. Of two names of one number the shorter comes first.
 ///
-/// If a segment is missing after the checkpoint although a later one is there, the fault is the least
-/// number that is missing. No segment after the checkpoint is no fault: the log ends with the
-/// checkpoint. Without a checkpoint nothing is said to be missing. A missing segment is found before
-/// memory is taken.
+/// If a segment is missing after the checkpoint although a later one exists, the fault is the least
+/// number that is missing. No segment after the checkpoint is not a fault: the log ends with the
+/// checkpoint. Without a checkpoint nothing is reported as missing. A missing segment is found
+/// before memory is taken.
 pub fn log_order(alloc: Global, listing: Listing) -> Result<Vec<Place>, OrderFault>
     ensures order { IfOk result (λ places. IsLogOrder listing places.items) }
     ensures missing { (n : ℕ) → (result ≡ Err (Missing n)) ↔ IsMissing listing n }

@@ -316,7 +316,7 @@ zeros_pass : (n : ℕ) → list_all (λ b. eqb b 0) (replicate n 0) ≡ true
 zeros_pass zero = refl
 zeros_pass (suc n) = zeros_pass n
 
--- where the rest of a page is empty, its zeros are judged
+-- if the rest of a page is empty, its zeros are judged
 empty_read : (left b : ℕ) (bs : List ℕ) → IsEmptyRest left (b ∷ bs)
     → item_at left (b ∷ bs) ≡ zeros_at left (b ∷ bs)
 unfolding item_at

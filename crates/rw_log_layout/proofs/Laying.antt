@@ -4,9 +4,10 @@ use Rattle.std.proofs.lemmas.Bool.{cases_lt}
 use Rattle.std.proofs.lemmas.List.{length-replicate, map-append}
 use Rattle.std.proofs.lemmas.List.Folds.{concat-append}
 use Rattle.std.proofs.lemmas.Grind.{flat_map-append}
-use Rattle.std.specs.List.{concat, count_by}
+use Rattle.std.specs.List.{concat}
 use Rattle.rw_types.specs.declared.entry.Entry.{Entry}
-use Rattle.rw_wal_format.specs.Records.{◌then◌, record_entries, is_skipped}
+use Rattle.rw_wal_format.specs.Records.{◌then◌, record_entries}
+use Rattle.rw_wal_format.specs.Skipped.{skips_of}
 use Rattle.rw_wal_format.specs.Segments.{Kind, full, first, middle, last, Item, nothing, begun, zeros, fragment, wrong, item_at, Stop, between, inside, at_fault, left_after, Reading, segment}
 use Rattle.rw_wal_format.specs.Laws.{entries_of_records}
 use Rattle.rw_wal_format.specs.declared.tail_fault.TailFault.TheVariants.{Sequence, BadRecord}
@@ -205,7 +206,7 @@ module _ (page : ℕ) (text : List ℕ) (p : 0 < page) where
   stops_with : (rest : List ℕ) (c : Cut page text rest) (s : Stop)
       → StopsFor c.left c.so_far rest s → IsLaidOut page text
   stops_with rest c s h = record {
-    reading = record { entries = c.entries; skipped = count_by is_skipped c.records; stop = s };
+    reading = record { entries = c.entries; skipped = flat_map skips_of c.records; stop = s };
     offset = length c.front;
     is = record {
       front = c.front;

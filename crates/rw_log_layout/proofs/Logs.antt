@@ -1,10 +1,10 @@
 -- A log is read as its segments are laid out, one after the other.
-use Rattle.std.proofs.Common.{◌≡◌, ◌↔◌, ℕ, ◌+◌, ◌<◌, Option, Some, List, [], ◌∷◌, ◌++◌, length, refl, sym, ap, ◌∙◌, subst, arith, append_assoc, add_assoc, flat_map, sum_by}
+use Rattle.std.proofs.Common.{◌≡◌, ◌↔◌, ℕ, ◌+◌, ◌<◌, Option, Some, List, [], ◌∷◌, ◌++◌, length, refl, sym, ap, ◌∙◌, subst, arith, append_assoc, flat_map}
 use Rattle.std.proofs.lemmas.List.Concat.{flat_map-cons}
-use Rattle.std.proofs.lemmas.List.Sums.{sum_by-cons}
 use Rattle.rw_types.specs.declared.entry.Entry.{Entry}
 use Rattle.rw_wal_format.specs.Segments.{Stop, between, inside, at_fault, Reading, stopped, segment}
 use Rattle.rw_wal_format.specs.Pieces.{Piece, bytes, next_segment, then_after, then_next, reading_after, reading, fault_at, page_size, fault}
+use Rattle.rw_wal_format.specs.declared.skipped_type.SkippedType.{SkippedType}
 use Rattle.rw_wal_format.specs.declared.tail_fault.TailFault.{TailFault}
 use Rattle.rw_wal_format.specs.declared.tail_fault.TailFault.TheVariants.{TornSegment}
 use Rattle.rw_wal_tail.specs.Places.{stop_offset, place_then, stop_after, place_of, fault_place}
@@ -69,28 +69,28 @@ module _ (page : ℕ) where
 
 -- ---- what is laid out is read
 
-abbrev after_whole : List Entry → ℕ → Reading → Reading
-after_whole es n r = record { entries = es ++ r.entries; skipped = n + r.skipped; stop = r.stop }
+abbrev after_whole : List Entry → List SkippedType → Reading → Reading
+after_whole es n r = record { entries = es ++ r.entries; skipped = n ++ r.skipped; stop = r.stop }
 
-after_whole-add : (es fs : List Entry) (a b : ℕ) (r : Reading)
-    → after_whole es a (after_whole fs b r) ≡ after_whole (es ++ fs) (a + b) r
+after_whole-add : (es fs : List Entry) (a b : List SkippedType) (r : Reading)
+    → after_whole es a (after_whole fs b r) ≡ after_whole (es ++ fs) (a ++ b) r
 after_whole-add es fs a b r =
-    ap (λ (l : List Entry). record { entries = l; skipped = a + (b + r.skipped); stop = r.stop }) (sym (append_assoc es fs r.entries))
-    ∙ ap (λ (k : ℕ). record { entries = (es ++ fs) ++ r.entries; skipped = k; stop = r.stop }) (sym (add_assoc a b r.skipped))
+    ap (λ (l : List Entry). record { entries = l; skipped = a ++ (b ++ r.skipped); stop = r.stop }) (sym (append_assoc es fs r.entries))
+    ∙ ap (λ (k : List SkippedType). record { entries = (es ++ fs) ++ r.entries; skipped = k; stop = r.stop }) (sym (append_assoc a b r.skipped))
 
 -- first the readings of whole segments, and then this one
 abbrev after_all : List Reading → Reading → Reading
-after_all rs r = after_whole (flat_map (λ x. x.entries) rs) (sum_by (λ x. x.skipped) rs) r
+after_all rs r = after_whole (flat_map (λ x. x.entries) rs) (flat_map (λ x. x.skipped) rs) r
 
 after_all-cons : (x : Reading) (rs : List Reading) (r : Reading)
     → after_whole x.entries x.skipped (after_all rs r) ≡ after_all (x ∷ rs) r
 after_all-cons x rs r =
     let a =
-    after_whole-add x.entries (flat_map (λ y. y.entries) rs) x.skipped (sum_by (λ y. y.skipped) rs) r in
+    after_whole-add x.entries (flat_map (λ y. y.entries) rs) x.skipped (flat_map (λ y. y.skipped) rs) r in
     let b =
-    ap (λ (l : List Entry). after_whole l (x.skipped + sum_by (λ y. y.skipped) rs) r) (sym (flat_map-cons (λ y. y.entries) x rs)) in
+    ap (λ (l : List Entry). after_whole l (x.skipped ++ flat_map (λ y. y.skipped) rs) r) (sym (flat_map-cons (λ y. y.entries) x rs)) in
     let c =
-    ap (λ (k : ℕ). after_whole (flat_map (λ y. y.entries) (x ∷ rs)) k r) (sym (sum_by-cons (λ y. y.skipped) x rs)) in
+    ap (λ (k : List SkippedType). after_whole (flat_map (λ y. y.entries) (x ∷ rs)) k r) (sym (flat_map-cons (λ y. y.skipped) x rs)) in
     a ∙ b ∙ c
 
 -- the reader's definitions give this reading and this place, from segment n on
@@ -167,8 +167,7 @@ module _ (page : ℕ) (p : 0 < page) where
       let z : n + 0 ≡ n = omega arith in
       let h1 =
       subst (λ (m : ℕ). AreReadAs page m (t ∷ later) r (record { segment = n + 0; offset = offset })) z h in
-      let k : r.skipped ≡ 0 + r.skipped = omega arith in
-      subst (λ (m : ℕ). AreReadAs page n (t ∷ later) (record { entries = r.entries; skipped = m; stop = r.stop }) (record { segment = n + 0; offset = offset })) k h1
+      h1
   wholes_read n [] (x ∷ rs) t later r offset is h = absurd is
   wholes_read n (w ∷ ws) [] t later r offset is h = absurd is
   wholes_read n (w ∷ ws) (x ∷ rs) t later r offset is h =
@@ -191,8 +190,8 @@ module _ (page : ℕ) (p : 0 < page) where
       let all =
       wholes_read 0 is.whole is.readings is.text is.later (record { entries = is.own.entries; skipped = is.own.skipped; stop = r.stop }) place.offset is.are_whole own in
       let e : after_all is.readings (record { entries = is.own.entries; skipped = is.own.skipped; stop = r.stop }) ≡ r =
-      ap (λ (l : List Entry). record { entries = l; skipped = sum_by (λ x. x.skipped) is.readings + is.own.skipped; stop = r.stop }) (sym is.entries)
-      ∙ ap (λ (k : ℕ). record { entries = r.entries; skipped = k; stop = r.stop }) (sym is.skipped) in
+      ap (λ (l : List Entry). record { entries = l; skipped = flat_map (λ x. x.skipped) is.readings ++ is.own.skipped; stop = r.stop }) (sym is.entries)
+      ∙ ap (λ (k : List SkippedType). record { entries = r.entries; skipped = k; stop = r.stop }) (sym is.skipped) in
       record {
         reads = ap (log_reading page) is.parts ∙ all.reads ∙ e;
         stops_at = ap (log_stop page 0) is.parts ∙ all.stops_at
@@ -222,7 +221,7 @@ module _ (page : ℕ) (p : 0 < page) where
       own = own.reading;
       is_segment = own.is;
       entries = refl;
-      skipped = omega arith;
+      skipped = refl;
       stops = h;
     };
   }
@@ -246,7 +245,10 @@ module _ (page : ℕ) (p : 0 < page) where
           ap (λ (x : List Entry). own.reading.entries ++ x) rest.is.entries
           ∙ sym (append_assoc own.reading.entries (flat_map (λ x. x.entries) rest.is.readings) rest.is.own.entries)
           ∙ ap (λ (l : List Entry). l ++ rest.is.own.entries) (sym (flat_map-cons (λ x. x.entries) own.reading rest.is.readings));
-      skipped = omega (arith, rest.is.skipped, sum_by-cons (λ x. x.skipped) own.reading rest.is.readings);
+      skipped =
+          ap (λ (x : List SkippedType). own.reading.skipped ++ x) rest.is.skipped
+          ∙ sym (append_assoc own.reading.skipped (flat_map (λ x. x.skipped) rest.is.readings) rest.is.own.skipped)
+          ∙ ap (λ (l : List SkippedType). l ++ rest.is.own.skipped) (sym (flat_map-cons (λ x. x.skipped) own.reading rest.is.readings));
       stops = rest.is.stops;
     };
   }

@@ -74,7 +74,8 @@ abbrev pub Closes : List ℕ → List (List ℕ) → Option (List ℕ) → Type 
 Closes d own next = (own ≡ d ∷ []) × (next ≡ None)
     × ((es : List Entry) × (record_entries d ≡ Some es))
 
--- after an open record or none: the records that a fragment completes, and the record that is open after it
+-- after an open record or none: the records that a fragment completes, and the record that is open
+-- after it
 abbrev pub Adds : Option (List ℕ) → Kind → List ℕ → List (List ℕ) → Option (List ℕ) → Type 0
 Adds None full d own next = Closes d own next
 Adds None first d own next = (own ≡ []) × (next ≡ Some d)
@@ -187,7 +188,8 @@ with_records-append : (ds es : List (List ℕ)) (r : Reading)
 with_records-append [] es r = refl
 with_records-append (d ∷ ds) es r = ap (with_record d) (with_records-append ds es r)
 
--- from a place with `left` bytes of its page the reader comes over these bytes to one with left', and meets these records
+-- from a place with `left` bytes of its page the reader comes over these bytes to one with left',
+-- and meets these records
 pub record Passes (page left : ℕ) (o : Option (List ℕ)) (bs : List ℕ) (left' : ℕ)
     (o' : Option (List ℕ)) (ds : List (List ℕ)) : Type 0 where
   pub reads : (rest : List ℕ)

@@ -1,10 +1,11 @@
 -- What is laid out as a segment is read so, up to the same place.
 use Rattle.std.proofs.Common.{◌≡◌, ℕ, ◌+◌, ◌<◌, List, [], ◌∷◌, ◌++◌, length, drop, Option, Some, None, refl, sym, ap, ◌∙◌, inl, inr, arith}
-use Rattle.std.specs.List.{count_by}
-use Rattle.std.proofs.lemmas.List.Sums.{sum_by-cons}
-use Rattle.std.specs.Bool.{if◌then◌else◌}
+use Rattle.std.specs.List.{flat_map}
+use Rattle.std.proofs.lemmas.List.Concat.{flat_map-cons}
 use Rattle.rw_types.specs.declared.entry.Entry.{Entry}
-use Rattle.rw_wal_format.specs.Records.{◌then◌, record_entries, is_skipped}
+use Rattle.rw_wal_format.specs.Records.{◌then◌, record_entries}
+use Rattle.rw_wal_format.specs.Skipped.{skips_of}
+use Rattle.rw_wal_format.specs.declared.skipped_type.SkippedType.{SkippedType}
 use Rattle.rw_wal_format.specs.Segments.{Kind, full, first, middle, last, nothing, begun, fragment, wrong, item_at, Stop, between, inside, at_fault, left_after, Reading, stopped, with_entries, with_record, end_of, read_from, segment}
 use Rattle.rw_wal_format.specs.Laws.{entries_of_records}
 use Rattle.rw_wal_format.specs.declared.tail_fault.TailFault.{TailFault}
@@ -46,16 +47,16 @@ have_forms (d ∷ ds) es h = let x = entries_first d ds es h in ((x.own, x.first
 -- records, and then a stop
 pub records_read : (ds : List (List ℕ)) (es : List Entry) (s : Stop)
     → entries_of_records ds ≡ Some es
-    → with_records ds (stopped s) ≡ record { entries = es; skipped = count_by is_skipped ds; stop = s }
-records_read [] es s h = let e : [] ≡ es = cc in ap (λ (l : List Entry). record { entries = l; skipped = 0; stop = s }) e
+    → with_records ds (stopped s) ≡ record { entries = es; skipped = flat_map skips_of ds; stop = s }
+records_read [] es s h = let e : [] ≡ es = cc in ap (λ (l : List Entry). record { entries = l; skipped = []; stop = s }) e
 records_read (d ∷ ds) es s h =
     let x = entries_first d ds es h in
     let ih = records_read ds x.more s x.rest_is in
-    let n : (if is_skipped d then 1 else 0) + count_by is_skipped ds ≡ count_by is_skipped (d ∷ ds) = sym (sum_by-cons (λ r. if is_skipped r then 1 else 0) d ds) in
+    let n : skips_of d ++ flat_map skips_of ds ≡ flat_map skips_of (d ∷ ds) = sym (flat_map-cons skips_of d ds) in
     ap (with_record d) ih
-    ∙ ap (λ (o : Option (List Entry)). with_entries d o (record { entries = x.more; skipped = count_by is_skipped ds; stop = s })) x.first_is
-    ∙ ap (λ (l : List Entry). record { entries = l; skipped = (if is_skipped d then 1 else 0) + count_by is_skipped ds; stop = s }) (sym x.all)
-    ∙ ap (λ (k : ℕ). record { entries = es; skipped = k; stop = s }) n
+    ∙ ap (λ (o : Option (List Entry)). with_entries d o (record { entries = x.more; skipped = flat_map skips_of ds; stop = s })) x.first_is
+    ∙ ap (λ (l : List Entry). record { entries = l; skipped = skips_of d ++ flat_map skips_of ds; stop = s }) (sym x.all)
+    ∙ ap (λ (k : List SkippedType). record { entries = es; skipped = k; stop = s }) n
 
 -- ---- where reading stops
 
@@ -184,7 +185,7 @@ segment_read page text r offset p is =
           ∙ front.reads is.rest
           ∙ ap (with_records is.records) here.reads
           ∙ records_read is.records r.entries r.stop is.entries
-          ∙ ap (λ (n : ℕ). record { entries = r.entries; skipped = n; stop = r.stop }) is.skipped;
+          ∙ ap (λ (ts : List SkippedType). record { entries = r.entries; skipped = ts; stop = r.stop }) is.skipped;
       stops_at =
           ap (read_count page page None) is.parts
           ∙ front.counts is.rest

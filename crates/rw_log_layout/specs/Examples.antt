@@ -9,7 +9,7 @@ use Rattle.std.specs.Prelude.{ℕ, List, [], ◌∷◌, ◌++◌, replicate}
 abbrev pub full_two : List ℕ
 full_two = 1 ∷ 0 ∷ 1 ∷ 179 ∷ 70 ∷ 35 ∷ 166 ∷ 2 ∷ []
 
--- the record of the letter `a`, of a type that is passed over, in a full fragment
+-- the record of the letter `a`, of a type that is skipped, in a full fragment
 abbrev pub full_a : List ℕ
 full_a = 1 ∷ 0 ∷ 1 ∷ 193 ∷ 208 ∷ 67 ∷ 48 ∷ 97 ∷ []
 

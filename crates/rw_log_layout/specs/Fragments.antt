@@ -49,8 +49,7 @@ abbrev pub Completes : Option (List ℕ) → Fragment → List ℕ → Type 0
 Completes None f record_of = (f.0 ≡ full) × (record_of ≡ f.1)
 Completes (Some d) f record_of = (f.0 ≡ last) × (record_of ≡ d ++ f.1)
 
--- the fault of a whole fragment: it is out of sequence, or completes a record that is not of its
--- type's form
+-- the fault of a whole fragment: it is out of sequence, or completes a malformed record
 abbrev pub FragmentFault : Option (List ℕ) → Fragment → TailFault → Type 0
 FragmentFault so_far f Sequence = IsOutOfSequence so_far f.0
 FragmentFault so_far f BadRecord = (d : List ℕ) × Completes so_far f d × (record_entries d ≡ None)

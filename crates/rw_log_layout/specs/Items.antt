@@ -1,6 +1,6 @@
--- What is at a place of a segment (wal.md, "Segment encoding"): a fragment, the zeros to the end of
--- its page, or a fault. `left` is the number of bytes of the page from that place on. A text is what
--- has come so far, so it may end inside an item.
+-- What comes at a place of a segment (wal.md, "Segment encoding"): a fragment, the zeros to the end
+-- of its page, or a fault. `left` is the number of bytes of the page from that place on. A text is
+-- what has come so far, so it may end inside an item.
 use Rattle.std.specs.Prelude.{◌≡◌, ◌≢◌, ◌⊎◌, ℕ, ◌+◌, ◌<◌, ◌≤◌, List, ◌∷◌, ◌++◌, length, replicate}
 use Rattle.byteorder.specs.Endian.{big_number}
 use Rattle.rw_codes.specs.Crc.{crc32c_of}
@@ -100,7 +100,7 @@ pub record HasWrongPadding (left : ℕ) (text : List ℕ) : Type 0 where
   pub within : length before < left
   pub nonzero : byte ≢ 0
 
--- the fault of what is at a place
+-- the fault of what comes at a place
 abbrev pub ItemFault : ℕ → List ℕ → TailFault → Type 0
 ItemFault left text BadType = (7 ≤ left) × HasWrongType text BadType
 ItemFault left text Compressed = (7 ≤ left) × HasWrongType text Compressed
@@ -111,7 +111,7 @@ ItemFault left text _ = ⊥
 
 -- ---- an item
 
--- what is at a place with `left` bytes of its page
+-- what comes at a place with `left` bytes of its page
 abbrev pub IsItem : ℕ → List ℕ → Item → Type 0
 -- the text ends here, or among zeros that do not yet reach the page's end
 IsItem left text nothing = (n : ℕ) × (n < left) × (text ≡ replicate n 0)

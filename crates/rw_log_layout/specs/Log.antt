@@ -1,5 +1,5 @@
 -- A log: segments one after the other (wal.md). No record crosses segments.
-use Rattle.std.specs.Prelude.{◌≡◌, ℕ, ◌+◌, List, [], ◌∷◌, ◌++◌, length, flat_map, sum_by}
+use Rattle.std.specs.Prelude.{◌≡◌, ℕ, List, [], ◌∷◌, ◌++◌, length, flat_map}
 use Rattle.rw_types.specs.declared.entry.Entry.{Entry}
 use Rattle.rw_wal_format.specs.Segments.{Stop, between, inside, at_fault, Reading}
 use Rattle.rw_wal_format.specs.Pieces.{Piece, bytes, next_segment, page_size}
@@ -28,8 +28,8 @@ AllEndBetween page [] [] = Unit {0}
 AllEndBetween page (text ∷ texts) (r ∷ rs) = EndsBetween page text r × AllEndBetween page texts rs
 AllEndBetween page _ _ = ⊥
 
--- How a log stops at a segment that stops so. If another segment follows, there is a fault: the one
--- of the segment, or that its last record is not whole.
+-- How a log stops at a segment that stops in this way. If another segment follows, there is a
+-- fault: the one of the segment, or that its last record is not whole.
 abbrev pub LogStops : List (List ℕ) → Stop → Stop → Type 0
 LogStops [] own stop = stop ≡ own
 LogStops (next ∷ later) between stop = ⊥
@@ -49,7 +49,7 @@ pub record IsLog (page : ℕ) (texts : List (List ℕ)) (reading : Reading) (pla
   pub own : Reading
   pub is_segment : IsSegment page text own place.offset
   pub entries : reading.entries ≡ flat_map (λ r. r.entries) readings ++ own.entries
-  pub skipped : reading.skipped ≡ sum_by (λ r. r.skipped) readings + own.skipped
+  pub skipped : reading.skipped ≡ flat_map (λ r. r.skipped) readings ++ own.skipped
   pub stops : LogStops later own.stop reading.stop
 
 -- the entries of a log, before its end or its first fault

@@ -1,8 +1,8 @@
 -- One segment of a log (wal.md, "Segment encoding"): pages of fragments, their records, and where
 -- reading stops.
-use Rattle.std.specs.Prelude.{◌≡◌, ◌⊎◌, ℕ, ◌+◌, ◌<◌, List, ◌++◌, length, replicate, count_by, flat_map, Option, Some, None}
+use Rattle.std.specs.Prelude.{◌≡◌, ◌⊎◌, ℕ, ◌+◌, ◌<◌, List, ◌++◌, length, replicate, flat_map, Option, Some, None}
 use Rattle.rw_wal_format.specs.Segments.{nothing, begun, wrong, Stop, between, inside, at_fault, Reading}
-use Rattle.rw_wal_format.specs.Records.{is_skipped}
+use Rattle.rw_wal_format.specs.Skipped.{skips_of}
 use Rattle.rw_wal_format.specs.Laws.{entries_of_records}
 use Rattle.rw_log_layout.specs.Items.{Fragment, IsFragment, StartsWithFragment, IsItem}
 use Rattle.rw_log_layout.specs.Fragments.{InTurn, IsRecord, MayBeOpen, FragmentFault}
@@ -38,7 +38,8 @@ pub record IsFront (page : ℕ) (bytes : List ℕ) (left : ℕ) (records : List 
   pub are : InTurn IsRecord closed records
   pub may_be_open : MayBeOpen opened so_far
 
--- why reading stops after a front: the text ends between records, or inside one, or there is a fault
+-- why reading stops after a front: the text ends between records, or inside one, or there is a
+-- fault
 abbrev pub StopsFor : ℕ → Option (List ℕ) → List ℕ → Stop → Type 0
 StopsFor left so_far rest between = IsItem left rest nothing × (so_far ≡ None)
 StopsFor left so_far rest inside =
@@ -47,8 +48,8 @@ StopsFor left so_far rest (at_fault f) =
     IsItem left rest (wrong f)
     ⊎ ((next : Fragment) × StartsWithFragment left rest next × FragmentFault so_far next f)
 
--- A segment's text: records that are of their types' form, with these entries, and after them, at an
--- offset, the end of the text or the first fault.
+-- A segment's text: records that are of their types' form, with these entries, and after them, at
+-- an offset, the end of the text or the first fault.
 pub record IsSegment (page : ℕ) (text : List ℕ) (reading : Reading) (offset : ℕ) : Type 0 where
   pub front : List ℕ
   pub rest : List ℕ
@@ -59,5 +60,5 @@ pub record IsSegment (page : ℕ) (text : List ℕ) (reading : Reading) (offset 
   pub so_far : Option (List ℕ)
   pub is_front : IsFront page front left records so_far
   pub entries : entries_of_records records ≡ Some reading.entries
-  pub skipped : count_by is_skipped records ≡ reading.skipped
+  pub skipped : flat_map skips_of records ≡ reading.skipped
   pub stops : StopsFor left so_far rest reading.stop

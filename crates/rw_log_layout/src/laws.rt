@@ -6,6 +6,7 @@ ghost use Rattle.rw_types.specs.declared.entry.Entry.TheVariants.{Def};
 ghost use Rattle.rw_wal_format.specs.Segments.{Item, item_at, between, inside, at_fault, Reading, segment};
 ghost use Rattle.rw_wal_format.specs.Pieces.{Piece, reading, entries, fault};
 ghost use Rattle.rw_wal_format.specs.Laws.{AreRecords, log_all, reading_of_records};
+ghost use Rattle.rw_wal_format.specs.declared.skipped_type.SkippedType.TheVariants.{Unknown};
 ghost use Rattle.rw_wal_format.specs.declared.tail_fault.TailFault.{TailFault};
 ghost use Rattle.rw_wal_format.specs.declared.tail_fault.TailFault.TheVariants.{BadCrc, Sequence};
 ghost use Rattle.rw_wal_format.specs.declared.tail_fault.TailFault.TheVariants.{NonzeroPadding};
@@ -60,18 +61,18 @@ pub fn written_records_are_laid_out()
 /// Law: small segments have the layout that the format gives them, up to these offsets.
 pub fn examples_are_laid_out()
     ensures flushed_page { IsSegment 32 examples.flushed_page
-        (record { entries = Def 7 [] ∷ []; skipped = 0; stop = between }) 46 }
+        (record { entries = Def 7 [] ∷ []; skipped = []; stop = between }) 46 }
     ensures no_room { IsSegment 14 examples.no_room_for_a_header
-        (record { entries = []; skipped = 1; stop = between }) 22 }
+        (record { entries = []; skipped = Unknown ∷ []; stop = between }) 22 }
     ensures open { IsSegment 32 examples.begins_while_open
-        (record { entries = []; skipped = 1; stop = at_fault Sequence }) 23 }
+        (record { entries = []; skipped = Unknown ∷ []; stop = at_fault Sequence }) 23 }
     ensures padding { IsSegment 32 examples.byte_in_empty_rest
-        (record { entries = []; skipped = 1; stop = at_fault NonzeroPadding }) 8 }
+        (record { entries = []; skipped = Unknown ∷ []; stop = at_fault NonzeroPadding }) 8 }
     ensures crc { IsSegment 32 examples.changed_crc
-        (record { entries = []; skipped = 1; stop = at_fault BadCrc }) 8 }
+        (record { entries = []; skipped = Unknown ∷ []; stop = at_fault BadCrc }) 8 }
     ensures header { IsSegment 32 examples.begun_header
-        (record { entries = []; skipped = 0; stop = inside }) 8 }
+        (record { entries = []; skipped = []; stop = inside }) 8 }
     ensures torn { IsLog 32 (examples.open_record ∷ examples.flushed_page ∷ [])
-        (record { entries = []; skipped = 0; stop = at_fault TornSegment })
+        (record { entries = []; skipped = []; stop = at_fault TornSegment })
         (record { segment = 0; offset = 15 }) }
 {}

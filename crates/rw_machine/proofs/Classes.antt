@@ -36,7 +36,7 @@ use Rattle.rw_types.specs.Labels.{Labels, label_fault_number}
 use Rattle.rw_types.specs.declared.entry.Entry.{Entry}
 use Rattle.rw_types.specs.declared.entry.Entry.TheVariants.{Def, Sample}
 
--- at the position stands a sample of a kept series that rises
+-- at the position is a sample of a kept series that rises
 abbrev pub KeptKnown : (Labels → Bool) → Standing → Type 0
 KeptKnown rising Unknown = ⊥
 KeptKnown rising (Bad f) = ⊥

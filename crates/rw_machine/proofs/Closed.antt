@@ -61,7 +61,7 @@ end_push (One x ∷ q) d h = end_push q d h
 end_push (FlushMark ∷ q) d h = end_push q d h
 end_push (EndMark e ∷ q) d h = absurd h
 
--- nothing behind an end: none was put in this epoch
+-- nothing after an end: none was put in this epoch
 pushed : (b e : Bool) (q : List Queued) (i : Queued) → b ≡ false → NoEnd (i ∷ []) → Shape b e q → Shape b e (q ++ i ∷ [])
 pushed false false q i z k h = no_end_push q i h k
 pushed false true q i z k h = h

@@ -1,4 +1,5 @@
--- The head's store as a function, and the endpoint's answer to a batch of label sets in those words.
+-- The head's store as a function, and the endpoint's answer to a batch of label sets in those
+-- words.
 use Rattle.std.proofs.Common.{◌≡◌, ℕ, ◌-◌, Bool, true, false, cond, not, List, [], ◌∷◌, map, length, Option, Some, None, is_some, Result, Ok, Err, refl, sym, ap, ◌∙◌, subst, ◌&&◌, nat_lt, nat_le, arith}
 use Rattle.std.specs.List.{filter}
 use Rattle.std.proofs.lemmas.Bool.Decides.{nat_tests}
@@ -85,7 +86,7 @@ not_some : (o : Option Verdict) → is_some o ≡ false → o ≡ None
 not_some None e = refl
 not_some (Some v) e = absurd cc
 
--- the labels of a series are refused for good, or not at all
+-- the labels of a series are refused permanently, or not at all
 abbrev pub RefusedForGood : Option Verdict → Type 0
 RefusedForGood None = Unit {0}
 RefusedForGood (Some v) = status_of v ≡ 400
@@ -195,8 +196,8 @@ large_is a b h = grind (arith, nat_tests)
 small_is : (a b : ℕ) → nat_lt b a ≡ false → nat_le a b ≡ true
 small_is a b h = grind (arith, nat_tests)
 
--- What the endpoint answers to a batch of label sets: 413 or 400 where its limits do not let it in, 429 while it is busy, else 400 or 204
--- as the order rule says.
+-- What the endpoint answers to a batch of label sets: 413 or 400 if its limits do not let it in,
+-- 429 while it is busy, else 400 or 204 as the order rule says.
 pub by_answer : (P : Answer → Type 0) (c : Setup) (h : State) (batch : List Placed) → h.limits ≡ c.limits
     → (is_let_in c batch ≡ false → P (record { status = 413; head = h }))
     → P (record { status = 429; head = record h { busy = h.busy - 1 } })

@@ -30,7 +30,7 @@ use Rattle.rw_types.specs.declared.entry.Entry.{Entry}
 use Rattle.rw_types.specs.declared.entry.Entry.TheVariants.{Def, Sample}
 use Rattle.rw_shard_core.proofs.EmptyLemmas.{length_not_empty}
 
--- what was pushed, or what stood there
+-- what was pushed, or what was there
 pub get_pushed : {X : Type 0} (xs : List X) (y : X) (i : ℕ) (x : X) → slice_get (xs ++ y ∷ []) i ≡ Some x → (slice_get xs i ≡ Some x) ⊎ (y ≡ x)
 get_pushed [] y zero x e = inr (same_Some _ _ e)
 get_pushed [] y (suc i) x e = let never : None ≡ Some x → ⊥ = λ h. cc in absurd (never e)

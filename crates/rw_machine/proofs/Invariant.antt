@@ -90,7 +90,7 @@ AnswerOk c epoch shards got a = Past epoch shards a.id ⊎ ((a.id.epoch ≡ epoc
 
 pub record Inv (c : Setup) (w : World) : Type 0 where
   pub width : ℕ
-  pub ident : ℕ → BatchId  -- each position's id, for good
+  pub ident : ℕ → BatchId  -- each position's id, permanently
   pub done : Labels → List Point  -- the resolved points of a series
   pub got : ℕ → List Placed  -- what the head has of each open batch
   pub limited : w.head.limits ≡ c.limits

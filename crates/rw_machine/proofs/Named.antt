@@ -1,4 +1,4 @@
--- A status is named of a position exactly where a reply refused it.
+-- A status is named of a position exactly if a reply refused it.
 use Rattle.std.proofs.Common.{◌≡◌, ℕ, zero, suc, ◌+◌, ◌<◌, ◌≤◌, ◌==◌, Bool, true, false, cond, List, [], ◌∷◌, ◌++◌, length, length-append, map, take, Option, Some, None, is_some, slice_get, refl, sym, ap, ◌∙◌, subst, ℤ, ◌&&◌, not, nat_le, arith, inl, inr, ◌⊎◌}
 use Rattle.std.proofs.lemmas.Bool.{cases_eq}
 use Rattle.std.proofs.lemmas.Bool.Decides.{Decides-eqb}
@@ -206,7 +206,8 @@ each_moved Q R f zero (x ∷ xs) each rest own (suc i) s e = rest (suc i) s (λ 
 each_moved Q R f (suc j) (x ∷ xs) each rest own zero s e = rest zero s (λ z. omega arith) (each zero s e)
 each_moved Q R f (suc j) (x ∷ xs) each rest own (suc i) s e = each_moved (λ k. Q (suc k)) (λ k. R (suc k)) f j xs (λ k y at. each (suc k) y at) (λ k y apart q. rest (suc k) y (λ z. apart (omega arith)) q) (λ y at q. own y at q) i s e
 
--- A pending sample is unnamed, below what is placed, and no other pending sample has its position: the position gives its shard and number.
+-- A pending sample is unnamed, below what is placed, and no other pending sample has its position:
+-- the position gives its shard and number.
 abbrev IsUnnamed : (ℕ → ℕ × ℕ) → ℕ → Names → ℕ → ℕ → Placed → Type 0
 IsUnnamed ident placed names i n x = (ident x.place.pos ≡ (i, n)) × (x.place.pos < placed) × (get names x.place.pos ≡ None)
 
@@ -288,7 +289,7 @@ unnamed_place c w at = either Unnamed (is_some w.draining) w (place_entry c w (s
 rest_numbered : (P : ℕ → Placed → Type 0) (s : Shard) → Numbered P (length s.core.resolved) (pending s) → Numbered P (length s.core.resolved + length s.core.batch) (pending (shard_resolve s))
 rest_numbered P s h = numbered_right P (length s.core.resolved) (length s.core.resolved + length s.core.batch) s.core.batch (pending (shard_resolve s)) refl (subst (Numbered P (length s.core.resolved)) (sym (pending_resolve s)) h)
 
--- the open batch is resolved, with names for nothing that is pending in another shard or behind it
+-- the open batch is resolved, with names for nothing that is pending in another shard or after it
 unnamed_resolve : (w : World) (j : ℕ) (s : Shard) (names : Names) → slice_get w.shards j ≡ Some s → (at : Unnamed w)
     → ((i n : ℕ) (x : Placed) → (j ≡ i → length s.core.resolved + length s.core.batch ≤ n) → IsUnnamed at.ident w.placed w.names i n x → get names x.place.pos ≡ None)
     → ((p : ℕ) → w.placed ≤ p → get names p ≡ None)

@@ -98,7 +98,7 @@ pub nil_of : {X : Type 0} (xs : List X) → is_empty xs ≡ true → xs ≡ []
 nil_of [] h = refl
 nil_of (x ∷ xs) h = let never : false ≡ true → ⊥ = λ e. cc in absurd (never h)
 
--- where a freeze may be, no batch is open
+-- if a freeze may be, no batch is open
 pub no_batch : (k : Core) → can_freeze k ≡ true → k.batch ≡ []
 no_batch k h = nil_of k.batch (and_parts (is_empty k.batch) (not (is_empty k.builder)) (and_parts (not k.killed) (is_empty k.batch && not (is_empty k.builder)) h).1).0
 
@@ -278,7 +278,7 @@ batch_part P s all = AllByRecursion-left P s.core.batch (s.core.builder ++ sampl
 pub rest_part : (P : Placed → Type 0) (s : Shard) → AllByRecursion P (pending s) → AllByRecursion P (pending (shard_resolve s))
 rest_part P s all = AllByRecursion-right P s.core.batch (s.core.builder ++ samples_in s.queue) (subst (AllByRecursion P) (pending_parts s) all)
 
--- an answer to the open batch leaves what is pending, or what is pending behind it
+-- an answer to the open batch leaves what is pending, or what is pending after it
 pub settled_part : (P : Placed → Type 0) (j : Judgement) (s : Shard) → AllByRecursion P (pending s) → AllByRecursion P (pending (with_core (settle j) s))
 settled_part P Done s all = rest_part P s all
 settled_part P Refused s all = rest_part P s all

@@ -92,7 +92,7 @@ send_keeps c w i (Some s) e at = either (Inv c) (can_send s.core) _ w (λ h. qui
 holds_more : (s : ℤ × ℕ) (l : Labels) (x : Placed) (xs : List Placed) → holds s (pairs (of l xs)) ≡ true → holds s (pairs (of l (x ∷ xs))) ≡ true
 holds_more s l x xs h = either (λ ys. holds s (pairs ys) ≡ true) (labels_eq l x.labels) (x ∷ of l xs) (of l xs) (λ _. holds_right s ((x.t, x.word) ∷ []) (pairs (of l xs)) h) (λ _. h)
 
--- each sample of a batch stands in its series' part
+-- each sample of a batch is in its series' part
 pub holds_each : (xs : List Placed) → AllByRecursion (λ (y : Placed). holds (y.t, y.word) (pairs (of y.labels xs)) ≡ true) xs
 holds_each [] = tt
 holds_each (x ∷ xs) = (
@@ -123,7 +123,7 @@ module _ (c : Setup) (w : World) (at : Inv c w) (j : ℕ) (s : Shard) (at_j : sl
   each_of_batch : (Q : Placed → Type 0) → ((k : ℕ) (x : Placed) → length s.core.resolved ≤ k → k < length s.core.resolved + length s.core.batch → Old j k x → Q x) → AllByRecursion Q s.core.batch
   each_of_batch Q more = numbered_all (Old j) Q (length s.core.resolved) (length s.core.resolved + length s.core.batch) s.core.batch refl more batch_ok
 
-  -- another pending sample stands at another position
+  -- another pending sample is at another position
   apart : (i k : ℕ) (y : Placed) → Old i k y → (i ≡ j → length s.core.resolved + length s.core.batch ≤ k) → AllByRecursion (λ (x : Placed). x.place.pos ≡ y.place.pos → ⊥) s.core.batch
   apart i k y y_ok le = each_of_batch (λ (x : Placed). x.place.pos ≡ y.place.pos → ⊥) (λ n x _ lt x_ok e.
       let ids : id_at w.epoch j n ≡ id_at w.epoch i k = sym x_ok.ident_is ∙ ap at.ident e ∙ y_ok.ident_is in

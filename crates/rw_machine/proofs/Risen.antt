@@ -12,7 +12,7 @@ use Rattle.rw_machine.specs.Promises.{Point, pair_of}
 abbrev pub IsEarlierPoint : Point → Point → Type 0
 IsEarlierPoint p q = IsEarlier (pair_of p) (pair_of q)
 
--- those that are later than all before them, where others stand before
+-- those that are later than all before them, if others are before
 abbrev pub risen_after : List Point → List Point → List Point
 risen_after before [] = []
 risen_after before (p ∷ ps) = if is_after_all p.1 before then p ∷ risen_after (before ++ p ∷ []) ps else risen_after (before ++ p ∷ []) ps

@@ -217,12 +217,12 @@ newest_stands id rs has = by_case (newest id 0 rs 0)
     by_case (inl h) = absurd (true≢false (sym has ∙ h.0))
     by_case (inr h) = (h.1, ap (slice_get rs) (h.2 ∙ (let z : 0 + h.0 ≡ h.0 = omega arith in z)) ∙ h.3, h.4)
 
--- an answer lowers the busy count where it says busy, and leaves it elsewhere
+-- an answer lowers the busy count if it says busy, and leaves it elsewhere
 pub record Calm (h : State) (a : Answer) : Type 0 where
   most : a.head.busy ≤ h.busy
   again : judgement_of a.status ≡ Again → a.head.busy < h.busy
 
--- a message that is judged is taken, or refused for good
+-- a message that is judged is taken, or refused permanently
 abbrev ForGood : Result Store Verdict → Type 0
 ForGood (Ok store) = Unit {0}
 ForGood (Err v) = status_of v ≡ 400

@@ -69,7 +69,7 @@ act_keeps c w event.Kill at = still c w w.draining w.closed true at
 pub run_keeps : (c : Setup) (events : List Event) (w : World) → Inv c w → Inv c (run c events w)
 run_keeps c events w at = always (Inv c) c (act_keeps c) events w at
 
--- a fact that goes through each step where the invariant holds
+-- a fact that goes through each step if the invariant holds
 pub along : (c : Setup) (Q : World → Type 0) → ((w : World) (e : Event) → Inv c w → Q w → Q (act c w e)) → (events : List Event) (w : World) → Inv c w → Q w → Q (run c events w)
 along c Q keep [] w at q = q
 along c Q keep (e ∷ es) w at q = along c Q keep es (happens c w e) (unless (Inv c) c w e (is_over w) at (act_keeps c w e at)) (unless Q c w e (is_over w) q (keep w e at q))
@@ -109,7 +109,7 @@ holds_at_end c events = run_keeps c events (start c) (begins c)
 owed_placed : (c : Setup) (w : World) → Inv c w → HasOneClassEach c w → (l : Labels) → owed_by (get w.names) (logged_points c l (take w.placed (log w))) ≡ owed_by (get w.names) (points c l (take w.placed (log w)))
 owed_placed c w at one l = owed_points c w l one at.placed_in w.placed (omega arith)
 
--- what the head holds is a beginning of what was placed
+-- what the head holds is a prefix of what was placed
 beginning : (c : Setup) (w : World) → Inv c w → HasOneClassEach c w → (l : Labels) → IsKept c l → HoldsBeginningBelow c w w.placed l
 beginning c w at one l k = (tail.0, sym whole)
   where
@@ -197,7 +197,7 @@ kept_or_none c l = by_fault (label_fault c.choice.names l) refl
     by_fault None n = by_keeps (keeps c.choice.rules l) n refl
     by_fault (Some f) n = inr (λ es. cond-false (is_kept c.choice l) (samples_after l [] es) [] (ap (λ (o : Option LabelFault). is_none o && keeps c.choice.rules l) n))
 
--- where a label set has no samples the head holds none
+-- if a label set has no samples the head holds none
 nothing_held : (c : Setup) (w : World) → HoldsNothingElse c w → (l : Labels) → ((es : List Entry) → logged_points c l es ≡ []) → HoldsBeginningBelow c w w.placed l
 nothing_held c w nothing l none = (map pair_of (owed_below c w w.placed l), sym (ap (λ ps. ps ++ map pair_of (owed_below c w w.placed l)) (nothing l (none (log w)))))
 

@@ -53,7 +53,7 @@ miss p (x ∷ ss) none i s e = by_test (p x) refl none i e (miss p ss)
     by_test false e none zero at rest = let same : x ≡ s = cc in ap p (sym same) ∙ e
     by_test false e none (suc i) at rest = rest (λ lt. none (let z : 1 + position_or_len p ss < suc (length ss) = omega arith in z)) i s at
 
--- a fact of the first choice, or of the rest where no shard passes
+-- a fact of the first choice, or of the rest if no shard passes
 by_first : (P : List Event → Type 0) (w : World) (p : Shard → Bool) (make : ℕ → List Event) (rest : List Event) → ((i : ℕ) (s : Shard) → slice_get w.shards i ≡ Some s → p s ≡ true → P (make i)) → (((i : ℕ) (s : Shard) → slice_get w.shards i ≡ Some s → p s ≡ false) → P rest) → P (first_of_these (at_first p make w) rest)
 by_first P w p make rest some none = either (λ o. P (first_of_these (made_at make o) rest)) (nat_lt (position_or_len p w.shards) (length w.shards)) (Some (position_or_len p w.shards)) None
     (λ h. let at = hit p w.shards (ltb-true (position_or_len p w.shards) (length w.shards) h) in some (position_or_len p w.shards) at.0 at.1 at.2)
@@ -79,7 +79,7 @@ or_false_right : (a b : Bool) → (a || b) ≡ false → b ≡ false
 or_false_right true b h = absurd (true≢false h)
 or_false_right false b h = h
 
--- where no step of `settle` can be made but a restart
+-- no step of `settle` can be made but a restart
 module _ (c : Setup) (w : World) (can : CanWork c) (at : Live c w) (end : ℕ) (shut : w.closed ≡ Some end) (over : is_over w ≡ false)
     (no_place : can_place c w ≡ false)
     (no_open : (i : ℕ) (s : Shard) → slice_get w.shards i ≡ Some s → not (is_empty s.core.batch) ≡ false)

@@ -30,7 +30,7 @@ use Rattle.rw_types.specs.Labels.{Labels}
 use Rattle.rw_types.specs.declared.entry.Entry.{Entry}
 use Rattle.rw_types.specs.declared.entry.Entry.TheVariants.{Sample}
 
--- the part of a log before an entry and behind it
+-- the part of a log before an entry and after it
 split_at : (log : List Entry) (p n : ℕ) (e : Entry) → slice_get log p ≡ Some e → p < n → (rest : List Entry) × (take n log ≡ take p log ++ e ∷ rest)
 split_at [] p n e h lt = let never : None ≡ Some e → ⊥ = λ h. cc in absurd (never h)
 split_at (x ∷ log) p zero e h lt = absurd (omega arith)

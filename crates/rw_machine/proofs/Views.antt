@@ -1,4 +1,4 @@
--- The words of the proofs: names and stores as functions, and a batch's message as series of points.
+-- Notions of the proofs: names and stores as functions, and a batch's message as series of points.
 use Rattle.std.specs.Prelude.{◌≡◌, ℕ, ℤ, Bool, true, false, ◌&&◌, if◌then◌else◌, List, [], ◌∷◌, ◌++◌, length, map, filter, not, Option, Some, None, is_some, is_none, ◌==◌, nat_le}
 use Rattle.std.specs.List.{list_all}
 use Rattle.rw_types.specs.Labels.{Labels, label_fault}

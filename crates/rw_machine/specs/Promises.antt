@@ -1,4 +1,4 @@
--- What every schedule keeps, in the words of the log, the rules, the named samples and the store.
+-- What every schedule keeps, said of the log, the rules, the named samples and the store.
 use Rattle.std.specs.Prelude.{◌≡◌, ◌⊎◌, ◌&&◌, if◌then◌else◌, ℕ, ◌<◌, ◌≤◌, ℤ, Bool, true, false, List, [], ◌∷◌, ◌++◌, length, take, map, filter, Option, Some, None, is_none, slice_get}
 use Rattle.std.specs.Ordering.{nat_cmp}
 use Rattle.std.specs.FinMap.{FinMap, get}
@@ -42,8 +42,8 @@ pair_of p = (p.1, p.2)
 abbrev pub owed : FinMap nat_cmp Reason → List Point → List Point
 owed names ps = filter (λ (p : Point). is_none (get names p.0)) ps
 
--- the head holds a beginning of the label set's logged samples, less the named ones. Of a label set that the rules do not keep none are
--- logged samples: there it holds nothing
+-- the head holds a prefix of the label set's logged samples, less the named ones. Of a label set
+-- that the rules do not keep none are logged samples: there it holds nothing
 abbrev pub HoldsBeginning : Setup → World → Labels → Type 0
 HoldsBeginning c w l = Begins (list_of w.head.store l) (map pair_of (owed w.names (kept_points c.choice (log w) l)))
 
@@ -59,7 +59,8 @@ HoldsBeginningBelow c w end l = Begins (list_of w.head.store l) (map pair_of (ow
 abbrev pub HoldsAll : Setup → World → ℕ → Labels → Type 0
 HoldsAll c w end l = list_of w.head.store l ≡ map pair_of (owed_below c w end l)
 
--- whatever the schedule and the timestamps: each series in order, each sample once, less the dropped ones
+-- whatever the schedule and the timestamps: each series in order, each sample once, less the
+-- dropped ones
 abbrev pub IsInOrder : Setup → World → Type 0
 IsInOrder c w = (l : Labels) → HoldsBeginning c w l
 
@@ -67,8 +68,8 @@ IsInOrder c w = (l : Labels) → HoldsBeginning c w l
 abbrev pub IsOfPlaced : Setup → World → Type 0
 IsOfPlaced c w = (l : Labels) → HoldsBeginningBelow c w w.placed l
 
--- what is owed of the placed samples of a label set rises strictly in time, so no timestamp is in it
--- twice
+-- what is owed of the placed samples of a label set rises strictly in time, so no timestamp is in
+-- it twice
 abbrev pub OwedRises : Setup → World → Type 0
 OwedRises c w = (l : Labels) → Rises IsEarlier (map pair_of (owed_below c w w.placed l))
 
@@ -76,7 +77,7 @@ OwedRises c w = (l : Labels) → Rises IsEarlier (map pair_of (owed_below c w w.
 abbrev pub IsWhole : Setup → World → Type 0
 IsWhole c w = (end : ℕ) → report w ≡ Some (Complete end) → (l : Labels) → HoldsAll c w end l
 
--- as where the log was found damaged behind what was placed
+-- as if the log was found damaged after what was placed
 abbrev pub IsWholeBeforeDamage : Setup → World → Type 0
 IsWholeBeforeDamage c w = (f : TailFault) → report w ≡ Some (Damaged f) → (l : Labels) → HoldsAll c w w.placed l
 
@@ -84,16 +85,17 @@ IsWholeBeforeDamage c w = (f : TailFault) → report w ≡ Some (Damaged f) → 
 abbrev pub HoldsNothingElse : Setup → World → Type 0
 HoldsNothingElse c w = (l : Labels) → kept_points c.choice (log w) l ≡ [] → list_of w.head.store l ≡ []
 
--- a queue whose End was taken hands out nothing, nor does any after a kill
+-- a queue whose End was taken returns nothing, nor does any after a kill
 abbrev pub IsClosedForGood : Setup → World → Type 0
 IsClosedForGood c w = (i : ℕ) (s : Shard) → slice_get w.shards i ≡ Some s → (s.core.ended ≡ true) ⊎ (w.killed ≡ true) → happens c w (event.Take i) ≡ w
 
--- how a sample of a kept series is accounted for, by whether it rises
+-- how a sample of a kept series is accounted for, by whether it is later than those before it
 abbrev pub AccountedKept : Option Reason → Bool → Type 0
 AccountedKept named true = (named ≡ None) ⊎ ((status : ℕ) × (named ≡ Some (Status status)))
 AccountedKept named false = named ≡ Some NotRising
 
--- how a sample below `placed` is accounted for, by what is known of its reference there, and whether it rises in a series
+-- how a sample below `placed` is accounted for, by what is known of its reference there, and
+-- whether it rises in a series
 abbrev pub Accounted : Option Reason → (Labels → Bool) → Standing → Type 0
 Accounted named rising Unknown = named ≡ Some NoSeries
 Accounted named rising (Bad f) = named ≡ Some (BadLabels (label_fault_number f))
@@ -110,7 +112,7 @@ AccountedEntry c w p (Some (Sample r t word)) =
 abbrev pub HasOneClassEach : Setup → World → Type 0
 HasOneClassEach c w = (p : ℕ) → (p < w.placed → AccountedEntry c w p (slice_get (log w) p)) × ((p < w.placed → ⊥) → get w.names p ≡ None)
 
--- at this position stands a sample of a series that the rules drop
+-- at this position is a sample of a series that the rules drop
 abbrev pub is_filtered : Standing → Bool
 is_filtered Unknown = false
 is_filtered (Bad f) = false
@@ -144,20 +146,22 @@ CarriesEachBatch c w = (k : ℕ) (r : Request) → slice_get w.requests k ≡ So
 abbrev pub SendsSameBytes : World → Type 0
 SendsSameBytes w = (i j : ℕ) (r q : Request) → slice_get w.requests i ≡ Some r → slice_get w.requests j ≡ Some q → r.id ≡ q.id → r.bytes ≡ q.bytes
 
--- no batch is both taken and refused for good, in whatever order: two replies to one id never say so
+-- no batch is both taken and refused permanently, in whatever order: two replies to one id never
+-- say so
 abbrev pub NeverTakesAndRefuses : Setup → World → Type 0
 NeverTakesAndRefuses c w =
     (i j : ℕ) (a b : Reply) → slice_get w.replies i ≡ Some a → slice_get w.replies j ≡ Some b → a.id ≡ b.id →
     judgement_of a.status ≡ Done → judgement_of b.status ≡ Refused → ⊥
 
--- a placed sample of a kept series that no shard holds any more, and that is not named, is in the store
+-- a placed sample of a kept series that no shard holds any more, and that is not named, is in the
+-- store
 abbrev pub StoresResolved : Setup → World → Type 0
 StoresResolved c w =
     (p r : ℕ) (t : ℤ) (word : ℕ) (l : Labels) → p < w.placed → slice_get (log w) p ≡ Some (Sample r t word) →
     known c.choice (take p (log w)) r ≡ Kept l → is_pending w p ≡ false → get w.names p ≡ None → holds (t, word) (list_of w.head.store l) ≡ true
 
--- a shard's lists: what was put is what was taken and what the queue holds; what was taken is what was resolved, the open batch and the
--- builder; and the queue is within its capacity
+-- a shard's lists: what was put is what was taken and what the queue holds; what was taken is what
+-- was resolved, the open batch and the builder; and the queue is within its capacity
 abbrev pub HasShardLists : Setup → World → Type 0
 HasShardLists c w =
     (i : ℕ) (s : Shard) → slice_get w.shards i ≡ Some s →
@@ -190,12 +194,12 @@ refusals c (e ∷ es) w = refused_in w e (is_over w) ++ refusals c es (happens c
 abbrev pub Stands : ℕ × ℕ → List (ℕ × ℕ) → Type 0
 Stands q xs = (k : ℕ) × (slice_get xs k ≡ Some q)
 
--- a status is named of a position exactly where it stands among what was refused
+-- a status is named of a position exactly if it is among what was refused
 abbrev pub NamesExactly : FinMap nat_cmp Reason → List (ℕ × ℕ) → Type 0
 NamesExactly names refused =
     (p s : ℕ) → (get names p ≡ Some (Status s) → Stands (p, s) refused) × (Stands (p, s) refused → get names p ≡ Some (Status s))
 
--- that is, where a reply with that status refused a batch with it
+-- that is, if a reply with that status refused a batch with it
 abbrev pub NamesRefusals : Setup → List Event → Type 0
 NamesRefusals c events = NamesExactly (run c events (start c)).names (refusals c events (start c))
 
@@ -205,7 +209,8 @@ pub record CanWork (c : Setup) : Type 0 where
   pub batch : 1 ≤ c.batch
   pub shards : 1 ≤ c.shards
 
--- what `settle` leaves: a report; where nothing was killed, that all is through or that the log was damaged, and the head holds all of it
+-- what `settle` leaves: a report; if nothing was killed, that everything is resolved or that the
+-- log was damaged, and the head holds all of it
 pub record IsSettled (c : Setup) (w v : World) : Type 0 where
   pub reports : (e : Ending) × (report v ≡ Some e)
   pub same_log : log v ≡ log w

@@ -19,7 +19,7 @@ abbrev pub newest_from : BatchId → ℕ → List Request → ℕ → ℕ
 newest_from id k [] found = found
 newest_from id k (r ∷ rs) found = newest_from id (suc k) rs (if same_id id r.id then k else found)
 
--- an open batch is sent, or where it waits its newest request arrives and is replied to
+-- an open batch is sent, or if it waits its newest request arrives and is replied to
 abbrev pub exchange_at : World → ℕ → Option Shard → List Event
 exchange_at w i None = []
 exchange_at w i (Some s) =
@@ -75,7 +75,7 @@ settle_if c n w true = w
 settle_if c zero w false = w
 settle_if c (suc n) w false = let next = run c (next_events c w) w in settle_if c n next (is_over next)
 
--- `n` rounds, or fewer where there is a report before
+-- `n` rounds, or fewer if there is a report before
 abbrev pub settle : Setup → ℕ → World → World
 settle c n w = settle_if c n (happens c w event.Close) (is_over (happens c w event.Close))
 

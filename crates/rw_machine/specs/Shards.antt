@@ -1,4 +1,4 @@
--- One shard of the machine of events: its queue, and the core behind it.
+-- One shard of the machine of events: its queue, and the core after it.
 use Rattle.std.specs.Prelude.{ℕ, Bool, true, false, ◌&&◌, if◌then◌else◌, List, [], ◌∷◌, ◌++◌, length, ◌==◌, nat_lt}
 use Rattle.rw_plain_queue.specs.Items.{Placed}
 use Rattle.rw_plain_queue.specs.declared.item.Kind.{Kind}
@@ -11,7 +11,8 @@ pub data Queued : Type 0 where
   FlushMark : Queued
   EndMark : (kind : Kind) → Queued
 
--- all samples that were put, what waits in the queue, whether its End was put, and the core that takes
+-- all samples that were put, what waits in the queue, whether its End was put, and the core that
+-- takes
 pub record Shard : Type 0 where
   pub put : List Placed
   pub queue : List Queued

@@ -35,7 +35,7 @@ change (suc i) f (s ∷ ss) = s ∷ change i f ss
 abbrev pub changed : World → ℕ → (Shard → Shard) → World
 changed w i f = record w { shards = change i f w.shards }
 
--- Feed: the piece comes behind the others
+-- Feed: the piece comes after the others
 abbrev pub feed : World → Piece → World
 feed w piece = if is_some w.closed then w else record w { pieces = w.pieces ++ piece_of piece ∷ [] }
 
@@ -43,7 +43,7 @@ feed w piece = if is_some w.closed then w else record w { pieces = w.pieces ++ p
 abbrev pub shard_of : World → Labels → ℕ
 shard_of w l = number_of w.series l % length w.shards
 
--- the sample that a shard is handed next
+-- the sample that a shard is given next
 abbrev pub next_sample : World → ℕ → Labels → ℤ → ℕ → Shard → Placed
 next_sample w i l t word s = record {
   place = record { epoch = w.epoch; shard = i; seq = length s.put; pos = w.placed; series = number_of w.series l };
@@ -58,7 +58,8 @@ put_if_room c w i l t word (Some s) =
     if has_room c.capacity s then record w { shards = change i (shard_put (next_sample w i l t word s)) w.shards; placed = suc w.placed }
     else w
 
--- a sample that is dropped is named, one whose series the rules drop is counted, and one that is sent is put into the queue of its series' shard
+-- a sample that is dropped is named, one whose series the rules drop is counted, and one that is
+-- sent is put into the queue of its series' shard
 abbrev pub place_as : Setup → World → ℤ → ℕ → Fate → World
 place_as c w t word (Drops reason) = record w { names = insert w.names w.placed reason; placed = suc w.placed }
 place_as c w t word Filters = record w { filtered = suc w.filtered; placed = suc w.placed }
@@ -75,7 +76,7 @@ place_entry c w None = w
 place_entry c w (Some (Def r l)) = record w { series = with_series w.series (standing_of c.choice (Some l)); placed = suc w.placed }
 place_entry c w (Some (Sample r t word)) = place_sample c w t word (known c.choice (take w.placed (log w)) r)
 
--- Place: the next entry, as its reference stands before it
+-- Place: the next entry, as its reference is before it
 abbrev pub place : Setup → World → World
 place c w = if is_some w.draining then w else place_entry c w (slice_get (log w) w.placed)
 
@@ -104,7 +105,8 @@ send_batch w i (Some s) =
     }
     else w
 
--- the endpoint's answer to the body of a batch: 413 Content Too Large, or what the head answers to the message
+-- the endpoint's answer to the body of a batch: 413 Content Too Large, or what the head answers to
+-- the message
 abbrev pub endpoint_answer : Setup → State → List Placed → Answer
 endpoint_answer c h batch =
     if nat_lt c.max_body (length (body_of batch)) then record { status = 413; head = h }
@@ -188,7 +190,8 @@ unless_over c w (event.Arrive k how) over = arrive c w how (slice_get w.requests
 unless_over c w e true = w
 unless_over c w e false = act c w e
 
--- one event: where its guard fails nothing changes, and once there is a report only requests go on arriving
+-- one event: if its guard fails nothing changes, and once there is a report only requests still
+-- arrive
 abbrev pub happens : Setup → World → Event → World
 happens c w e = unless_over c w e (is_over w)
 

@@ -22,7 +22,7 @@ use Rattle.rw_shard_core.specs.Endings.{Ending, Complete, Abandoned, Damaged}
 -- what the sender and the receiver are set to
 pub record Setup : Type 0 where
   pub target : Target
-  pub shards : ℕ  -- at the beginning
+  pub shards : ℕ  -- at the start
   pub capacity : ℕ  -- of a queue, in items
   pub batch : ℕ  -- the most samples of a batch
   pub choice : Choice
@@ -43,7 +43,7 @@ pub record Reply : Type 0 where
 pub record World : Type 0 where
   pub pieces : List Piece  -- of the log, so far
   pub placed : ℕ  -- how many of its entries were placed
-  pub series : List Labels  -- the label sets that were kept, in the order in which they were first kept
+  pub series : List Labels  -- the kept label sets, in the order in which they came
   pub epoch : ℕ  -- how often the number of shards has changed
   pub shards : List Shard
   pub requests : List Request  -- all that were ever sent

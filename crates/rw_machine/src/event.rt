@@ -13,16 +13,19 @@ pub enum How {
     OutOfMemory,
 }
 
-/// One event. Shards, requests and replies are named by their numbers, from 0.
+/// One event. Shards, requests and replies are identified by their numbers, from 0.
 ///
-/// An event whose guard fails changes nothing. A request or a reply that the network loses is one that never arrives, and one that it repeats arrives again.
+/// An event whose guard fails changes nothing. A request or a reply that the network loses is one
+/// that never arrives, and one that it repeats arrives again.
 #[derive(Debug, Drop)]
 pub enum Event {
     /// The next piece of the log is read.
     Feed(Piece),
-    /// The next entry of the log is placed: a definition is taken, a sample is put into its shard's queue, named as dropped, or filtered.
+    /// The next entry of the log is placed: a definition is taken, a sample is put into its shard's
+    /// queue, named as dropped, or filtered.
     Place,
-    /// A mark is put into this shard's queue: an End where all is placed after a `Close` or the number of shards changes, else a Flush.
+    /// A mark is put into this shard's queue: an End if all is placed after a `Close` or the number
+    /// of shards changes, else a Flush.
     Flush(u64),
     /// This shard takes the front of its queue.
     Take(u64),
@@ -38,7 +41,7 @@ pub enum Event {
     Lost(u64),
     /// The number of shards is to become this.
     Reshard(u64),
-    /// The next shards take over, once the shards at hand have nothing left.
+    /// The next shards take over, once the current shards have nothing left.
     Restart,
     /// No more is read, and all is to be sent that was read.
     Close,

@@ -1,4 +1,5 @@
-//! What every schedule keeps: any list of events, and with it any loss, repeat, delay or disorder of requests and replies.
+//! What every schedule keeps: any list of events, and with it any loss, repeat, delay or disorder
+//! of requests and replies.
 
 ghost use Rattle.std.specs.Prelude.{◌≡◌, ℕ, List};
 ghost use Rattle.rw_types.specs.Beginnings.{Begins};
@@ -9,11 +10,12 @@ ghost use Rattle.rw_machine.specs.Settling.{settle, settle_events};
 ghost use Rattle.rw_machine.specs.Promises.{CanWork, IsInOrder, IsOfPlaced, OwedRises, IsWhole, IsWholeBeforeDamage, HoldsNothingElse, IsClosedForGood, HasOneClassEach, CountsFiltered, NamesRefusals, HasOneBatchEachId, CarriesEachBatch, SendsSameBytes, NeverTakesAndRefuses, StoresResolved, HasShardLists, SettleEnds};
 ghost use Rattle.rw_machine.specs.declared.event.Event.{Event};
 
-/// For each label set the receiving head holds a prefix of its logged samples in log order, each once,
-/// less exactly those that are named as dropped, whatever their timestamps. It holds none that was not
-/// placed (`of_placed`). What is owed of the placed ones rises strictly in time (`owed_rises`), and so
-/// does what it holds (`rises`). Once an orderly shutdown is complete it holds all of them up to the
-/// position asked for, and if the log is damaged all before the damage. Other label sets hold nothing.
+/// Law: for each label set the receiving head holds a prefix of its logged samples in log order,
+/// each once, less exactly those that are named as dropped, whatever their timestamps. It holds
+/// none that was not placed (`of_placed`). What is owed of the placed ones rises strictly in time
+/// (`owed_rises`), and so does what it holds (`rises`). Once an orderly shutdown is complete it
+/// holds all of them up to the position asked for, and if the log is damaged all before the damage.
+/// Of other label sets it holds nothing.
 pub fn logged_samples_arrive_in_order()
     ensures in_order { (c : Setup) (events : List Event) → IsInOrder c (run c events (start c)) }
     ensures of_placed { (c : Setup) (events : List Event) → IsOfPlaced c (run c events (start c)) }
@@ -27,13 +29,13 @@ pub fn logged_samples_arrive_in_order()
         → HoldsNothingElse c (run c events (start c)) }
 {}
 
-/// A queue whose End was taken hands out nothing more, nor does any queue once everything was stopped.
+/// Law: a queue whose End was taken returns nothing more, and after a kill no queue does.
 pub fn closed_queues_hand_out_nothing()
     ensures { (c : Setup) (events : List Event) → IsClosedForGood c (run c events (start c)) }
 {}
 
-/// Each placed sample is in exactly one class: filtered, named with its reason, or owed to the receiver. One of a kept series that does not
-/// rise is named so, and only such a one.
+/// Law: each placed sample is in exactly one class: filtered, named with its reason, or owed to the
+/// receiver. A sample of a kept series is named as not rising exactly if it does not rise.
 pub fn each_sample_has_one_class()
     ensures classes { (c : Setup) (events : List Event)
         → HasOneClassEach c (run c events (start c)) }
@@ -42,8 +44,9 @@ pub fn each_sample_has_one_class()
     ensures refusals { (c : Setup) (events : List Event) → NamesRefusals c events }
 {}
 
-/// What was sent under one id is one batch, whose fate does not change: a batch that the head has taken is never refused later, and one
-/// that was refused for good is never taken later. A resolved sample that is not named is in the store.
+/// Law: what was sent under one id is one batch, whose fate does not change: a batch that the head
+/// has taken is never refused later, and one that was refused permanently is never taken later. A
+/// resolved sample that is not named is in the store.
 pub fn each_batch_has_one_fate()
     ensures one_batch { (c : Setup) (events : List Event)
         → HasOneBatchEachId (run c events (start c)) }
@@ -53,15 +56,16 @@ pub fn each_batch_has_one_fate()
         → StoresResolved c (run c events (start c)) }
 {}
 
-/// What is sent is the request that carries a batch to the target, as bytes: the same bytes each time.
+/// Law: what is sent is the request that carries a batch to the target, as bytes: the same bytes
+/// each time.
 pub fn requests_carry_their_batches()
     ensures bytes { (c : Setup) (events : List Event)
         → CarriesEachBatch c (run c events (start c)) }
     ensures again { (c : Setup) (events : List Event) → SendsSameBytes (run c events (start c)) }
 {}
 
-/// Nothing that was sent or answered is removed: later events add requests and replies after those
-/// that there are.
+/// Law: nothing that was sent or answered is removed; later events add requests and replies after
+/// those that there are.
 pub fn requests_and_replies_stay()
     ensures requests { (c : Setup) (events : List Event) (w : World)
         → Begins w.requests (run c events w).requests }
@@ -69,13 +73,14 @@ pub fn requests_and_replies_stay()
         → Begins w.replies (run c events w).replies }
 {}
 
-/// What a shard was put is what it has taken and what its queue holds, and what it has taken is what is resolved, its open batch and its
-/// builder.
+/// Law: what a shard was put is what it has taken and what its queue holds, and what it has taken
+/// is what is resolved, its open batch and its builder.
 pub fn shards_keep_their_lists()
     ensures { (c : Setup) (events : List Event) → HasShardLists c (run c events (start c)) }
 {}
 
-/// An orderly shutdown is a schedule, which comes to its report after enough rounds, from wherever it begins.
+/// Law: an orderly shutdown is a schedule that comes to its report after enough rounds, from
+/// wherever it begins.
 pub fn shutdown_comes_to_its_report()
     ensures runs { (c : Setup) (n : ℕ) (w : World) → settle c n w ≡ run c (settle_events c n w) w }
     ensures ends { (c : Setup) (events : List Event) → CanWork c

@@ -1,4 +1,5 @@
-//! A sender, the network and a receiving head as one machine of events, and what every schedule of them keeps.
+//! A sender, the network and a receiving head as one machine of events, and what every schedule of
+//! them keeps.
 #![tactic(auto)]
 
 mod event;

@@ -1,7 +1,7 @@
 -- Metrics in the text format 0.0.4 of Prometheus.
 use Rattle.std.specs.Prelude.{ℕ, List, ◌++◌, flat_map, codes, decimal, length}
 
--- what is said of a metric before its numbers
+-- the lines of a metric before its numbers
 abbrev pub about : (name kind help : List ℕ) → List ℕ
 about name kind help = codes "# HELP " ++ name ++ codes " " ++ help ++ codes "\n# TYPE " ++ name ++ codes " " ++ kind ++ codes "\n"
 
@@ -12,7 +12,7 @@ counter name help n = about name (codes "counter") help ++ name ++ codes " " ++ 
 unfoldable pub gauge : (name help : List ℕ) → ℕ → List ℕ
 gauge name help n = about name (codes "gauge") help ++ name ++ codes " " ++ decimal n ++ codes "\n"
 
--- what is said of a counter with numbers under labels
+-- the lines of a counter with labels before its numbers
 unfoldable pub counters : (name help : List ℕ) → List ℕ
 counters name help = about name (codes "counter") help
 
@@ -20,7 +20,7 @@ counters name help = about name (codes "counter") help
 unfoldable pub labelled : (name label value : List ℕ) → ℕ → List ℕ
 labelled name label value n = name ++ codes "{" ++ label ++ codes "=\"" ++ value ++ codes "\"} " ++ decimal n ++ codes "\n"
 
--- how often a status came, which stands behind a prefix
+-- how often a status came, after a prefix
 unfoldable pub status_sample : (name label prefix : List ℕ) → ℕ × ℕ → List ℕ
 status_sample name label prefix count = name ++ codes "{" ++ label ++ codes "=\"" ++ prefix ++ decimal count.0 ++ codes "\"} " ++ decimal count.1 ++ codes "\n"
 

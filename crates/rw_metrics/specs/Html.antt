@@ -2,11 +2,11 @@
 use Rattle.std.specs.Prelude.{ℕ, List, ◌++◌, flat_map, codes, decimal}
 use Rattle.rw_metrics.specs.declared.html.TheConstants.{HEAD, STYLE, FOOT}
 
--- all before the first paragraph of a page with this title
+-- everything before the first paragraph of a page with this title
 unfoldable pub page_start : List ℕ → List ℕ
 page_start title = HEAD.now ++ title ++ STYLE.now ++ title ++ codes "</h1>\n"
 
--- what ends a page
+-- the end of a page
 unfoldable pub page_end : List ℕ
 page_end = FOOT.now
 

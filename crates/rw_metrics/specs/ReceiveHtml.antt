@@ -1,14 +1,20 @@
 -- The page of a receiver for people.
-use Rattle.std.specs.Prelude.{ℕ, List, ◌++◌, codes}
+use Rattle.std.specs.Prelude.{ℕ, List, [], ◌++◌, ◌==◌, if◌then◌else◌, codes}
 use Rattle.rw_metrics.specs.Html.{page_start, page_end, table_start, table_end, row, status_rows}
 use Rattle.rw_metrics.specs.declared.receive_numbers.ReceiveNumbers.{ReceiveNumbers}
 
--- what is held
+-- a limit, if there is one
+unfoldable pub limit_row : (label : List ℕ) → ℕ → List ℕ
+limit_row label n = if n == 0 then [] else row label n
+
+-- what is held, and how much may be
 abbrev pub held_table : ReceiveNumbers → List ℕ
 held_table n =
     table_start (codes "Held")
     ++ row (codes "Samples") n.samples
     ++ row (codes "Series") n.label_sets
+    ++ limit_row (codes "Most samples") n.max_samples
+    ++ limit_row (codes "Most series") n.max_label_sets
     ++ table_end
 
 -- the connections

@@ -21,6 +21,8 @@ abbrev pub held_page : ReceiveNumbers → List ℕ
 held_page n =
     gauge (codes "rwship_receive_samples_held") (codes "Samples that are held.") n.samples
     ++ gauge (codes "rwship_receive_label_sets") (codes "Label sets of which samples are held.") n.label_sets
+    ++ gauge (codes "rwship_receive_max_samples") (codes "How many samples may be held; 0 if there is no limit.") n.max_samples
+    ++ gauge (codes "rwship_receive_max_label_sets") (codes "Of how many label sets samples may be held; 0 if there is no limit.") n.max_label_sets
 
 abbrev pub receive_page : ReceiveNumbers → List ℕ
 receive_page n = connections_page n ++ requests_page n ++ held_page n

@@ -1,29 +1,38 @@
 -- The page of a sender for people.
 use Rattle.std.specs.Prelude.{ℕ, List, [], ◌++◌, ◌==◌, if◌then◌else◌, Option, None, Some, codes}
 use Rattle.rw_metrics.specs.Html.{page_start, page_end, table_start, table_end, row, status_rows}
-use Rattle.rw_metrics.specs.Lines.{cause_text, percent}
+use Rattle.rw_metrics.specs.Lines.{cause_text, lag, percent}
 use Rattle.rw_metrics.specs.declared.cause.Cause.{Cause}
 use Rattle.rw_metrics.specs.declared.send_numbers.Drops.{Drops}
 use Rattle.rw_metrics.specs.declared.send_numbers.Failures.{Failures}
 use Rattle.rw_metrics.specs.declared.send_numbers.SendNumbers.{SendNumbers}
+use Rattle.rw_metrics.specs.declared.send_numbers.Skipped.{Skipped}
 
 -- what the sender is doing
 unfoldable pub state : SendNumbers → List ℕ
 state n =
     if n.failures.in_a_row == 0
-    then (if n.waiting == 0
-    then codes "<p>Reading the log. No sample waits for the receiver.</p>\n"
-    else codes "<p>Sending. Samples wait for the receiver.</p>\n")
+    then (if n.in_flight == 0
+    then codes "<p>Reading the log. No sample is in flight.</p>\n"
+    else codes "<p>Sending. Samples are in flight.</p>\n")
     else codes "<p class=\"bad\">Waiting for the receiver: attempts to send fail.</p>\n"
+
+-- how many seconds of what was read are not acknowledged, if a sample was acknowledged
+unfoldable pub lag_row : (read acknowledged : ℕ) → List ℕ
+lag_row read acknowledged =
+    if acknowledged == 0 then []
+    else row (codes "Seconds from the newest acknowledged to the newest in flight") (lag read acknowledged)
 
 -- how far the samples have come
 unfoldable pub samples_table : SendNumbers → List ℕ
 samples_table n =
     table_start (codes "Samples")
-    ++ row (codes "Read and put into a queue") n.placed
-    ++ row (codes "Acknowledged, refused, or in a batch that is not full") n.resolved
-    ++ row (codes "Waiting for the receiver") n.waiting
+    ++ row (codes "Read") n.read
+    ++ row (codes "Acknowledged by the receiver") n.acknowledged
+    ++ row (codes "Dropped") n.drops.all
     ++ row (codes "Filtered by the rules") n.filtered
+    ++ row (codes "In flight") n.in_flight
+    ++ lag_row n.newest_read n.newest_acknowledged
     ++ table_end
 
 -- the dropped samples, by reason
@@ -36,6 +45,19 @@ drops_table d =
     ++ row (codes "Not later than the last one of their series") d.not_rising
     ++ status_rows (codes "Batch refused with status") d.refused.items
     ++ table_end
+
+-- how many records of a type were skipped, if there are any
+unfoldable pub skipped_row : (label : List ℕ) → ℕ → List ℕ
+skipped_row label n = if n == 0 then [] else row label n
+
+-- the skipped records that may hold samples, and so are lost
+unfoldable pub skipped_table : Skipped → List ℕ
+skipped_table s =
+    skipped_row (codes "Records of histograms, not shipped") s.histograms
+    ++ skipped_row (codes "Records of float histograms, not shipped") s.float_histograms
+    ++ skipped_row (codes "Records of histograms with custom buckets, not shipped") s.custom_histograms
+    ++ skipped_row (codes "Records of float histograms with custom buckets, not shipped") s.custom_float_histograms
+    ++ skipped_row (codes "Records of an unknown type, not shipped") s.unknown
 
 -- why the last failed attempt failed, if one has
 unfoldable pub last_row : Option Cause → List ℕ
@@ -65,7 +87,7 @@ attempts_table n =
     ++ failures_rows n.failures
     ++ table_end
 
--- how many hundredths of a folder were read, if its bytes are known
+-- the percentage of a folder that was read, if its bytes are known
 unfoldable pub percent_row : (bytes all : ℕ) → List ℕ
 percent_row bytes all =
     if all == 0 then [] else row (codes "Percent of the folder") (percent bytes all)
@@ -75,10 +97,11 @@ unfoldable pub reading_table : SendNumbers → List ℕ
 reading_table n =
     table_start (codes "Log")
     ++ row (codes "Segment that is read") n.segment
-    ++ row (codes "Bytes of it that were read") n.segment_bytes
+    ++ row (codes "Newest segment") n.newest_segment
     ++ row (codes "Entries read") n.entries
     ++ row (codes "Bytes read") n.bytes
     ++ percent_row n.bytes n.folder_bytes
+    ++ skipped_table n.skipped
     ++ row (codes "Shards at work") n.shards
     ++ table_end
 

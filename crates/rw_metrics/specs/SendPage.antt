@@ -4,6 +4,7 @@ use Rattle.rw_metrics.specs.Exposition.{counter, gauge, counters, labelled, by_s
 use Rattle.rw_metrics.specs.declared.send_numbers.Drops.{Drops}
 use Rattle.rw_metrics.specs.declared.send_numbers.Failures.{Failures}
 use Rattle.rw_metrics.specs.declared.send_numbers.SendNumbers.{SendNumbers}
+use Rattle.rw_metrics.specs.declared.send_numbers.Skipped.{Skipped}
 
 -- how far the log is read
 abbrev pub reading_page : SendNumbers → List ℕ
@@ -14,13 +15,27 @@ reading_page n =
     ++ gauge (codes "rwship_send_segment") (codes "Number of the segment that is read.") n.segment
     ++ gauge (codes "rwship_send_segment_bytes_read") (codes "Bytes of that segment that were read.") n.segment_bytes
 
+-- how far behind the sender is
+unfoldable pub newest_page : SendNumbers → List ℕ
+newest_page n =
+    gauge (codes "rwship_send_newest_segment") (codes "Number of the newest segment in the folder; 0 where it is not known.") n.newest_segment
+    ++ gauge (codes "rwship_send_highest_timestamp_in_seconds") (codes "Highest timestamp of the samples that were put into a queue, in seconds since 1970; 0 where there is none.") n.newest_read
+    ++ gauge (codes "rwship_send_highest_acknowledged_timestamp_in_seconds") (codes "Highest timestamp of the samples that the receiver has acknowledged, in seconds since 1970; 0 where there is none.") n.newest_acknowledged
+
 -- how far the samples have come
 abbrev pub samples_page : SendNumbers → List ℕ
 samples_page n =
-    counter (codes "rwship_send_samples_placed_total") (codes "Samples that were put into a queue.") n.placed
-    ++ counter (codes "rwship_send_samples_resolved_total") (codes "Samples that were answered for, or wait for a full batch.") n.resolved
+    counter (codes "rwship_send_samples_read_total") (codes "Samples that were read.") n.read
+    ++ counter (codes "rwship_send_samples_acknowledged_total") (codes "Samples that the receiver has acknowledged.") n.acknowledged
     ++ counter (codes "rwship_send_samples_filtered_total") (codes "Samples that the rules have filtered.") n.filtered
-    ++ gauge (codes "rwship_send_backlog_samples") (codes "Samples that wait to be answered for.") n.waiting
+    ++ gauge (codes "rwship_send_samples_in_flight") (codes "Samples that were put into a queue and have no answer yet.") n.in_flight
+
+-- how far those that were put into a queue have come
+unfoldable pub queue_page : SendNumbers → List ℕ
+queue_page n =
+    counter (codes "rwship_send_samples_placed_total") (codes "Samples that were put into a queue.") n.placed
+    ++ counter (codes "rwship_send_samples_resolved_total") (codes "Samples that the receiver has acknowledged or refused permanently.") n.resolved
+    ++ gauge (codes "rwship_send_backlog_samples") (codes "Samples in flight that do not only wait for a full batch.") n.waiting
     ++ gauge (codes "rwship_send_shards") (codes "Shards at work.") n.shards
 
 -- the dropped samples, by reason
@@ -31,6 +46,30 @@ drops_page d = let name : List ℕ = codes "rwship_send_samples_dropped_total" i
     ++ labelled name (codes "reason") (codes "badlabels") d.bad_labels
     ++ labelled name (codes "reason") (codes "notrising") d.not_rising
     ++ by_status name (codes "reason") (codes "status_") d.refused.items
+
+-- the skipped records that may hold samples
+abbrev pub lost_page : Skipped → List ℕ
+lost_page s = let name : List ℕ = codes "rwship_send_records_skipped_total" in
+    labelled name (codes "type") (codes "histogram_samples") s.histograms
+    ++ labelled name (codes "type") (codes "float_histogram_samples") s.float_histograms
+    ++ labelled name (codes "type") (codes "custom_buckets_histogram_samples") s.custom_histograms
+    ++ labelled name (codes "type") (codes "custom_buckets_float_histogram_samples") s.custom_float_histograms
+    ++ labelled name (codes "type") (codes "unknown") s.unknown
+
+-- the skipped records that hold no samples
+abbrev pub other_page : Skipped → List ℕ
+other_page s = let name : List ℕ = codes "rwship_send_records_skipped_total" in
+    labelled name (codes "type") (codes "tombstones") s.tombstones
+    ++ labelled name (codes "type") (codes "exemplars") s.exemplars
+    ++ labelled name (codes "type") (codes "mmapmarkers") s.mmap_markers
+    ++ labelled name (codes "type") (codes "metadata") s.metadata
+
+-- the records that were skipped, by type
+unfoldable pub skipped_page : Skipped → List ℕ
+skipped_page s =
+    counters (codes "rwship_send_records_skipped_total") (codes "Records of the log that were skipped, by type.")
+    ++ lost_page s
+    ++ other_page s
 
 -- the attempts that failed, by cause
 abbrev pub failures_page : Failures → List ℕ
@@ -48,4 +87,11 @@ abbrev pub attempts_page : SendNumbers → List ℕ
 attempts_page n = counter (codes "rwship_send_attempts_total") (codes "Attempts to send a batch.") n.attempts ++ failures_page n.failures
 
 abbrev pub send_page : SendNumbers → List ℕ
-send_page n = reading_page n ++ samples_page n ++ drops_page n.drops ++ attempts_page n
+send_page n =
+    reading_page n
+    ++ newest_page n
+    ++ samples_page n
+    ++ queue_page n
+    ++ drops_page n.drops
+    ++ skipped_page n.skipped
+    ++ attempts_page n

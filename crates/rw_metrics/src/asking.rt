@@ -19,15 +19,15 @@ pub(crate) enum Asked {
     Html,
     /// Another path.
     Elsewhere,
-    /// A page, by another method than GET.
+    /// A page, by a method other than GET.
     Otherwise,
-    /// They begin no request.
+    /// They are not the start of a request.
     Bad,
-    /// The head has not come whole.
+    /// The head has not come completely.
     More,
 }
 
-/// What these bytes ask for.
+/// Returns what these bytes ask for.
 pub(crate) fn wanted(buf: &[u8]) -> Asked
     ensures page { result ≡ Asked.Page → AsksForPage buf.now }
     ensures html { result ≡ Asked.Html → AsksForHtml buf.now }

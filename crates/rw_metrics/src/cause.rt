@@ -11,15 +11,15 @@ pub enum Cause {
     Broken,
     /// The reply ended before its status.
     Ended,
-    /// What came is no reply.
+    /// What came is not a reply.
     BadReply,
-    /// Memory was refused.
+    /// Memory ran out.
     Memory,
-    /// The receiver answered with this status, by which it does not take the batch.
+    /// The receiver answered with this status, which does not take the batch.
     Status(u16),
 }
 
-/// The number of a cause, behind which an atomic word keeps it: that of a status is its own.
+/// Returns the number by which an atomic word stores a cause: that of a status is the status.
 pub(crate) fn number_of(cause: Cause) -> u64 {
     match cause {
         Cause::Connect => 1,
@@ -32,7 +32,7 @@ pub(crate) fn number_of(cause: Cause) -> u64 {
     }
 }
 
-/// The cause of a number.
+/// Returns the cause of a number.
 pub(crate) fn cause_of(number: u64) -> Option<Cause> {
     match number {
         0 => None,

@@ -34,7 +34,7 @@ fn is_passing(error: &io::Error) -> bool {
 }
 
 impl<C: Clock + Copy> Client<C> {
-    /// Returns a client of which nothing has been read; `None` if its connection has failed.
+    /// Returns a client from which nothing has been read, or `None` if its connection has failed.
     pub(crate) fn new(clock: C, alloc: Global, stream: TcpStream) -> Option<Client<C>> {
         if stream.set_nonblocking(true).is_err() {
             return None;
@@ -46,7 +46,7 @@ impl<C: Clock + Copy> Client<C> {
         })
     }
 
-    /// Adds bytes to the head, and returns what it asks for; `None` if out of memory.
+    /// Adds bytes to the head, and returns what it asks for, or `None` if memory runs out.
     fn take(&mut self, bytes: &[u8]) -> Option<Asked> {
         if self.head.extend_from_slice(bytes).is_err() {
             return None;
@@ -57,8 +57,8 @@ impl<C: Clock + Copy> Client<C> {
         }
     }
 
-    /// Reads what has come, without waiting, and returns what it asks for; `None` if nothing more is
-    /// to be expected of this client.
+    /// Reads what has come, without waiting, and returns what it asks for, or `None` if nothing
+    /// more is to be expected of this client.
     fn read(&mut self) -> Option<Asked> {
         let mut bytes = [0; LONGEST_HEAD];
         let mut stream = &self.stream;

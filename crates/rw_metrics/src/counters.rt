@@ -1,6 +1,6 @@
 //! The counters of either side.
 
-use crate::lines::{drops_line, receive_line, send_line};
+use crate::lines::{drops_line, receive_line, send_line, skipped_line};
 use crate::receive_counters::ReceiveCounters;
 use crate::receiver_html::receive_html;
 use crate::receiver_page::receive_page;
@@ -18,7 +18,7 @@ pub enum Counters {
 }
 
 impl Counters {
-    /// Another share of these counters.
+    /// Returns another share of these counters.
     pub fn share(&self) -> Result<Counters, AllocError> {
         Ok(match self {
             Counters::Send(counters) => Counters::Send(Arc::try_clone(counters)?),
@@ -26,7 +26,7 @@ impl Counters {
         })
     }
 
-    /// Their page.
+    /// Returns their page.
     pub(crate) fn page(&self, alloc: Global) -> Result<Vec<u8>, AllocError> {
         match self {
             Counters::Send(counters) => send_page(alloc, &counters.numbers(alloc)?),
@@ -42,7 +42,7 @@ impl Counters {
         }
     }
 
-    /// Their line of progress.
+    /// Returns their line of progress.
     pub(crate) fn line(&self, alloc: Global) -> Result<Vec<u8>, AllocError> {
         match self {
             Counters::Send(counters) => send_line(alloc, &counters.numbers(alloc)?),
@@ -50,12 +50,26 @@ impl Counters {
         }
     }
 
-    /// Of a sender the line of its dropped samples.
+    /// Returns the line of a sender's dropped samples.
     pub(crate) fn drops(&self, alloc: Global) -> Result<Option<Vec<u8>>, AllocError> {
         match self {
             Counters::Send(counters) => {
                 let numbers = counters.numbers(alloc)?;
                 Ok(Some(drops_line(alloc, &numbers.drops)?))
+            }
+            Counters::Receive(_) => Ok(None),
+        }
+    }
+
+    /// Returns the line of the records that a sender has skipped, if there are any.
+    pub(crate) fn skips(&self, alloc: Global) -> Result<Option<Vec<u8>>, AllocError> {
+        match self {
+            Counters::Send(counters) => {
+                let skipped = counters.skipped();
+                if skipped.all() == 0 {
+                    return Ok(None);
+                }
+                Ok(Some(skipped_line(alloc, &skipped)?))
             }
             Counters::Receive(_) => Ok(None),
         }

@@ -13,7 +13,7 @@ pub(crate) fn push_text(out: &mut Vec<u8>, text: &str) -> Result<(), AllocError>
     out.extend_from_slice(text.as_bytes())
 }
 
-/// Adds what is said of a metric before its numbers.
+/// Adds the lines of a metric that come before its numbers.
 fn push_about(out: &mut Vec<u8>, name: &str, kind: &str, help: &str) -> Result<(), AllocError>
     ensures { OnOk result (out.new.items ≡ out.old.items ++ about name.now kind.now help.now) }
 {
@@ -67,7 +67,7 @@ pub(crate) fn push_gauge(
     push_value(out, n)
 }
 
-/// Adds what is said of a counter with numbers under labels.
+/// Adds the lines of a counter with labels that come before its numbers.
 #[tactic(auto, unfolding(crate::specs::Exposition::counters))]
 pub(crate) fn push_counters(out: &mut Vec<u8>, name: &str, help: &str) -> Result<(), AllocError>
     ensures { OnOk result (out.new.items ≡ out.old.items ++ counters name.now help.now) }
@@ -97,7 +97,7 @@ pub(crate) fn push_labelled(
     Ok(())
 }
 
-/// Adds how often a status came, under a label, behind a prefix.
+/// Adds how often a status came, under a label, after a prefix.
 #[tactic(auto, unfolding(crate::specs::Exposition::status_sample))]
 fn push_status(
     out: &mut Vec<u8>,
@@ -120,7 +120,7 @@ fn push_status(
     Ok(())
 }
 
-/// Adds how often each of these statuses came, under a label, behind a prefix.
+/// Adds how often each of these statuses came, under a label, after a prefix.
 pub(crate) fn push_statuses(
     out: &mut Vec<u8>,
     name: &str,

@@ -7,8 +7,8 @@ use crate::exposition::push_text;
 use rw_text::push_number;
 use std::alloc::AllocError;
 
-/// What is before the title. The page is loaded again every 5 seconds, and its width is that of the
-/// device. With an icon of its own no browser asks for one.
+/// The HTML before the title. The page is loaded again every 5 seconds, and its width is that of
+/// the device. It has an icon of its own, so that no browser asks for one.
 const HEAD: &str = "<!DOCTYPE html>
 <html lang=\"en\">
 <head>
@@ -18,7 +18,7 @@ const HEAD: &str = "<!DOCTYPE html>
 <link rel=\"icon\" href=\"data:,\">
 <title>";
 
-/// What is between the title and its repetition as a heading.
+/// The HTML between the title and its repetition as a heading.
 const STYLE: &str = "</title>
 <style>
 :root { color-scheme: light dark; font: 16px/1.4 system-ui, sans-serif }
@@ -37,7 +37,7 @@ footer { margin-top: 1.2rem; font-size: .9rem }
 <body>
 <h1>";
 
-/// What is after all numbers.
+/// The HTML after all numbers.
 const FOOT: &str = "<footer>The numbers are best effort and are read one after the other. \
     This page is loaded again every 5 seconds. \
     <a href=\"metrics\">The metrics for Prometheus</a></footer>
@@ -45,7 +45,7 @@ const FOOT: &str = "<footer>The numbers are best effort and are read one after t
 </html>
 ";
 
-/// Adds all before the first paragraph of a page with this title.
+/// Adds everything before the first paragraph of a page with this title.
 #[tactic(auto, unfolding(crate::specs::Html::page_start))]
 pub(crate) fn push_page_start(out: &mut Vec<u8>, title: &str) -> Result<(), AllocError>
     ensures { OnOk result (out.new.items ≡ out.old.items ++ page_start title.now) }
@@ -58,7 +58,7 @@ pub(crate) fn push_page_start(out: &mut Vec<u8>, title: &str) -> Result<(), Allo
     Ok(())
 }
 
-/// Adds what ends a page.
+/// Adds the end of a page.
 #[tactic(auto, unfolding(crate::specs::Html::page_end))]
 pub(crate) fn push_page_end(out: &mut Vec<u8>) -> Result<(), AllocError>
     ensures { OnOk result (out.new.items ≡ out.old.items ++ page_end) }
@@ -77,7 +77,7 @@ pub(crate) fn push_table_start(out: &mut Vec<u8>, heading: &str) -> Result<(), A
     Ok(())
 }
 
-/// Adds what ends a table.
+/// Adds the end of a table.
 #[tactic(auto, unfolding(crate::specs::Html::table_end))]
 pub(crate) fn push_table_end(out: &mut Vec<u8>) -> Result<(), AllocError>
     ensures { OnOk result (out.new.items ≡ out.old.items ++ table_end) }

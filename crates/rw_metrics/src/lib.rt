@@ -1,7 +1,9 @@
-//! What a sender and a receiver are doing: counters that threads share, their page in the text format of Prometheus over HTTP, and lines of progress.
+//! What a sender and a receiver are doing: counters that threads share, their page in the text
+//! format of Prometheus over HTTP, and lines of progress.
 #![tactic(auto)]
 
 mod asking;
+mod body;
 mod cause;
 mod client;
 mod codes;
@@ -20,18 +22,19 @@ mod send_numbers;
 mod sender_html;
 mod sender_page;
 mod server;
+mod skipped_counters;
 mod stalls;
 
 pub use cause::Cause;
 pub use counters::Counters;
-pub use lines::{drops_line, receive_line, send_line};
+pub use lines::{drops_line, receive_line, send_line, skipped_line};
 pub use progress::{Screen, show_progress, write_end};
 pub use receive_counters::ReceiveCounters;
 pub use receive_numbers::ReceiveNumbers;
 pub use receiver_html::receive_html;
 pub use receiver_page::receive_page;
 pub use send_counters::SendCounters;
-pub use send_numbers::{Drops, Failures, SendNumbers};
+pub use send_numbers::{Drops, Failures, SendNumbers, Skipped};
 pub use sender_html::send_html;
 pub use sender_page::send_page;
 pub use server::serve_metrics;

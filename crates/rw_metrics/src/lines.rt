@@ -1,12 +1,12 @@
 //! Lines of progress.
 
 ghost use Rattle.std.specs.Prelude.{◌≡◌, ◌++◌, ◌<◌, IfOk, OnOk};
-ghost use Rattle.rw_metrics.specs.Lines.{cause_text, drops_line, last_told, percent, percent_told, receive_line, samples_line, send_line, status_told, statuses_told, told, work_line};
+ghost use Rattle.rw_metrics.specs.Lines.{cause_text, drops_line, lag, lag_told, last_told, lost_told, other_told, percent, percent_told, reading_line, receive_line, samples_line, send_line, skipped_line, status_told, statuses_told, told, told_some, work_line};
 
 use crate::cause::Cause;
 use crate::exposition::push_text;
 use crate::receive_numbers::ReceiveNumbers;
-use crate::send_numbers::{Drops, SendNumbers};
+use crate::send_numbers::{Drops, SendNumbers, Skipped};
 use rw_text::push_number;
 use std::alloc::{AllocError, Global};
 
@@ -19,6 +19,17 @@ fn push_told(out: &mut Vec<u8>, word: &str, n: u64) -> Result<(), AllocError>
     push_text(out, word)?;
     push_text(out, " ")?;
     push_number(out, n)
+}
+
+/// Adds ` WORD N` if N is not 0.
+#[tactic(auto, unfolding(crate::specs::Lines::told_some))]
+fn push_told_some(out: &mut Vec<u8>, word: &str, n: u64) -> Result<(), AllocError>
+    ensures { OnOk result (out.new.items ≡ out.old.items ++ told_some word.now n) }
+{
+    if n == 0 {
+        return Ok(());
+    }
+    push_told(out, word, n)
 }
 
 /// Adds ` status_NNN N`.
@@ -60,7 +71,7 @@ pub(crate) fn push_cause(out: &mut Vec<u8>, cause: Cause) -> Result<(), AllocErr
     }
 }
 
-/// Adds ` last CAUSE`, where an attempt has failed.
+/// Adds ` last CAUSE`, if an attempt has failed.
 #[tactic(auto, unfolding(crate::specs::Lines::last_told))]
 pub(crate) fn push_last_told(out: &mut Vec<u8>, last: Option<Cause>) -> Result<(), AllocError>
     ensures { OnOk result (out.new.items ≡ out.old.items ++ last_told last) }
@@ -74,7 +85,7 @@ pub(crate) fn push_last_told(out: &mut Vec<u8>, last: Option<Cause>) -> Result<(
     }
 }
 
-/// How many hundredths of so many bytes were read, at most 100.
+/// Returns the percentage of `all` bytes that were read, at most 100.
 pub(crate) fn percent(bytes: u64, all: u64) -> u64
     requires { 0 < all }
     ensures { result ≡ percent bytes all }
@@ -82,7 +93,7 @@ pub(crate) fn percent(bytes: u64, all: u64) -> u64
     (bytes as u128 * 100 / all as u128).min(100) as u64
 }
 
-/// Adds ` percent N` of a folder, where its bytes are known.
+/// Adds ` percent N` for a folder, if its bytes are known.
 #[tactic(auto, unfolding(crate::specs::Lines::percent_told))]
 fn push_percent_told(out: &mut Vec<u8>, bytes: u64, all: u64) -> Result<(), AllocError>
     ensures { OnOk result (out.new.items ≡ out.old.items ++ percent_told bytes all) }
@@ -93,16 +104,36 @@ fn push_percent_told(out: &mut Vec<u8>, bytes: u64, all: u64) -> Result<(), Allo
     push_told(out, "percent", percent(bytes, all))
 }
 
+/// Returns by how many seconds the newest acknowledged sample is older than the newest one that was
+/// read.
+pub(crate) fn lag(read: u64, acknowledged: u64) -> u64
+    ensures { result ≡ lag read acknowledged }
+{
+    read.saturating_sub(acknowledged)
+}
+
+/// Adds ` lag N` if a sample was acknowledged.
+#[tactic(auto, unfolding(crate::specs::Lines::lag_told))]
+fn push_lag_told(out: &mut Vec<u8>, read: u64, acknowledged: u64) -> Result<(), AllocError>
+    ensures { OnOk result (out.new.items ≡ out.old.items ++ lag_told read acknowledged) }
+{
+    if acknowledged == 0 {
+        return Ok(());
+    }
+    push_told(out, "lag", lag(read, acknowledged))
+}
+
 fn push_samples_line(out: &mut Vec<u8>, n: &SendNumbers) -> Result<(), AllocError>
     ensures { OnOk result (out.new.items ≡ out.old.items ++ samples_line n.now) }
 {
     push_text(out, "entries ")?;
     push_number(out, n.entries)?;
-    push_told(out, "placed", n.placed)?;
-    push_told(out, "resolved", n.resolved)?;
+    push_told(out, "read", n.read)?;
+    push_told(out, "acknowledged", n.acknowledged)?;
     push_told(out, "dropped", n.drops.all)?;
     push_told(out, "filtered", n.filtered)?;
-    push_told(out, "waiting", n.waiting)?;
+    push_told(out, "in_flight", n.in_flight)?;
+    push_lag_told(out, n.newest_read, n.newest_acknowledged)?;
     Ok(())
 }
 
@@ -113,24 +144,35 @@ fn push_work_line(out: &mut Vec<u8>, n: &SendNumbers) -> Result<(), AllocError>
     push_told(out, "attempts", n.attempts)?;
     push_told(out, "failed", n.failures.all)?;
     push_last_told(out, n.failures.last)?;
+    Ok(())
+}
+
+fn push_reading_line(out: &mut Vec<u8>, n: &SendNumbers) -> Result<(), AllocError>
+    ensures { OnOk result (out.new.items ≡ out.old.items ++ reading_line n.now) }
+{
     push_told(out, "segment", n.segment)?;
     push_told(out, "bytes", n.segment_bytes)?;
+    push_told_some(out, "newest", n.newest_segment)?;
     push_percent_told(out, n.bytes, n.folder_bytes)?;
     Ok(())
 }
 
-/// The progress of a sender with these numbers, in one line: `entries N placed N resolved N dropped N filtered N waiting N shards N attempts N failed N`,
-/// where an attempt has failed ` last CAUSE`, ` segment N bytes N`, and where the bytes of the folder are known ` percent N`.
+/// Returns the progress of a sender with these numbers, in one line: `entries N read N acknowledged N
+/// dropped N filtered N in_flight N`, ` lag N` if a sample was acknowledged, ` shards N attempts N
+/// failed N`, ` last CAUSE` if an attempt has failed, ` segment N bytes N`, ` newest N` if the newest
+/// segment is known and not 0, and ` percent N` if the bytes of the folder are known.
 pub fn send_line(alloc: Global, numbers: &SendNumbers) -> Result<Vec<u8>, AllocError>
     ensures { IfOk result (λ line. line.items ≡ send_line numbers.now) }
 {
     let mut out = Vec::new(alloc);
     push_samples_line(&mut out, numbers)?;
     push_work_line(&mut out, numbers)?;
+    push_reading_line(&mut out, numbers)?;
     Ok(out)
 }
 
-/// The progress of a receiver with these numbers, in one line: `connections N accepted N samples N`, and ` status_NNN N` for each status.
+/// Returns the progress of a receiver with these numbers, in one line: `connections N accepted N
+/// samples N`, and ` status_NNN N` for each status.
 pub fn receive_line(alloc: Global, numbers: &ReceiveNumbers) -> Result<Vec<u8>, AllocError>
     ensures { IfOk result (λ line. line.items ≡ receive_line numbers.now) }
 {
@@ -143,7 +185,8 @@ pub fn receive_line(alloc: Global, numbers: &ReceiveNumbers) -> Result<Vec<u8>, 
     Ok(out)
 }
 
-/// How many samples a sender has dropped, in one line: `dropped N noseries N badlabels N notrising N`, and ` status_NNN N` for each status.
+/// Returns how many samples a sender has dropped, in one line: `dropped N noseries N badlabels N
+/// notrising N`, and ` status_NNN N` for each status.
 pub fn drops_line(alloc: Global, drops: &Drops) -> Result<Vec<u8>, AllocError>
     ensures { IfOk result (λ line. line.items ≡ drops_line drops.now) }
 {
@@ -154,5 +197,44 @@ pub fn drops_line(alloc: Global, drops: &Drops) -> Result<Vec<u8>, AllocError>
     push_told(&mut out, "badlabels", drops.bad_labels)?;
     push_told(&mut out, "notrising", drops.not_rising)?;
     push_statuses_told(&mut out, drops.refused.as_slice())?;
+    Ok(out)
+}
+
+/// Adds how many of the skipped records may hold samples, by what they hold.
+fn push_lost_told(out: &mut Vec<u8>, s: &Skipped) -> Result<(), AllocError>
+    ensures { OnOk result (out.new.items ≡ out.old.items ++ lost_told s.now) }
+{
+    push_told_some(out, "histogram_samples", s.histograms)?;
+    push_told_some(out, "float_histogram_samples", s.float_histograms)?;
+    push_told_some(out, "custom_buckets_histogram_samples", s.custom_histograms)?;
+    push_told_some(
+        out,
+        "custom_buckets_float_histogram_samples",
+        s.custom_float_histograms,
+    )?;
+    push_told_some(out, "unknown", s.unknown)?;
+    Ok(())
+}
+
+/// Adds how many of the skipped records hold no samples, by what they hold.
+fn push_other_told(out: &mut Vec<u8>, s: &Skipped) -> Result<(), AllocError>
+    ensures { OnOk result (out.new.items ≡ out.old.items ++ other_told s.now) }
+{
+    push_told_some(out, "tombstones", s.tombstones)?;
+    push_told_some(out, "exemplars", s.exemplars)?;
+    push_told_some(out, "mmapmarkers", s.mmap_markers)?;
+    push_told_some(out, "metadata", s.metadata)?;
+    Ok(())
+}
+
+/// Returns which records of the log a sender has skipped, in one line: `skipped`, and ` TYPE N` for
+/// each type of which there are some, those first that may hold samples.
+pub fn skipped_line(alloc: Global, skipped: &Skipped) -> Result<Vec<u8>, AllocError>
+    ensures { IfOk result (λ line. line.items ≡ skipped_line skipped.now) }
+{
+    let mut out = Vec::new(alloc);
+    push_text(&mut out, "skipped")?;
+    push_lost_told(&mut out, skipped)?;
+    push_other_told(&mut out, skipped)?;
     Ok(out)
 }

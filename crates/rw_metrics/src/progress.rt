@@ -1,4 +1,4 @@
-//! Progress, told once a second.
+//! Prints progress once a second.
 
 use crate::counters::Counters;
 use std::alloc::{AllocError, Global};
@@ -7,10 +7,10 @@ use std::thread;
 use std::thread::Threads;
 use std::time::{Clock, Duration};
 
-/// How many seconds are waited between two lines.
+/// How many seconds pass between two lines.
 const PAUSE_SECONDS: u64 = 1;
 
-/// What reads the lines of progress.
+/// What shows the lines of progress.
 #[derive(Clone, Copy, Debug, PartialEq, Eq)]
 pub enum Screen {
     /// A terminal, on which each line is written over the one before.
@@ -19,7 +19,8 @@ pub enum Screen {
     Lines,
 }
 
-/// What stands behind a line: on a terminal the rest of the one before is cleared, and the next one is written over it, unless it is the last one.
+/// Returns what follows a line: on a terminal the rest of the line before is cleared, and the next
+/// one is written over it, unless it is the last one.
 fn line_end(screen: Screen, is_last: bool) -> &'static [u8] {
     match screen {
         Screen::Terminal if is_last => b"\x1b[K\n",
@@ -28,7 +29,7 @@ fn line_end(screen: Screen, is_last: bool) -> &'static [u8] {
     }
 }
 
-/// Writes a line in one go.
+/// Writes a line with one call.
 fn write_line<W: Write>(writer: &mut W, line: Vec<u8>, ending: &[u8]) -> Result<(), AllocError> {
     let mut line = line;
     line.extend_from_slice(ending)?;
@@ -36,7 +37,7 @@ fn write_line<W: Write>(writer: &mut W, line: Vec<u8>, ending: &[u8]) -> Result<
     Ok(())
 }
 
-/// Writes where the counters stand.
+/// Writes the values of the counters.
 fn show<W: Write>(
     writer: &mut W,
     screen: Screen,
@@ -47,7 +48,7 @@ fn show<W: Write>(
     write_line(writer, line, line_end(screen, false))
 }
 
-/// Writes where the counters stand, once a second.
+/// Writes the values of the counters, once a second.
 fn show_on<C: Clock, W: Write>(
     clock: &C,
     writer: &mut W,
@@ -61,7 +62,8 @@ fn show_on<C: Clock, W: Write>(
     }
 }
 
-/// Writes a line of progress once a second, in a thread that nobody joins: it ends with the process.
+/// Writes a line of progress once a second, in a thread that is never joined: it ends with the
+/// process.
 pub fn show_progress<
     R: Threads,
     C: Clock + Copy + Send + 'static,
@@ -95,14 +97,18 @@ fn write_last<W: Write>(
 ) -> Result<(), AllocError> {
     let ending = line_end(screen, true);
     write_line(writer, counters.line(alloc)?, ending)?;
-    match counters.drops(alloc)? {
-        Some(line) => write_line(writer, line, ending),
-        None => Ok(()),
+    if let Some(line) = counters.drops(alloc)? {
+        write_line(writer, line, ending)?;
     }
+    if let Some(line) = counters.skips(alloc)? {
+        write_line(writer, line, ending)?;
+    }
+    Ok(())
 }
 
-/// Writes where the counters stand in the end, and of a sender how many samples were dropped, by reason: each in a line of its own. What follows is not
-/// written where memory is refused.
+/// Writes what was counted in the end, and of a sender how many samples were dropped, by reason, and
+/// which records of the log were skipped, if any: each in a line of its own. If out of memory, what
+/// follows is not written.
 pub fn write_end<W: Write>(writer: &mut W, screen: Screen, alloc: Global, counters: &Counters) {
     let _ = write_last(writer, screen, alloc, counters);
 }

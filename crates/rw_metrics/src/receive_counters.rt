@@ -5,7 +5,8 @@ use crate::receive_numbers::ReceiveNumbers;
 use std::alloc::{AllocError, Global};
 use std::sync::atomic::{AtomicU64, Ordering};
 
-/// What a receiver does, counted by its threads and read by others. This is advice: nothing is claimed of it, and nothing that is promised stands on it.
+/// What a receiver does, counted by its threads and read by others. The counters are best effort:
+/// no clause says anything about them, and no promise depends on them.
 #[derive(Drop)]
 pub struct ReceiveCounters {
     accepted: AtomicU64,
@@ -14,6 +15,8 @@ pub struct ReceiveCounters {
     statuses: Codes,
     samples: AtomicU64,
     label_sets: AtomicU64,
+    max_samples: AtomicU64,
+    max_label_sets: AtomicU64,
 }
 
 fn read(counter: &AtomicU64) -> u64 {
@@ -25,7 +28,7 @@ fn add(counter: &AtomicU64, n: u64) {
 }
 
 impl ReceiveCounters {
-    /// Nothing was done yet.
+    /// Returns counters that are all 0.
     pub fn new(alloc: Global) -> Result<ReceiveCounters, AllocError> {
         let statuses = Codes::new(alloc)?;
         Ok(ReceiveCounters {
@@ -35,33 +38,41 @@ impl ReceiveCounters {
             statuses,
             samples: AtomicU64::new(0),
             label_sets: AtomicU64::new(0),
+            max_samples: AtomicU64::new(0),
+            max_label_sets: AtomicU64::new(0),
         })
     }
 
-    /// A connection was accepted, and is served.
+    /// Counts a connection that was accepted, and is served.
     pub fn begin_connection(&self) {
         add(&self.accepted, 1);
     }
 
-    /// A connection has ended.
+    /// Counts a connection that has ended.
     pub fn end_connection(&self) {
         add(&self.ended, 1);
     }
 
-    /// An accept has failed.
+    /// Counts an accept that has failed.
     pub fn refuse_connection(&self) {
         add(&self.refused, 1);
     }
 
-    /// The head has answered a request with this status, and stored so many samples of it.
+    /// Counts an answer of the head: its status, and how many samples it stored.
     pub fn answer(&self, status: u16, stored: u64) {
         self.statuses.count(status);
         add(&self.samples, stored);
     }
 
-    /// The head holds samples of so many label sets. They never become fewer.
+    /// Sets of how many label sets the head holds samples. The number never becomes smaller.
     pub fn hold_label_sets(&self, count: usize) {
         self.label_sets.fetch_max(count as u64, Ordering::Relaxed);
+    }
+
+    /// Takes how many samples may be held, and of how many label sets; 0 if there is no limit.
+    pub fn set_limits(&self, max_samples: u64, max_label_sets: u64) {
+        self.max_samples.store(max_samples, Ordering::Relaxed);
+        self.max_label_sets.store(max_label_sets, Ordering::Relaxed);
     }
 
     /// What was counted.
@@ -76,6 +87,8 @@ impl ReceiveCounters {
             statuses,
             samples: read(&self.samples),
             label_sets: read(&self.label_sets),
+            max_samples: read(&self.max_samples),
+            max_label_sets: read(&self.max_label_sets),
         })
     }
 }

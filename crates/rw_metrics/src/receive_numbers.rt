@@ -1,6 +1,6 @@
 //! Numbers of a receiver.
 
-/// What the counters of a receiver were when they were read, one after the other.
+/// The values of a receiver's counters when they were read, one after the other.
 #[derive(Drop)]
 pub struct ReceiveNumbers {
     /// Connections that are served.
@@ -9,10 +9,14 @@ pub struct ReceiveNumbers {
     pub accepted: u64,
     /// Accepts that failed.
     pub refused: u64,
-    /// What the head has answered: the statuses in ascending order, each with how often.
+    /// What the head has answered: the statuses in ascending order, each with how often it came.
     pub statuses: Vec<(u16, u64)>,
     /// Samples that are held.
     pub samples: u64,
-    /// Label sets that they are of.
+    /// Label sets of which samples are held.
     pub label_sets: u64,
+    /// How many samples may be held; 0 if there is no limit.
+    pub max_samples: u64,
+    /// How many label sets they may be of; 0 if there is no limit.
+    pub max_label_sets: u64,
 }

@@ -1,7 +1,7 @@
 //! The page of a receiver for people.
 
 ghost use Rattle.std.specs.Prelude.{◌≡◌, ◌++◌, IfOk, OnOk};
-ghost use Rattle.rw_metrics.specs.ReceiveHtml.{answers_table, connections_table, held_table, receive_html};
+ghost use Rattle.rw_metrics.specs.ReceiveHtml.{answers_table, connections_table, held_table, limit_row, receive_html};
 
 use crate::html::{
     push_page_end, push_page_start, push_row, push_status_rows, push_table_end, push_table_start,
@@ -9,13 +9,26 @@ use crate::html::{
 use crate::receive_numbers::ReceiveNumbers;
 use std::alloc::{AllocError, Global};
 
-/// Adds what is held.
+/// Adds a limit, if there is one.
+#[tactic(auto, unfolding(crate::specs::ReceiveHtml::limit_row))]
+fn push_limit_row(out: &mut Vec<u8>, label: &str, n: u64) -> Result<(), AllocError>
+    ensures { OnOk result (out.new.items ≡ out.old.items ++ limit_row label.now n) }
+{
+    if n == 0 {
+        return Ok(());
+    }
+    push_row(out, label, n)
+}
+
+/// Adds what is held, and how much may be.
 fn push_held(out: &mut Vec<u8>, n: &ReceiveNumbers) -> Result<(), AllocError>
     ensures { OnOk result (out.new.items ≡ out.old.items ++ held_table n.now) }
 {
     push_table_start(out, "Held")?;
     push_row(out, "Samples", n.samples)?;
     push_row(out, "Series", n.label_sets)?;
+    push_limit_row(out, "Most samples", n.max_samples)?;
+    push_limit_row(out, "Most series", n.max_label_sets)?;
     push_table_end(out)?;
     Ok(())
 }

@@ -63,10 +63,22 @@ fn push_held(out: &mut Vec<u8>, n: &ReceiveNumbers) -> Result<(), AllocError>
         "Label sets of which samples are held.",
         n.label_sets,
     )?;
+    push_gauge(
+        out,
+        "rwship_receive_max_samples",
+        "How many samples may be held; 0 if there is no limit.",
+        n.max_samples,
+    )?;
+    push_gauge(
+        out,
+        "rwship_receive_max_label_sets",
+        "Of how many label sets samples may be held; 0 if there is no limit.",
+        n.max_label_sets,
+    )?;
     Ok(())
 }
 
-/// The page of a receiver with these numbers.
+/// Returns the page of a receiver with these numbers.
 pub fn receive_page(alloc: Global, numbers: &ReceiveNumbers) -> Result<Vec<u8>, AllocError>
     ensures { IfOk result (λ page. page.items ≡ receive_page numbers.now) }
 {

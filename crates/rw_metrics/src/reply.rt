@@ -38,7 +38,7 @@ pub(crate) fn reply_of(alloc: Global, kind: &str, page: &[u8]) -> Result<Vec<u8>
     Ok(out)
 }
 
-/// Writes the page for Prometheus. Writes nothing if out of memory.
+/// Writes the page for Prometheus, or nothing if memory runs out.
 fn write_page<W: Sink>(
     alloc: Global,
     writer: &mut W,
@@ -50,7 +50,7 @@ fn write_page<W: Sink>(
     Ok(())
 }
 
-/// Writes the page for people. Writes nothing if out of memory.
+/// Writes the page for people, or nothing if memory runs out.
 fn write_html<W: Sink>(
     alloc: Global,
     writer: &mut W,

@@ -1,47 +1,61 @@
 //! Counters of a sender.
 
+use crate::body::cargo_of;
 use crate::cause::{Cause, cause_of, number_of};
 use crate::codes::Codes;
-use crate::send_numbers::{Drops, Failures, SendNumbers};
+use crate::send_numbers::{Drops, Failures, SendNumbers, Skipped};
+use crate::skipped_counters::SkippedCounters;
 use rw_ledger::Reason;
 use std::alloc::{AllocError, Global};
 use std::sync::atomic::{AtomicU64, Ordering};
 
-/// How many samples were dropped, by reason.
+/// How many samples were dropped, by reason. Those of refused batches are counted twice, by whoever
+/// hears the receiver and by the report at the end; the larger count is shown.
 #[derive(Drop)]
 struct DropCounters {
-    all: AtomicU64,
     no_series: AtomicU64,
     bad_labels: AtomicU64,
     not_rising: AtomicU64,
-    refused: Codes,
+    heard: Codes,
+    heard_in_all: AtomicU64,
+    listed: Codes,
+    listed_in_all: AtomicU64,
 }
 
 impl DropCounters {
     fn new(alloc: Global) -> Result<DropCounters, AllocError> {
+        let heard = Codes::new(alloc)?;
+        let listed = Codes::new(alloc)?;
         Ok(DropCounters {
-            all: AtomicU64::new(0),
             no_series: AtomicU64::new(0),
             bad_labels: AtomicU64::new(0),
             not_rising: AtomicU64::new(0),
-            refused: Codes::new(alloc)?,
+            heard,
+            heard_in_all: AtomicU64::new(0),
+            listed,
+            listed_in_all: AtomicU64::new(0),
         })
     }
 
-    /// How many of them were never sent.
+    /// Returns how many of them were never sent.
     fn unsent(&self) -> u64 {
         read(&self.no_series)
             .saturating_add(read(&self.bad_labels))
             .saturating_add(read(&self.not_rising))
     }
 
+    /// Returns how many of them were in refused batches.
+    fn refused(&self) -> u64 {
+        read(&self.heard_in_all).max(read(&self.listed_in_all))
+    }
+
     fn numbers(&self, alloc: Global) -> Result<Drops, AllocError> {
         Ok(Drops {
-            all: read(&self.all),
+            all: self.unsent().saturating_add(self.refused()),
             no_series: read(&self.no_series),
             bad_labels: read(&self.bad_labels),
             not_rising: read(&self.not_rising),
-            refused: self.refused.read(alloc)?,
+            refused: self.heard.read_with(&self.listed, alloc)?,
         })
     }
 }
@@ -93,19 +107,24 @@ impl FailureCounters {
     }
 }
 
-/// What a sender does, counted by its threads and read by others. This is advice: nothing is claimed of it, and nothing that is promised stands on it.
+/// What a sender does, counted by its threads and read by others. It is best effort: no contract
+/// says what the counters hold, and no promise depends on them.
 #[derive(Drop)]
 pub struct SendCounters {
     entries: AtomicU64,
     bytes: AtomicU64,
     folder_bytes: AtomicU64,
     segment: AtomicU64,
+    newest_segment: AtomicU64,
     segment_bytes: AtomicU64,
     placed: AtomicU64,
-    resolved: AtomicU64,
+    acknowledged: AtomicU64,
     waiting: AtomicU64,
     filtered: AtomicU64,
+    newest_read_ms: AtomicU64,
+    newest_acknowledged_ms: AtomicU64,
     drops: DropCounters,
+    skipped: SkippedCounters,
     shards: AtomicU64,
     attempts: AtomicU64,
     failures: FailureCounters,
@@ -124,7 +143,7 @@ fn add(counter: &AtomicU64, n: u64) {
 }
 
 impl SendCounters {
-    /// Nothing was done yet.
+    /// Returns counters that are all 0.
     pub fn new(alloc: Global) -> Result<SendCounters, AllocError> {
         let drops = DropCounters::new(alloc)?;
         let failures = FailureCounters::new(alloc)?;
@@ -133,75 +152,99 @@ impl SendCounters {
             bytes: AtomicU64::new(0),
             folder_bytes: AtomicU64::new(0),
             segment: AtomicU64::new(0),
+            newest_segment: AtomicU64::new(0),
             segment_bytes: AtomicU64::new(0),
             placed: AtomicU64::new(0),
-            resolved: AtomicU64::new(0),
+            acknowledged: AtomicU64::new(0),
             waiting: AtomicU64::new(0),
             filtered: AtomicU64::new(0),
+            newest_read_ms: AtomicU64::new(0),
+            newest_acknowledged_ms: AtomicU64::new(0),
             drops,
+            skipped: SkippedCounters::new(),
             shards: AtomicU64::new(0),
             attempts: AtomicU64::new(0),
             failures,
         })
     }
 
-    /// The segment of this number is read from its first byte on.
+    /// Sets the number of the segment that is read, from its first byte on.
     pub fn begin_segment(&self, number: u64) {
         set(&self.segment, number);
         set(&self.segment_bytes, 0);
     }
 
-    /// The segments of the folder have so many bytes.
+    /// Sets how many bytes the segments of the folder have.
     pub fn set_folder_bytes(&self, bytes: u64) {
         set(&self.folder_bytes, bytes);
     }
 
-    /// So many bytes more were read.
+    /// Counts `count` bytes more that were read.
     pub fn read_bytes(&self, count: usize) {
         add(&self.bytes, count as u64);
         add(&self.segment_bytes, count as u64);
     }
 
-    /// So many entries were read.
+    /// Sets how many entries were read.
     pub fn set_entries(&self, entries: u64) {
         set(&self.entries, entries);
     }
 
-    /// So many shards are at work.
+    /// Sets how many shards are at work.
     pub fn set_shards(&self, shards: u32) {
         set(&self.shards, shards as u64);
     }
 
-    /// So many samples were placed, of which so many are resolved, and so many wait. Those that are resolved never become fewer.
-    pub fn set_load(&self, placed: u64, resolved: u64, waiting: u64) {
+    /// Sets how many samples were put into queues, and how many of them have no answer and do not only
+    /// wait for a batch to be full.
+    pub fn set_load(&self, placed: u64, waiting: u64) {
         set(&self.placed, placed);
-        self.resolved.fetch_max(resolved, Ordering::Relaxed);
         set(&self.waiting, waiting);
     }
 
-    /// The work has ended, with so many samples resolved of those that were placed.
+    /// Takes the latest timestamp of the samples that were put into a queue, in milliseconds.
+    pub fn set_newest(&self, newest_ms: i64) {
+        set(&self.newest_read_ms, newest_ms.max(0) as u64);
+    }
+
+    /// Takes the number of the newest segment in the folder.
+    pub fn set_newest_segment(&self, number: u64) {
+        set(&self.newest_segment, number);
+    }
+
+    /// Takes how many records were skipped so far, by what they hold.
+    pub fn set_skipped(&self, skipped: &Skipped) {
+        self.skipped.set(skipped);
+    }
+
+    /// Takes how many samples are resolved once the work has ended, and those of refused batches were
+    /// counted.
     pub fn set_resolved(&self, resolved: u64) {
-        set(&self.resolved, resolved);
+        let refused = read(&self.drops.listed_in_all);
+        set(&self.acknowledged, resolved.saturating_sub(refused));
         set(&self.waiting, read(&self.placed).saturating_sub(resolved));
     }
 
-    /// The rules have filtered so many samples.
+    /// Sets how many samples the rules have filtered.
     pub fn set_filtered(&self, filtered: u64) {
         set(&self.filtered, filtered);
     }
 
-    /// One sample more was dropped.
+    /// Counts a dropped sample, as the report lists it.
     pub fn drop_sample(&self, reason: Reason) {
-        add(&self.drops.all, 1);
         match reason {
             Reason::NoSeries => add(&self.drops.no_series, 1),
             Reason::BadLabels(_) => add(&self.drops.bad_labels, 1),
             Reason::NotRising => add(&self.drops.not_rising, 1),
-            Reason::Status(status) => self.drops.refused.count(status),
+            Reason::Status(status) => {
+                add(&self.drops.listed_in_all, 1);
+                self.drops.listed.count(status);
+            }
         }
     }
 
-    /// These are the samples that were dropped so far as the log was read, in order: those behind the ones that were told before are told.
+    /// Counts the samples that were dropped so far as the log was read, in order: only those after
+    /// the ones that were counted before.
     pub fn drop_unsent(&self, names: &[(u64, Reason)]) {
         let told = self.drops.unsent() as usize;
         if let Some(more) = names.get(told..) {
@@ -211,12 +254,17 @@ impl SendCounters {
         }
     }
 
-    /// How many samples were dropped.
+    /// Returns how many samples were dropped.
     pub fn dropped(&self) -> u64 {
-        read(&self.drops.all)
+        self.drops.unsent().saturating_add(self.drops.refused())
     }
 
-    /// An attempt begins.
+    /// Returns how many records were skipped, by what they hold.
+    pub fn skipped(&self) -> Skipped {
+        self.skipped.read()
+    }
+
+    /// Counts an attempt that begins.
     pub fn attempt(&self) {
         add(&self.attempts, 1);
     }
@@ -224,6 +272,24 @@ impl SendCounters {
     /// Counts an attempt that succeeded.
     pub fn succeed(&self) {
         set(&self.failures.in_a_row, 0);
+    }
+
+    /// Counts an attempt that succeeded, and the samples of its request, which are acknowledged.
+    pub fn acknowledge(&self, request: &[u8]) {
+        let cargo = cargo_of(request);
+        add(&self.acknowledged, cargo.samples);
+        self.newest_acknowledged_ms
+            .fetch_max(cargo.newest_ms, Ordering::Relaxed);
+        self.succeed();
+    }
+
+    /// Counts an attempt that was refused permanently with this status, and the samples of its
+    /// request, which are dropped.
+    pub fn refuse(&self, status: u16, request: &[u8]) {
+        let cargo = cargo_of(request);
+        self.drops.heard.add(status, cargo.samples);
+        add(&self.drops.heard_in_all, cargo.samples);
+        self.fail(Cause::Status(status));
     }
 
     /// An attempt has failed.
@@ -243,21 +309,36 @@ impl SendCounters {
         }
     }
 
-    /// What was counted.
+    /// Returns what was counted. Samples are read, acknowledged, dropped, filtered and in flight so that
+    /// the first number is the sum of the others, though they are not read at one moment.
     pub fn numbers(&self, alloc: Global) -> Result<SendNumbers, AllocError> {
         let drops = self.drops.numbers(alloc)?;
         let failures = self.failures.numbers(alloc)?;
+        let acknowledged = read(&self.acknowledged);
+        let resolved = acknowledged.saturating_add(drops.refused_in_all());
+        let placed = read(&self.placed).max(resolved);
+        let in_flight = placed.saturating_sub(resolved);
+        let filtered = read(&self.filtered);
+        let sent = acknowledged.saturating_add(in_flight);
+        let unsent = drops.all.saturating_add(filtered);
         Ok(SendNumbers {
             entries: read(&self.entries),
             bytes: read(&self.bytes),
             folder_bytes: read(&self.folder_bytes),
             segment: read(&self.segment),
+            newest_segment: read(&self.newest_segment),
             segment_bytes: read(&self.segment_bytes),
-            placed: read(&self.placed),
-            resolved: read(&self.resolved),
+            read: sent.saturating_add(unsent),
+            placed,
+            acknowledged,
+            in_flight,
+            resolved,
             waiting: read(&self.waiting),
-            filtered: read(&self.filtered),
+            filtered,
+            newest_read: read(&self.newest_read_ms) / 1_000,
+            newest_acknowledged: read(&self.newest_acknowledged_ms) / 1_000,
             drops,
+            skipped: self.skipped.read(),
             shards: read(&self.shards),
             attempts: read(&self.attempts),
             failures,

@@ -1,15 +1,15 @@
 //! The page of a sender for people.
 
 ghost use Rattle.std.specs.Prelude.{◌≡◌, ◌++◌, IfOk, OnOk};
-ghost use Rattle.rw_metrics.specs.SendHtml.{attempts_table, drops_table, failures_rows, last_row, percent_row, reading_table, samples_table, send_html, state};
+ghost use Rattle.rw_metrics.specs.SendHtml.{attempts_table, drops_table, failures_rows, lag_row, last_row, percent_row, reading_table, samples_table, send_html, skipped_row, skipped_table, state};
 
 use crate::cause::Cause;
 use crate::exposition::push_text;
 use crate::html::{
     push_page_end, push_page_start, push_row, push_status_rows, push_table_end, push_table_start,
 };
-use crate::lines::{percent, push_cause};
-use crate::send_numbers::{Drops, Failures, SendNumbers};
+use crate::lines::{lag, percent, push_cause};
+use crate::send_numbers::{Drops, Failures, SendNumbers, Skipped};
 use std::alloc::{AllocError, Global};
 
 /// Returns what the sender is doing.
@@ -19,11 +19,26 @@ fn state(n: &SendNumbers) -> &'static str
 {
     if n.failures.in_a_row > 0 {
         "<p class=\"bad\">Waiting for the receiver: attempts to send fail.</p>\n"
-    } else if n.waiting > 0 {
-        "<p>Sending. Samples wait for the receiver.</p>\n"
+    } else if n.in_flight > 0 {
+        "<p>Sending. Samples are in flight.</p>\n"
     } else {
-        "<p>Reading the log. No sample waits for the receiver.</p>\n"
+        "<p>Reading the log. No sample is in flight.</p>\n"
     }
+}
+
+/// Adds how many seconds of what was read are not acknowledged, if a sample was acknowledged.
+#[tactic(auto, unfolding(crate::specs::SendHtml::lag_row))]
+fn push_lag_row(out: &mut Vec<u8>, read: u64, acknowledged: u64) -> Result<(), AllocError>
+    ensures { OnOk result (out.new.items ≡ out.old.items ++ lag_row read acknowledged) }
+{
+    if acknowledged == 0 {
+        return Ok(());
+    }
+    push_row(
+        out,
+        "Seconds from the newest acknowledged to the newest in flight",
+        lag(read, acknowledged),
+    )
 }
 
 /// Adds how far the samples have come.
@@ -32,14 +47,12 @@ fn push_samples(out: &mut Vec<u8>, n: &SendNumbers) -> Result<(), AllocError>
     ensures { OnOk result (out.new.items ≡ out.old.items ++ samples_table n.now) }
 {
     push_table_start(out, "Samples")?;
-    push_row(out, "Read and put into a queue", n.placed)?;
-    push_row(
-        out,
-        "Acknowledged, refused, or in a batch that is not full",
-        n.resolved,
-    )?;
-    push_row(out, "Waiting for the receiver", n.waiting)?;
+    push_row(out, "Read", n.read)?;
+    push_row(out, "Acknowledged by the receiver", n.acknowledged)?;
+    push_row(out, "Dropped", n.drops.all)?;
     push_row(out, "Filtered by the rules", n.filtered)?;
+    push_row(out, "In flight", n.in_flight)?;
+    push_lag_row(out, n.newest_read, n.newest_acknowledged)?;
     push_table_end(out)?;
     Ok(())
 }
@@ -60,6 +73,42 @@ fn push_drops(out: &mut Vec<u8>, d: &Drops) -> Result<(), AllocError>
     )?;
     push_status_rows(out, "Batch refused with status", d.refused.as_slice())?;
     push_table_end(out)?;
+    Ok(())
+}
+
+/// Adds how many records of a type were skipped, if there are any.
+#[tactic(auto, unfolding(crate::specs::SendHtml::skipped_row))]
+fn push_skipped_row(out: &mut Vec<u8>, label: &str, n: u64) -> Result<(), AllocError>
+    ensures { OnOk result (out.new.items ≡ out.old.items ++ skipped_row label.now n) }
+{
+    if n == 0 {
+        return Ok(());
+    }
+    push_row(out, label, n)
+}
+
+/// Adds the skipped records that may hold samples, and so are lost.
+#[tactic(auto, unfolding(crate::specs::SendHtml::skipped_table))]
+fn push_skipped(out: &mut Vec<u8>, s: &Skipped) -> Result<(), AllocError>
+    ensures { OnOk result (out.new.items ≡ out.old.items ++ skipped_table s.now) }
+{
+    push_skipped_row(out, "Records of histograms, not shipped", s.histograms)?;
+    push_skipped_row(
+        out,
+        "Records of float histograms, not shipped",
+        s.float_histograms,
+    )?;
+    push_skipped_row(
+        out,
+        "Records of histograms with custom buckets, not shipped",
+        s.custom_histograms,
+    )?;
+    push_skipped_row(
+        out,
+        "Records of float histograms with custom buckets, not shipped",
+        s.custom_float_histograms,
+    )?;
+    push_skipped_row(out, "Records of an unknown type, not shipped", s.unknown)?;
     Ok(())
 }
 
@@ -108,7 +157,7 @@ fn push_attempts(out: &mut Vec<u8>, n: &SendNumbers) -> Result<(), AllocError>
     Ok(())
 }
 
-/// Adds how many hundredths of a folder were read, if its bytes are known.
+/// Adds the percentage of a folder that was read, if its bytes are known.
 #[tactic(auto, unfolding(crate::specs::SendHtml::percent_row))]
 fn push_percent_row(out: &mut Vec<u8>, bytes: u64, all: u64) -> Result<(), AllocError>
     ensures { OnOk result (out.new.items ≡ out.old.items ++ percent_row bytes all) }
@@ -126,10 +175,11 @@ fn push_reading(out: &mut Vec<u8>, n: &SendNumbers) -> Result<(), AllocError>
 {
     push_table_start(out, "Log")?;
     push_row(out, "Segment that is read", n.segment)?;
-    push_row(out, "Bytes of it that were read", n.segment_bytes)?;
+    push_row(out, "Newest segment", n.newest_segment)?;
     push_row(out, "Entries read", n.entries)?;
     push_row(out, "Bytes read", n.bytes)?;
     push_percent_row(out, n.bytes, n.folder_bytes)?;
+    push_skipped(out, &n.skipped)?;
     push_row(out, "Shards at work", n.shards)?;
     push_table_end(out)?;
     Ok(())

@@ -13,18 +13,18 @@ use std::thread;
 use std::thread::Threads;
 use std::time::{Clock, Duration};
 
-/// How many clients are waited for at once. The oldest of them is closed if one more comes.
+/// How many clients may wait at once. The oldest of them is closed if one more comes.
 const MOST_CLIENTS: usize = 16;
 
-/// For how many milliseconds an accept waits before the clients that are waited for are looked at.
+/// How many milliseconds an accept waits before the waiting clients are looked at.
 const TICK_MS: u64 = 20;
 
-/// For how many milliseconds nothing is accepted after an accept that failed, for example because
-/// no descriptor was left.
+/// How many milliseconds pass after an accept that failed, for example because no descriptor was
+/// left.
 const NAP_MS: u64 = 200;
 
-/// Adds a client after those that are waited for. If they are as many as may be, the oldest is
-/// closed; if out of memory, the new one is.
+/// Adds a client after those that wait. If there are as many as allowed, the oldest is closed; if
+/// memory runs out, the new one is.
 fn admit<C: Clock + Copy>(clients: &mut VecDeque<Client<C>>, client: Client<C>)
     requires few { deque_len clients.old ≤ 16 }
     ensures few { deque_len clients.new ≤ 16 }
@@ -35,7 +35,7 @@ fn admit<C: Clock + Copy>(clients: &mut VecDeque<Client<C>>, client: Client<C>)
     let _ = clients.push_back(client);
 }
 
-/// Looks at each client that is waited for, and keeps those that are still to be waited for.
+/// Looks at each client that waits, and keeps those that are not done.
 fn serve_each<C: Clock + Copy>(
     alloc: Global,
     clients: &mut VecDeque<Client<C>>,
@@ -54,7 +54,7 @@ fn serve_each<C: Clock + Copy>(
     }
 }
 
-/// Accepts a client, if one comes within a tick, and looks at all that are waited for.
+/// Accepts a client, if one comes within a tick, and looks at all that wait.
 fn serve_round<C: Clock + Copy>(
     clock: C,
     alloc: Global,
@@ -77,8 +77,8 @@ fn serve_round<C: Clock + Copy>(
     serve_each(alloc, clients, counters);
 }
 
-/// Serves clients until the process ends. None of them waits for another. If no tick can be set for
-/// the listener, those that are waited for are looked at when the next one comes.
+/// Serves clients until the process ends. None of them waits for another. If the listener cannot be
+/// given a timeout, those that wait are looked at when the next one comes.
 fn serve<C: Clock + Copy>(clock: C, alloc: Global, listener: &TcpListener, counters: &Counters) {
     let _ = limit_accepts(listener, Duration::from_millis(TICK_MS));
     let mut clients = VecDeque::new(alloc);
@@ -88,8 +88,8 @@ fn serve<C: Clock + Copy>(clock: C, alloc: Global, listener: &TcpListener, count
 }
 
 /// Answers `GET /metrics` with the page of the counters for Prometheus, and `GET /` with their page
-/// for people, in a thread that nobody joins: it ends with the process. A client has 2 seconds in
-/// all, and no other one waits for it. After an accept that fails the thread sleeps for a moment
+/// for people, in a thread that is never joined: it ends with the process. A client has 2 seconds
+/// in all, and no other one waits for it. After an accept that fails the thread sleeps for a moment
 /// and accepts again.
 pub fn serve_metrics<R: Threads, C: Clock + Copy + Send + 'static>(
     rt: &R,

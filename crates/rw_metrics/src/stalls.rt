@@ -1,4 +1,4 @@
-//! What a sender writes while its receiver acknowledges nothing.
+//! Messages of a sender whose receiver acknowledges nothing.
 
 ghost use Rattle.std.specs.Prelude.{◌≡◌, IfOk};
 ghost use Rattle.rw_metrics.specs.Lines.{stall_line};
@@ -86,7 +86,7 @@ fn watch<C: Clock, W: Write>(
     }
 }
 
-/// Writes the line of a stall in one go.
+/// Writes the line of a stall with one call.
 fn write_stall<W: Write>(
     writer: &mut W,
     alloc: Global,
@@ -99,9 +99,9 @@ fn write_stall<W: Write>(
     Ok(())
 }
 
-/// Writes a line after ten seconds in which attempts failed and none succeeded, and one a minute from
-/// then on, in a thread that nobody joins: it ends with the process. `receiver` is the HOST:PORT that
-/// the lines name.
+/// Writes a line after ten seconds in which attempts failed and none succeeded, and one a minute
+/// from then on, in a thread that is never joined: it ends with the process. `receiver` is the
+/// HOST:PORT in the lines.
 pub fn show_stalls<R: Threads, C: Clock + Copy + Send + 'static, W: Write + Send + Drop + 'static>(
     rt: &R,
     clock: C,

@@ -1,4 +1,4 @@
--- A history with one item more, and the beginnings of a history.
+-- A history with one item more, and the prefixes of a history.
 use Rattle.std.proofs.Common.{◌≡◌, inl, inr, ℕ, ◌<◌, ◌≤◌, ◌^◌, false, true≢false, List, [], ◌∷◌, ◌++◌, length, Some, refl, sym, ap, ◌∙◌, append_assoc, append-nil, length-append, arith}
 use Rattle.std.specs.Prelude.{slice_get}
 use Rattle.rw_types.specs.Rising.{Rises}
@@ -18,7 +18,7 @@ places_in-append (Sample p t w l ∷ xs) ys = ap (λ ps. p ∷ ps) (places_in-ap
 places_in-append (Flush ∷ xs) ys = places_in-append xs ys
 places_in-append (End k ∷ xs) ys = places_in-append xs ys
 
--- behind no End anything may stand
+-- after no End anything may be
 pub last-push : (put : List Item) (x : Item) → IsOpen put → EndIsLast (put ++ x ∷ [])
 last-push put x open' before after kind e = elim (cut_snoc put before after x (End kind) e) [ inl h ↦ h.0 | inr h ↦ absurd (open' before h.0 kind h.1) ]
 
@@ -73,7 +73,7 @@ history-nil epoch shard = record {
 pub open-nil : IsOpen []
 open-nil before after kind e = cut_not_nil before after (End kind) e
 
--- a beginning of a history is one
+-- a prefix of a history is one
 pub history-front : (epoch shard : ℕ) (taken rest : List Item) → IsHistory epoch shard (taken ++ rest) → IsHistory epoch shard taken
 history-front epoch shard taken rest h =
     let ps = places_in taken in
@@ -88,7 +88,7 @@ history-front epoch shard taken rest h =
       few = let whole : length (ps ++ places_in rest) ≤ 2 ^ 60 = rw all at h.few in omega (arith, length-append ps (places_in rest));
     }
 
--- what ends in an End is all, where nothing stands after an End
+-- what ends in an End is all, if nothing is after an End
 pub ended-whole : (put taken items : List Item) → put ≡ taken ++ items → EndIsLast put → IsEnded taken → put ≡ taken
 ended-whole put taken items split last ended =
     let cut : put ≡ ended.0 ++ End ended.1 ∷ items = split ∙ ap (λ xs. xs ++ items) ended.2 ∙ append_assoc ended.0 (End ended.1 ∷ []) items in

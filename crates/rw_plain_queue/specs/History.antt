@@ -1,4 +1,5 @@
--- What may go through one queue (Remote-Write 1.0: the samples of a series go out in order): the items put, oldest first.
+-- What may go through one queue (Remote-Write 1.0: the samples of a series go out in order): the
+-- items put, oldest first.
 use Rattle.std.specs.Prelude.{◌≡◌, ℕ, ◌<◌, ◌≤◌, ◌^◌, List, [], ◌∷◌, ◌++◌, length, Some, slice_get, ⊤}
 use Rattle.rw_types.specs.Rising.{Rises}
 use Rattle.rw_types.specs.declared.place.Place.{Place}
@@ -19,11 +20,11 @@ IsNumbered ps = (k : ℕ) (p : Place) → slice_get ps k ≡ Some p → p.seq �
 abbrev pub StandsBefore : Place → Place → Type 0
 StandsBefore p q = p.pos < q.pos
 
--- nothing stands after an End
+-- nothing is after an End
 abbrev pub EndIsLast : List Item → Type 0
 EndIsLast put = (before after : List Item) (kind : Kind) → put ≡ before ++ End kind ∷ after → after ≡ []
 
--- so few samples that a queue may have had them all
+-- few enough samples that a queue may have had them all
 abbrev pub IsFew : List Item → Type 0
 IsFew put = length (places_in put) ≤ 2 ^ 60
 
@@ -35,7 +36,8 @@ pub record IsHistory (epoch shard : ℕ) (put : List Item) : Type 0 where
   pub ending : EndIsLast put
   pub few : IsFew put
 
--- the item may be put next: a sample of this queue, with the next number and a later position, by which the samples are not too many; or a Flush
+-- the item may be put next: a sample of this queue, with the next number and a later position, by
+-- which the samples are not too many; or a Flush
 abbrev pub MayFollow : ℕ → ℕ → List Item → Item → Type 0
 MayFollow epoch shard put (Sample p t w labels) =
     (p.epoch ≡ epoch) × (p.shard ≡ shard) × (p.seq ≡ length (places_in put)) × IsFew (put ++ Sample p t w labels ∷ [])

@@ -5,7 +5,7 @@ use Rattle.rw_types.specs.declared.place.Place.{Place}
 use Rattle.rw_plain_queue.specs.declared.item.Item.{Item}
 use Rattle.rw_plain_queue.specs.declared.item.Item.TheVariants.{Sample, Flush, End}
 
--- a sample that was put: where it stands, its time, its value and the labels of its series
+-- a sample that was put: where it is, its time, its value and the labels of its series
 pub record Placed : Type 0 where
   pub place : Place
   pub t : ℤ

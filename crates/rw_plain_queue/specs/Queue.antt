@@ -23,7 +23,7 @@ abbrev pub front : List Item → Option Item
 front [] = None
 front (x ∷ xs) = Some x
 
--- what is taken next: the front, and nothing out of a killed queue
+-- what is taken next: the front, or nothing from a killed queue
 abbrev pub next_item : Queue → Option Item
 next_item q = if q.killed then None else front q.items
 

@@ -10,14 +10,15 @@ pub enum Kind {
     Orderly,
     /// The number of shards changes.
     Reshard,
-    /// The sender stops at once, and leaves what is not sent.
+    /// The sender stops at once, and abandons what is not sent.
     Hard,
 }
 
 /// An item of the queue of a shard: a sample on its way to the receiver, or a mark.
 #[derive(Debug, Drop)]
 pub enum Item {
-    /// A sample: its place, its time in milliseconds since the Unix epoch, its value, and the labels of its series.
+    /// A sample: its place, its time in milliseconds since the Unix epoch, its value, and the
+    /// labels of its series.
     Sample(Place, i64, Word, Arc<LabelSet>),
     /// A mark: the samples before it are to be sent without waiting for more.
     Flush,

@@ -33,8 +33,8 @@ impl fmt::Display for PutFault {
 
 impl Error for PutFault {}
 
-/// The queue of a shard within one thread. It takes no memory after it was made. Contracts see the items that were taken, those that it holds,
-/// and so those that were put.
+/// The queue of a shard within one thread. It takes no memory after it was made. Contracts see the
+/// items that were taken and those that it holds, and so those that were put.
 #[derive(Drop)]
 pub struct PlainQueue {
     items: VecDeque<Item>,
@@ -64,7 +64,7 @@ impl Model for PlainQueue {
 }
 
 impl PlainQueue {
-    /// An empty queue that holds at most `capacity` items, marks included.
+    /// Returns an empty queue that holds at most `capacity` items, marks included.
     pub fn new(alloc: Global, capacity: usize) -> Result<PlainQueue, AllocError>
         ensures { IfOk result
             (λ q. q ≡ record {
@@ -84,7 +84,7 @@ impl PlainQueue {
         })
     }
 
-    /// Why an item cannot be put now; `None` where it can.
+    /// Returns why an item cannot be put now, or `None` if it can.
     pub fn refusal(&self) -> Option<PutFault>
         ensures { result ≡ refusal self.now }
     {
@@ -114,7 +114,7 @@ impl PlainQueue {
         Ok(())
     }
 
-    /// Takes the item at the front; `None` where the queue is empty or was killed.
+    /// Takes the item at the front, or returns `None` if the queue is empty or was killed.
     pub fn take(&mut self) -> Option<Item>
         ensures item { result ≡ next_item self.old }
         ensures rest { self.new ≡ after_take self.old }
@@ -146,14 +146,14 @@ impl PlainQueue {
         self.killed = true;
     }
 
-    /// The items that the queue holds, the front first.
+    /// Returns the items that the queue holds, from front to back.
     pub fn iter(&self) -> Iter<'_, Item>
         ensures { deque_iter_rest result ≡ self.now.items }
     {
         self.items.iter()
     }
 
-    /// How many items the queue holds, marks included.
+    /// Returns how many items the queue holds, marks included.
     pub fn len(&self) -> usize
         ensures len { result ≡ length self.now.items }
         ensures within { result ≤ self.now.capacity }
@@ -161,7 +161,7 @@ impl PlainQueue {
         self.items.len()
     }
 
-    /// Whether the queue holds no item.
+    /// Returns whether the queue holds no item.
     pub fn is_empty(&self) -> bool
         ensures { IsTrue result ↔ (self.now.items ≡ []) }
     {

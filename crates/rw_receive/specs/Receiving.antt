@@ -29,7 +29,7 @@ pub record HasReceived (opening : State) (count : ℕ) (store : Store) : Type 0 
   pub gathered : HasGathered opening seats store
   pub rises : EachRises store
 
--- a new head with these limits has received so
+-- a new head with these limits has received these
 abbrev pub IsReceived : Limits → ℕ → Store → Type 0
 IsReceived limits count store = (opening : State) × IsNew limits opening × HasReceived opening count store
 

@@ -1,11 +1,11 @@
-//! Connections, each served in a thread of its own.
+//! Connections, each served in its own thread.
 
 ghost use Rattle.std.specs.Prelude.{◌≡◌, ◌+◌, ◌<◌, ◌⊎◌, IfOk, IfErr, vec_len};
 ghost use Rattle.rw_receive.specs.Receiving.{HasReceived};
 ghost use Rattle.rw_text.specs.declared.tool_fault.ToolFault.TheVariants.{OutOfMemory, Device};
 
 use crate::final_head::FinalHead;
-use crate::serving::{Post, served};
+use crate::serving::{ServerContext, serve_connection};
 use rw_head::Head;
 use rw_recv_head::{Blank, Naming, Seat, SharedHead};
 use rw_text::ToolFault;
@@ -16,8 +16,8 @@ use std::thread;
 use std::thread::{JoinHandle, Scope, Threads};
 use std::time::Clock;
 
-/// The next connection.
-fn accepted(listener: &TcpListener) -> Result<TcpStream, ToolFault>
+/// Accepts the next connection.
+fn accept(listener: &TcpListener) -> Result<TcpStream, ToolFault>
     ensures { IfErr result (λ e. e ≡ Device) }
 {
     match listener.accept() {
@@ -27,17 +27,17 @@ fn accepted(listener: &TcpListener) -> Result<TcpStream, ToolFault>
 }
 
 /// Begins to serve a connection in a thread of the scope.
-fn begun<'s, E, L: Naming + Send + Sync + 's, R: Wait + Clock + Sync>(
+fn spawn_connection<'s, E, L: Naming + Send + Sync + 's, R: Wait + Clock + Sync>(
     scope: &Scope<'s, E>,
     rt: &'s R,
-    post: &'s Post<'s>,
+    context: &'s ServerContext<'s>,
     shared: &'s SharedHead<L>,
     stream: TcpStream,
     seat: Seat<L>,
 ) -> Result<JoinHandle<Seat<L>>, ToolFault>
     ensures { IfErr result (λ e. e ≡ OutOfMemory) }
 {
-    match scope.spawn(move || served(rt, post, shared, stream, seat)) {
+    match scope.spawn(move || serve_connection(rt, context, shared, stream, seat)) {
         Ok(handle) => Ok(handle),
         Err(_) => Err(ToolFault::OutOfMemory),
     }
@@ -48,22 +48,22 @@ fn start_each<'s, E, L: Naming + Send + Sync + 's, R: Wait + Clock + Sync>(
     scope: &Scope<'s, E>,
     rt: &'s R,
     listener: &TcpListener,
-    post: &'s Post<'s>,
+    context: &'s ServerContext<'s>,
     shared: &'s SharedHead<L>,
     seats: Vec<Seat<L>>,
 ) -> Result<Vec<JoinHandle<Seat<L>>>, ToolFault>
     ensures all { IfOk result (λ handles. vec_len handles ≡ vec_len seats) }
     ensures faults { IfErr result (λ e. (e ≡ OutOfMemory) ⊎ (e ≡ Device)) }
 {
-    let mut handles = Vec::with_capacity(post.alloc, seats.len())?;
+    let mut handles = Vec::with_capacity(context.alloc, seats.len())?;
     for seat in seats {
-        let stream = accepted(listener)?;
-        handles.push_reserved(begun(scope, rt, post, shared, stream, seat)?);
+        let stream = accept(listener)?;
+        handles.push_reserved(spawn_connection(scope, rt, context, shared, stream, seat)?);
     }
     Ok(handles)
 }
 
-/// Waits for the threads, and gives their seats back.
+/// Waits for the threads, and returns their seats.
 fn join_each<L: Naming, R: Threads>(
     rt: &R,
     alloc: Global,
@@ -78,12 +78,13 @@ fn join_each<L: Naming, R: Threads>(
     Ok(seats)
 }
 
-/// Serves one connection from each seat, each in a thread of its own, and gives the seats back. Nobody is listened to once the last one
-/// has come, or none can be served any more: whoever comes then is refused at once, and does not wait for those in work.
+/// Serves one connection from each seat, each in its own thread, and returns the seats. The
+/// listener is closed once the last connection has come, or none can be served any more: whoever
+/// comes then is refused at once, and does not wait for those being served.
 fn serve_each<L: Naming + Send + Sync, R: Threads + Wait + Clock + Sync>(
     rt: &R,
     listener: TcpListener,
-    post: &Post<'_>,
+    context: &ServerContext<'_>,
     shared: &SharedHead<L>,
     seats: Vec<Seat<L>>,
 ) -> Result<Vec<Seat<L>>, ToolFault>
@@ -97,17 +98,17 @@ fn serve_each<L: Naming + Send + Sync, R: Threads + Wait + Clock + Sync>(
             ensures { IfOk result (λ back. vec_len back ≡ vec_len seats)
                 × IfErr result (λ e. (e ≡ OutOfMemory) ⊎ (e ≡ Device)) }
         {
-            let started = start_each(scope, rt, &listener, post, shared, seats);
+            let started = start_each(scope, rt, &listener, context, shared, seats);
             drop(listener);
-            Ok(join_each(rt, post.alloc, started?)?)
+            Ok(join_each(rt, context.alloc, started?)?)
         },
     )
 }
 
-/// Serves so many connections over one head. Gives the head that they leave.
+/// Serves `connections` connections over one head. Returns the head that they leave.
 pub(crate) fn receive_all<L: Naming + Send + Sync, R: Threads + Wait + Clock + Sync>(
     rt: &R,
-    post: &Post<'_>,
+    context: &ServerContext<'_>,
     blank: Blank,
     head: Head,
     connections: usize,
@@ -121,9 +122,9 @@ pub(crate) fn receive_all<L: Naming + Send + Sync, R: Threads + Wait + Clock + S
     ensures received { IfOk result (λ head. HasReceived L.opening connections head.store) }
     ensures faults { IfErr result (λ e. (e ≡ OutOfMemory) ⊎ (e ≡ Device)) }
 {
-    let Ok((shared, seats)) = SharedHead::<L>::seats(post.alloc, blank, head, connections) else {
+    let Ok((shared, seats)) = SharedHead::<L>::seats(context.alloc, blank, head, connections) else {
         return Err(ToolFault::OutOfMemory);
     };
-    let seats = serve_each(rt, listener, post, &shared, seats)?;
+    let seats = serve_each(rt, listener, context, &shared, seats)?;
     Ok(FinalHead::gather(shared, seats))
 }

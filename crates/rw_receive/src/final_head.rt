@@ -17,8 +17,8 @@ use rw_types::{Sink, write_all};
 use std::alloc::Global;
 use std::marker::Model;
 
-/// What a shared head holds once all its seats are back. Only `gather` makes one, so that no other
-/// head is printed. Contracts see the head.
+/// What a shared head holds once all its seats were returned. Only `gather` makes one, so that no
+/// other head is printed. Contracts see the head.
 #[derive(Drop)]
 pub(crate) struct FinalHead {
     head: Head,
@@ -37,8 +37,8 @@ impl Model for FinalHead {
 }
 
 impl FinalHead {
-    /// The head once all seats are back. It holds what it held at first, and what was stored from
-    /// each seat over all its connections.
+    /// Returns the head once all seats were returned. It holds what it held at first, and what was
+    /// stored from each seat over all its connections.
     pub(crate) fn gather<L: Naming>(shared: SharedHead<L>, seats: Vec<Seat<L>>) -> FinalHead
         requires { vec_len seats ≡ shared.seats }
         ensures gathered { HasGathered L.opening seats.items result.store }

@@ -2,18 +2,18 @@
 //! is printed.
 #![tactic(auto)]
 
-mod busy;
+mod accepting;
+mod closing;
+mod connection;
 mod connections;
-mod counting;
-mod door;
+mod counting_seat;
 mod final_head;
 mod pace;
-mod parting;
-mod patient;
-mod place_request;
-mod places;
 mod receive;
+mod seat_pool;
+mod seat_request;
 mod service;
 mod serving;
+mod timed_stream;
 
 pub use receive::{Service, run_receive, run_receive_until};

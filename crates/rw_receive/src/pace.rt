@@ -4,13 +4,13 @@ ghost use Rattle.std.specs.Prelude.{◌+◌, ◌≤◌, ◌↔◌, IsTrue};
 
 use std::time::{Clock, Instant};
 
-/// For how many milliseconds a client may be behind its rate, or silent, before it can be closed in
-/// favour of one that waits for a place.
+/// How many milliseconds a client may be late, or silent, before it can be closed in favour of one
+/// that waits for a seat.
 pub(crate) const GRACE_MS: u64 = 1_000;
 
 /// Returns whether a request is in time if `len` bytes of it have come and `passed_ms` milliseconds
 /// have passed since its first one. It has `base_ms` milliseconds, and one more for each byte. So a
-/// client that goes on sending 1,000 bytes a second is always in time.
+/// client that keeps sending 1,000 bytes a second is always in time.
 pub(crate) fn is_in_time(base_ms: u64, len: u64, passed_ms: u64) -> bool
     ensures { IsTrue result ↔ (passed_ms ≤ base_ms + len) }
 {
@@ -42,14 +42,14 @@ impl<C: Clock + Copy> Pace<C> {
         self.len = self.len.saturating_add(count as u64);
     }
 
-    /// Returns the milliseconds since the beginning; `None` if the clock cannot be read.
+    /// Returns the milliseconds since the beginning, or `None` if the clock cannot be read.
     fn passed_ms(&self) -> Option<u64> {
         let passed = self.begun?.elapsed(&self.clock).ok()?;
         u64::try_from(passed.as_millis()).ok()
     }
 
-    /// Returns whether it is in time: `base_ms` milliseconds, and one more for each byte. It is not
-    /// if the clock cannot be read.
+    /// Returns whether it is in time: it has `base_ms` milliseconds, and one more for each byte. It
+    /// is not in time if the clock cannot be read.
     pub(crate) fn is_within(&self, base_ms: u64) -> bool {
         match self.passed_ms() {
             Some(passed_ms) => is_in_time(base_ms, self.len, passed_ms),

@@ -5,14 +5,14 @@ ghost use Rattle.rw_receive.specs.Receiving.{WritesHeld, WritesHeldPart};
 ghost use Rattle.rw_text.specs.declared.tool_fault.ToolFault.TheVariants.{OutOfMemory, Device};
 
 use crate::connections::receive_all;
-use crate::place_request::PlaceRequest;
+use crate::seat_request::SeatRequest;
 use crate::service::receive_until;
-use crate::serving::Post;
+use crate::serving::ServerContext;
+use rw_follow::StopSignal;
 use rw_head::Head;
 use rw_metrics::ReceiveCounters;
 use rw_recv_head::Blank;
 use rw_settings::Settings;
-use rw_stop::Sign;
 use rw_text::ToolFault;
 use rw_types::{Bounded, Sink};
 use std::alloc::Global;
@@ -22,32 +22,35 @@ use std::sync::Wait;
 use std::thread::Threads;
 use std::time::Clock;
 
-/// Bounds of a service, and what counts its work.
+/// The bounds of a service, and its counters.
 #[derive(Clone, Copy, Drop)]
 pub struct Service<'a> {
-    /// How many connections are served at once, and one more waits until one of them ends; for
+    /// How many connections are served at once; one more waits until one of them ends. For
     /// `run_receive`, how many are served in all.
     pub most: Bounded<1, 1_000>,
     /// For how many milliseconds a connection may be silent.
     pub idle_ms: Bounded<10, 3_600_000>,
     /// How many milliseconds a request may take, and a reply; one more for each byte of a request.
     pub request_ms: Bounded<10, 3_600_000>,
-    /// They are told of each connection and each answer of the head. Nothing is claimed of them.
+    /// They count each connection and each answer of the head. No clause says anything about them.
     pub counters: &'a ReceiveCounters,
 }
 
-/// Serves `most` connections, each in a thread of its own, over one head that the limits of the settings make, and then prints what the
-/// head holds: for each label set with samples, by byte order of its list of (name, value), `received LABELS` and for each sample
-/// ` T=VALUE`, the line ended by LF. How a connection ends is no fault.
+/// Serves `most` connections, each in its own thread, over one head that the limits of the settings
+/// make, and then prints what the head holds: for each label set with samples, by byte order of its
+/// list of (name, value), `received LABELS` and for each sample ` T=VALUE`, the line ended by LF.
+/// How a connection ends is not a fault.
 ///
-/// A failed accept is `Device`; the connections that were accepted before it are still served to their ends. A thread that cannot be made
-/// counts as refused memory. Waits until so many connections have come and ended. Once the last one has come, or none can be accepted any
-/// more, the listener is closed, so that further clients are refused at once.
+/// A failed accept is `Device`; the connections that were accepted before it are still served to
+/// their ends. A thread that cannot be made counts as out of memory. It waits until all connections
+/// have come and ended. Once the last one has come, or none can be accepted any more, the listener
+/// is closed, so that further clients are refused at once.
 ///
 /// A connection from which no byte comes for `idle_ms` milliseconds is closed, and so is one whose
 /// request is not complete after `request_ms` milliseconds and one more for each byte of it. A
-/// connection is ended by its writing side; what the client still writes is read and forgotten until
-/// it ends its own, for a second at most, so that it sees the last reply.
+/// connection is closed on its writing side first; what the client still writes is read and
+/// discarded until the client closes its own side, for a second at most, so that it sees the last
+/// reply.
 pub fn run_receive<R: Threads + Wait + Clock + Sync, W: Sink>(
     rt: &R,
     alloc: Global,
@@ -63,7 +66,7 @@ pub fn run_receive<R: Threads + Wait + Clock + Sync, W: Sink>(
     ensures faults { IfErr result (λ e. (e ≡ OutOfMemory) ⊎ (e ≡ Device)) }
     ensures memory { result ≡ Err OutOfMemory → writer.new ≡ writer.old }
 
-    // A failed accept has written nothing. Where the writer fails, it holds a beginning of the text.
+    // A failed accept has written nothing. If the writer fails, it holds a prefix of the text.
     ensures device { result ≡ Err Device → (writer.new ≡ writer.old)
         ⊎ ((W.has_failed writer.new ≡ true)
         × WritesHeldPart settings.now.limits service.entry.most
@@ -72,39 +75,42 @@ pub fn run_receive<R: Threads + Wait + Clock + Sync, W: Sink>(
     let count = service.most.get();
     let blank = Blank::new(alloc, count + 1)?;
     let head = Head::new(alloc, &settings.limits);
-    let never = Sign::new();
-    let place_request = PlaceRequest::new();
-    let post = Post {
+    let never = StopSignal::new();
+    let seat_request = SeatRequest::new();
+    let context = ServerContext {
         alloc,
         limits: &settings.limits,
-        sign: &never,
+        signal: &never,
         idle_ms: service.idle_ms,
         request_ms: service.request_ms,
-        place_request: &place_request,
+        seat_request: &seat_request,
         counters: service.counters,
     };
-    let head = receive_all::<Brand, R>(rt, &post, blank, head, count as usize, listener)?;
+    let head = receive_all::<Brand, R>(rt, &context, blank, head, count as usize, listener)?;
     head.print(alloc, writer)
 }
 
-/// Serves any number of connections over one head until the sign is set, and then prints what the head holds, as `run_receive` does. A seat is used again
-/// once its connection has ended. Each connection has a thread; where none can be made, it is served before the next one is accepted.
+/// Serves any number of connections over one head until a stop is requested, and then prints what
+/// the head holds, as `run_receive` does. A seat is used again once its connection has ended. Each
+/// connection has a thread; if none can be made, it is served before the next one is accepted.
 ///
-/// Once an end is wished, the listener is closed. A connection that is in a request finishes it, and each other one is closed; once an end at once is
-/// wished, each is. The sign is looked at five times a second.
+/// Once a stop is requested, the listener is closed. A connection that is in a request finishes it,
+/// and each other one is closed; once an end at once is requested, all connections are closed. The
+/// stop signal is looked at five times a second.
 ///
 /// A connection from which no byte comes for `idle_ms` milliseconds is closed, and so is one whose
-/// request is not complete after `request_ms` milliseconds and one more for each byte of it: nothing
-/// of that request is taken. If all places are taken and a client waits for one, a connection is
-/// closed that has been silent for a second, or whose request is more than a second behind 1,000
-/// bytes a second. An accept that fails is made again, after a nap where it
-/// failed for want of something, as of descriptors. A listener whose accepts cannot be given a time is `Device`.
+/// request is not complete after `request_ms` milliseconds and one more for each byte of it:
+/// nothing of that request is taken. If all seats are taken and a client waits for one, a
+/// connection is closed that has been silent for a second, or whose request is more than a second
+/// late at 1,000 bytes a second. An accept that fails is repeated, after a sleep if it failed
+/// because something ran out, such as descriptors. A listener whose accepts cannot be given a
+/// timeout is `Device`.
 pub fn run_receive_until<R: Threads + Wait + Clock + Sync, W: Sink>(
     rt: &R,
     alloc: Global,
     settings: &Settings,
     service: Service<'_>,
-    sign: &Sign,
+    signal: &StopSignal,
     listener: TcpListener,
     writer: &mut W,
 ) -> Result<(), ToolFault>
@@ -115,7 +121,8 @@ pub fn run_receive_until<R: Threads + Wait + Clock + Sync, W: Sink>(
     ensures faults { IfErr result (λ e. (e ≡ OutOfMemory) ⊎ (e ≡ Device)) }
     ensures memory { result ≡ Err OutOfMemory → writer.new ≡ writer.old }
 
-    // A listener that cannot be set has written nothing. Where the writer fails, it holds a beginning of the text.
+    // A listener that cannot be set has written nothing. If the writer fails, it holds a prefix of
+    // the text.
     ensures device { result ≡ Err Device → (writer.new ≡ writer.old)
         ⊎ ((W.has_failed writer.new ≡ true)
         × WritesHeldPart settings.now.limits service.entry.most
@@ -124,16 +131,16 @@ pub fn run_receive_until<R: Threads + Wait + Clock + Sync, W: Sink>(
     let most = service.most.get();
     let blank = Blank::new(alloc, most + 1)?;
     let head = Head::new(alloc, &settings.limits);
-    let place_request = PlaceRequest::new();
-    let post = Post {
+    let seat_request = SeatRequest::new();
+    let context = ServerContext {
         alloc,
         limits: &settings.limits,
-        sign,
+        signal,
         idle_ms: service.idle_ms,
         request_ms: service.request_ms,
-        place_request: &place_request,
+        seat_request: &seat_request,
         counters: service.counters,
     };
-    let head = receive_until::<Brand, R>(rt, &post, blank, head, most as usize, listener)?;
+    let head = receive_until::<Brand, R>(rt, &context, blank, head, most as usize, listener)?;
     head.print(alloc, writer)
 }

@@ -1,13 +1,13 @@
-//! Connections that are served until a sign is set.
+//! Connections that are served until a stop is requested.
 
 ghost use Rattle.std.specs.Prelude.{◌≡◌, ◌+◌, ◌<◌, ◌⊎◌, IfOk, IfErr, vec_len};
 ghost use Rattle.rw_receive.specs.Receiving.{HasReceived};
 ghost use Rattle.rw_text.specs.declared.tool_fault.ToolFault.TheVariants.{OutOfMemory, Device};
 
-use crate::door::accept_in_ticks;
+use crate::accepting::accept_in_ticks;
 use crate::final_head::FinalHead;
-use crate::places::{Places, serve_on};
-use crate::serving::Post;
+use crate::seat_pool::{SeatPool, serve_until_stopped};
+use crate::serving::ServerContext;
 use rw_head::Head;
 use rw_recv_head::{Blank, Naming, Seat, SharedHead};
 use rw_text::ToolFault;
@@ -18,11 +18,12 @@ use std::thread;
 use std::thread::Threads;
 use std::time::Clock;
 
-/// Serves from all seats until the sign is set, waits for those in work, and gives the seats back. Nobody is listened to from then on.
+/// Serves from all seats until a stop is requested, waits for the connections being served, and
+/// returns the seats. The listener is closed first.
 fn serve_until<L: Naming + Send + Sync, R: Threads + Wait + Clock + Sync>(
     rt: &R,
     listener: TcpListener,
-    post: &Post<'_>,
+    context: &ServerContext<'_>,
     shared: &SharedHead<L>,
     seats: Vec<Seat<L>>,
 ) -> Result<Vec<Seat<L>>, AllocError>
@@ -34,18 +35,19 @@ fn serve_until<L: Naming + Send + Sync, R: Threads + Wait + Clock + Sync>(
         move |scope| -> Result<Vec<Seat<L>>, AllocError>
             ensures { IfOk result (λ back. vec_len back ≡ vec_len seats) }
         {
-            let mut places = Places::new(post.alloc, seats)?;
-            serve_on(&mut places, scope, rt, &listener, post, shared);
+            let mut pool = SeatPool::new(context.alloc, seats)?;
+            serve_until_stopped(&mut pool, scope, rt, &listener, context, shared);
             drop(listener);
-            Ok(places.into_seats(rt))
+            Ok(pool.into_seats(rt))
         },
     )
 }
 
-/// Serves at most so many connections at once over one head, until the sign is set. Gives the head that they leave.
+/// Serves at most `most` connections at once over one head, until a stop is requested. Returns the
+/// head that they leave.
 pub(crate) fn receive_until<L: Naming + Send + Sync, R: Threads + Wait + Clock + Sync>(
     rt: &R,
-    post: &Post<'_>,
+    context: &ServerContext<'_>,
     blank: Blank,
     head: Head,
     most: usize,
@@ -62,9 +64,9 @@ pub(crate) fn receive_until<L: Naming + Send + Sync, R: Threads + Wait + Clock +
     if accept_in_ticks(&listener).is_err() {
         return Err(ToolFault::Device);
     }
-    let Ok((shared, seats)) = SharedHead::<L>::seats(post.alloc, blank, head, most) else {
+    let Ok((shared, seats)) = SharedHead::<L>::seats(context.alloc, blank, head, most) else {
         return Err(ToolFault::OutOfMemory);
     };
-    let seats = serve_until(rt, listener, post, &shared, seats)?;
+    let seats = serve_until(rt, listener, context, &shared, seats)?;
     Ok(FinalHead::gather(shared, seats))
 }

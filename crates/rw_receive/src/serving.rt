@@ -1,14 +1,14 @@
 //! One connection, served to its end.
 
-use crate::counting::Counting;
-use crate::parting::part;
-use crate::patient::{Patient, Stage};
-use crate::place_request::PlaceRequest;
+use crate::closing::close_gracefully;
+use crate::counting_seat::CountingSeat;
+use crate::seat_request::SeatRequest;
+use crate::timed_stream::{Stage, TimedStream};
 use rw_endpoint::serve;
+use rw_follow::StopSignal;
 use rw_head::Limits;
 use rw_metrics::ReceiveCounters;
 use rw_recv_head::{Naming, Seat, SharedHead};
-use rw_stop::Sign;
 use rw_types::{Bounded, Std};
 use std::alloc::Global;
 use std::cell::Cell;
@@ -16,70 +16,71 @@ use std::net::TcpStream;
 use std::sync::Wait;
 use std::time::Clock;
 
-/// What all connections have in common.
+/// What all connections of a service share.
 #[derive(Clone, Copy, Drop)]
-pub struct Post<'a> {
+pub struct ServerContext<'a> {
     /// Where memory is taken for a connection.
     pub alloc: Global,
-    /// Those of the head.
+    /// The limits of the head.
     pub limits: &'a Limits,
     /// Once it is set, connections end.
-    pub sign: &'a Sign,
+    pub signal: &'a StopSignal,
     /// For how many milliseconds a connection may be silent.
     pub idle_ms: Bounded<10, 3_600_000>,
     /// How many milliseconds a request may take, and a reply; one more for each byte of a request.
     pub request_ms: Bounded<10, 3_600_000>,
-    /// Made while a client waits for a place. Nothing is claimed of it.
-    pub place_request: &'a PlaceRequest,
-    /// They are told of each connection and each answer of the head. Nothing is claimed of them.
+    /// Made while a client waits for a seat. No clause says anything about it.
+    pub seat_request: &'a SeatRequest,
+    /// They count each connection and each answer of the head. No clause says anything about them.
     pub counters: &'a ReceiveCounters,
 }
 
-/// Serves a connection to its end, however it ends, parts from the client, and gives the seat back. It is counted as long.
-pub fn served<L: Naming, R: Wait + Clock>(
+/// Serves a connection until it closes, shuts it down gracefully and returns its seat. The
+/// connection is counted as open meanwhile.
+pub fn serve_connection<L: Naming, R: Wait + Clock>(
     rt: &R,
-    post: &Post<'_>,
+    context: &ServerContext<'_>,
     shared: &SharedHead<L>,
     stream: TcpStream,
     seat: Seat<L>,
 ) -> Seat<L> {
-    post.counters.begin_connection();
-    let seat = served_to_end(rt, post, shared, stream, seat);
-    post.counters.end_connection();
+    context.counters.begin_connection();
+    let seat = serve_to_end(rt, context, shared, stream, seat);
+    context.counters.end_connection();
     seat
 }
 
-/// Serves a connection to its end, and gives its seat back. It is not counted here. A connection
-/// that took too long is closed at once: its client is not waited for.
-fn served_to_end<L: Naming, R: Wait + Clock>(
+/// Serves a connection until it closes, and returns its seat. It is not counted here. A connection
+/// that took too long is closed at once, without waiting for its client.
+fn serve_to_end<L: Naming, R: Wait + Clock>(
     rt: &R,
-    post: &Post<'_>,
+    context: &ServerContext<'_>,
     shared: &SharedHead<L>,
     stream: TcpStream,
     seat: Seat<L>,
 ) -> Seat<L> {
     let mut seat = seat;
     let stage = Cell::new(Stage::new(rt));
-    let Ok(patient) = Patient::new(&stream, post, &stage, rt) else {
+    let Ok(timed) = TimedStream::new(&stream, context, &stage, rt) else {
         return seat;
     };
-    let mut reader = Std::new(patient);
-    let mut writer = Std::new(patient);
-    let mut asking = Counting {
+    let mut reader = Std::new(timed);
+    let mut writer = Std::new(timed);
+    let mut asking = CountingSeat {
         rt,
         shared,
         seat: &mut seat,
-        counters: post.counters,
+        counters: context.counters,
     };
     serve(
-        post.alloc,
+        context.alloc,
         &mut reader,
         &mut writer,
         &mut asking,
-        post.limits,
+        context.limits,
     );
-    if !patient.is_cut() {
-        part(rt, &stream);
+    if !timed.is_cut() {
+        close_gracefully(rt, &stream);
     }
     seat
 }

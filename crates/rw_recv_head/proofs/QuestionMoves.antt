@@ -18,7 +18,7 @@ use Rattle.rw_recv_head.specs.Questions.{nothing_known, keeper, host, sitter, gu
 off : false ≡ true → ⊥
 off e = true≢false (sym e)
 
--- ---- what holds of each view, where one is set or is new
+-- ---- what holds of each view, if one is set or is new
 all_set : (P : ℕ → View → Type 0) (views : List View) (by : ℕ) (w : View)
     → ((j : ℕ) (u : View) → j ≢ by → get_elem? views j ≡ some u → P j u) → P by w
     → (j : ℕ) (u : View) → get_elem? (set views by w) j ≡ some u → P j u
@@ -57,7 +57,7 @@ module _ (place : ℕ) (known : Known) (at : ℕ → ℕ) where
       → Fits place known at k (host other number seen)
   host_fits other k number seen there same here seat = record { keeps = λ _. (there, same); sits = λ _. (here, seat) }
 
-  -- where another number moves, a pass stays as it is
+  -- if another number moves, a pass stays as it is
   still : (j n to : ℕ) (u : View) → Fits place known at j u → (u.sits ≡ true → u.number ≢ n) → Fits place known (moved at n to) j u
   still j n to u f apart = record {
     keeps = f.keeps;
@@ -70,7 +70,7 @@ module _ (place : ℕ) (known : Known) (at : ℕ → ℕ) where
   elsewhere : (by n j : ℕ) (u : View) → by ≡ at n → j ≢ by → Fits place known at j u → u.sits ≡ true → u.number ≢ n
   elsewhere by n j u here ne f e same = ne ((f.sits e).0 ∙ ap at same ∙ sym here)
 
-  -- where more is known, and the pass neither keeps it nor sits with a number for which that counts
+  -- if more is known, and the pass neither keeps it nor sits with a number for which that counts
   with_more : (now : Known) (j by : ℕ) (u : View) → by ≡ place → j ≢ by → Fits place known at j u
       → (u.sits ≡ true → IsSeat known u.number u.seen → IsSeat now u.number u.seen) → Fits place now at j u
   with_more now j by u here ne f seat = record {

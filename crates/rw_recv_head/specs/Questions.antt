@@ -42,11 +42,11 @@ keeper known = record { knows = true; known = known; sits = false; number = 0; s
 abbrev pub host : Known → ℕ → List Question → View
 host known number seen = record { knows = true; known = known; sits = true; number = number; seen = seen }
 
--- that of a seat
+-- the pass of a seat
 abbrev pub sitter : ℕ → List Question → View
 sitter number seen = record { knows = false; known = nothing_known; sits = true; number = number; seen = seen }
 
--- one that stands for no seat
+-- a pass that belongs to no seat
 abbrev pub guest : View
 guest = record { knows = false; known = nothing_known; sits = false; number = 0; seen = [] }
 
@@ -54,31 +54,33 @@ guest = record { knows = false; known = nothing_known; sits = false; number = 0;
 abbrev pub with_seat : View → View → View
 with_seat v w = record { knows = v.knows; known = v.known; sits = w.sits; number = w.number; seen = w.seen }
 
--- a seat that has such a number and has seen these questions is one that was given and is not back: it has seen the first ones, and all of its own
+-- a seat that has such a number and has seen these questions is one that was given and is not back:
+-- it has seen a prefix of all, with all of its own
 pub record IsSeat (known : Known) (number : ℕ) (seen : List Question) : Type 0 where
   pub given : number < known.given
   pub away : list_any (eqb number) known.back ≡ false
   pub begins : Begins seen known.asked
   pub alone : own number known.asked ≡ own number seen
 
--- what the rule says of one pass: who knows all is in one place, and who sits is in that of its number
+-- what the rule says of one pass: the one that knows all is in one place, and one that speaks for a
+-- seat is in that of its number
 pub record Fits (place : ℕ) (known : Known) (at : ℕ → ℕ) (k : ℕ) (v : View) : Type 0 where
   pub keeps : v.knows ≡ true → (k ≡ place) × (v.known ≡ known)
   pub sits : v.sits ≡ true → (k ≡ at v.number) × IsSeat known v.number v.seen
 
--- one pass at most knows all, and no two sit with one number
+-- at most one pass knows all, and no two speak for seats with one number
 pub record AreKept (s : State Question View) : Type 0 where
   pub place : ℕ
   pub known : Known
   pub at : ℕ → ℕ
   pub fits : (k : ℕ) (v : View) → get_elem? s.views k ≡ some v → Fits place known at k v
 
--- the question that the step tells is added, and seen
+-- the question of the step is added, and seen
 abbrev pub Added : Step Question → Me Question View → ℕ → Me Question View → Type 0
 Added s v found w = (q : Question) → s.said ≡ some q
     → (w ≡ (host (record v.0.known { asked = v.0.known.asked ++ q ∷ [] }) v.0.number (v.0.known.asked ++ q ∷ []), v.1))
     × IsSeat v.0.known v.0.number v.0.seen
 
--- the seat is back
+-- the seat was returned
 abbrev pub Returned : Step Question → Me Question View → ℕ → Me Question View → Type 0
 Returned s v found w = (w ≡ (keeper (record v.0.known { back = v.0.number ∷ v.0.known.back }), v.1)) × IsSeat v.0.known v.0.number v.0.seen

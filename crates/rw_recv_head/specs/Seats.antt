@@ -1,4 +1,5 @@
--- What a request through a seat does: to what the head holds, and to what the seat has stored and seen.
+-- What a request through a seat does: to what the head holds, and to what the seat has stored and
+-- seen.
 use Rattle.std.specs.Prelude.{◌≡◌, ◌≢◌, ℕ, ◌+◌, ◌^◌, ◌-◌, ◌<◌, ◌≤◌, ◌==◌, if◌then◌else◌, List, [], ◌∷◌, ◌++◌, filter, Some, slice_get, Ok, true}
 use Rattle.atomic_table.specs.Seated.{TableId}
 use Rattle.rw_types.specs.Beginnings.{Begins}
@@ -17,11 +18,11 @@ abbrev pub store_after : State → List (List ℕ) → Store
 store_after head [] = head.store
 store_after head (body ∷ bodies) = store_after (record head { store = (judged_body head (read body)).store }) bodies
 
--- that head, while it is busy for so many more requests
+-- that head, while it is busy for this many more requests
 abbrev pub head_after : State → List (List ℕ) → ℕ → State
 head_after head bodies busy = record head { store = store_after head bodies; busy = busy }
 
--- the body, where the head takes it: where it answers 204
+-- the body, if the head takes it: if it answers 204
 abbrev pub taken_of : ℕ → List ℕ → List (List ℕ)
 taken_of status body = if status == 204 then body ∷ [] else []
 
@@ -34,7 +35,8 @@ bodies_of (q ∷ later) = taken_of q.status q.body ++ bodies_of later
 abbrev pub own : ℕ → List Question → List Question
 own seat qs = filter (λ (q : Question). q.seat == seat) qs
 
--- the number of a seat, how many samples the requests from it stored, and what the head had been asked from all seats when this one asked last
+-- the number of a seat, how many samples the requests from it stored, and what the head had been
+-- asked from all seats when this one asked last
 pub record Seated : Type 0 where
   pub number : ℕ
   pub stored : ℕ
@@ -44,8 +46,10 @@ pub record Seated : Type 0 where
 abbrev pub HasStored : List ℕ → ℕ → ℕ → Type 0
 HasStored body old new = (m : WriteRequest) × (read body ≡ Ok m) × (new ≤ old + sample_count m)
 
--- A seat of the head that was `opening` asked. The head had been asked `before` then: first what the seat knew, and since then by other seats alone. It answered as it does that holds what it took of these.
--- This question is the next one. Where it is answered 204 the head takes its body, and else nothing. Memory is refused to messages alone, by a head that is not busy.
+-- A seat of the head that was `opening` asked. The head had been asked `before` then: first what
+-- the seat knew, and since then by other seats alone. It answered as a head does that holds what it
+-- took of these. This question is the next one. If it is answered 204 the head takes its body, and
+-- otherwise nothing. Memory runs out only for messages, in a head that is not busy.
 pub record HasAsked (opening : State) (old : Seated) (body : List ℕ) (status : ℕ) (new : Seated) : Type 0 where
   pub before : List Question
   pub busy : ℕ
@@ -63,8 +67,9 @@ pub record HasAsked (opening : State) (old : Seated) (body : List ℕ) (status :
   pub nothing : status ≢ 204 → new.stored ≡ old.stored
   pub counted : total (store_after opening (bodies_of new.asked)) + old.stored ≡ total (store_after opening (bodies_of before)) + new.stored
 
--- What a head holds once all seats are back: what it takes of all that it was asked, in one order. Each seat knew the first of these questions, and all of its own;
--- and each question is one of these seats, which have numbers of their own.
+-- What a head holds once all seats were returned: what it takes of all that it was asked, in one
+-- order. Each seat knew the first of these questions, and all of its own; and each question is of
+-- one of these seats, which have different numbers.
 pub record HasGathered (opening : State) (seats : List Seated) (store : Store) : Type 0 where
   pub asked : List Question
   pub holds : store ≡ store_after opening (bodies_of asked)
@@ -99,13 +104,14 @@ pub record Unused : Type 0 where
   pub parts : ℕ
   pub table : HeadTable
 
--- what stands under the lock
+-- what is under the lock
 pub record Held : Type 0 where
   pub head : State
   pub questions : Known
 
--- What the lock keeps: the head has taken what it takes of these questions, each of which is of a seat that was given; the timestamps of each of its lists rise;
--- and the ledger has `all` parts, one for each seat and one here, with what could still be stored.
+-- What the lock keeps: the head has taken what it takes of these questions, each of which is of a
+-- seat that was given; the timestamps of each of its lists rise; and the ledger has `all` parts,
+-- one for each seat and one here, with what could still be stored.
 pub record IsKept (opening : State) (all : ℕ) (held : Held) (parts rest : ℕ) : Type 0 where
   pub rises : EachRises held.head.store
   pub holds : held.head.store ≡ store_after opening (bodies_of held.questions.asked)

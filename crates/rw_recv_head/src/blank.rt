@@ -1,4 +1,4 @@
-//! What a shared head is made of, beside the head.
+//! What a shared head is made of, beside the head itself.
 
 ghost use Rattle.std.specs.Prelude.{◌≡◌, IfOk};
 ghost use Rattle.rw_head.specs.Capacity.{unlimited};
@@ -11,8 +11,8 @@ use std::alloc::{AllocError, Global};
 use std::marker::Model;
 use std::sync::ledger;
 
-/// A ledger of so many parts, and the table by which seats know what their head was asked, both
-/// unused, with the capacity of the head. Contracts see which they are.
+/// An unused ledger of `parts` parts, and the unused table by which seats know what their head was
+/// asked, with the capacity of the head. Contracts see which they are.
 #[derive(Drop)]
 pub struct Blank {
     ledger: ledger::Blank,
@@ -33,7 +33,7 @@ impl Model for Blank {
 }
 
 impl Blank {
-    /// A new one, of a head without limits. It takes memory for one word.
+    /// Returns a new blank of a head without limits. It takes memory for one word.
     pub fn new(alloc: Global, parts: u64) -> Result<Blank, AllocError>
         ensures parts { IfOk result (λ b. b.parts ≡ parts) }
         ensures unlimited { IfOk result (λ b. b.table.capacity ≡ unlimited) }
@@ -60,7 +60,7 @@ impl Blank {
         self.capacity
     }
 
-    /// The ledger, and no questions under a name.
+    /// Returns the ledger and an empty list of questions, both under a name.
     pub(crate) fn named<L: Naming>(self) -> (ledger::Blank, Questions<L>)
         requires { self.table ≡ L.table }
         ensures name { result.0.name ≡ self.name }

@@ -11,16 +11,17 @@ ghost use Rattle.rw_head.specs.Store.{list_of, HasNoEmptyList};
 ghost use Rattle.rw_head.specs.Growth.{EachRises};
 ghost use Rattle.rw_recv_head.specs.Seats.{store_after, head_after};
 
-/// Law: what a head has taken it keeps. The samples that it holds of a label set after some bodies are a beginning of those that it holds
-/// after these and more.
+/// Law: a head keeps what it has taken. The samples that it holds of a label set after some bodies
+/// are a prefix of those that it holds after these and more.
 pub fn what_is_stored_stays()
     ensures { (head : State) (seen bodies : List (List ℕ)) (l : Labels) → EachRises head.store
         → HasNoEmptyList head.store → Begins seen bodies
         → Begins (list_of (store_after head seen) l) (list_of (store_after head bodies) l) }
 {}
 
-/// Law: 204 means that the samples are held. Each sample of a message that a head answers so stands in the list of its label set, also after
-/// more bodies. So what a seat was told is stored stands in the head that is gathered.
+/// Law: 204 means that the samples are held. Each sample of a message that a head answers so is in
+/// the list of its label set, also after more bodies. So what is reported to a seat as stored is in
+/// the head that is gathered.
 pub fn what_is_answered_204_is_held()
     ensures { (head : State) (before bodies : List (List ℕ)) (busy : ℕ) (body : List ℕ)
         (m : WriteRequest) (i j : ℕ) (s : TimeSeries) (x : Sample) → EachRises head.store

@@ -1,4 +1,4 @@
-//! What the lock keeps.
+//! The value under the lock.
 
 ghost use Rattle.std.specs.Prelude.{◌≡◌, ◌≢◌, ℕ, ◌+◌, ◌<◌, ◌≤◌, [], Some, length, slice_get};
 ghost use Rattle.rw_head.specs.declared.capacity.Admission.TheVariants.{Full};
@@ -16,7 +16,8 @@ use rw_head::{Admission, Capacity, Head};
 use std::marker::Model;
 use std::sync::ledger::{Share, Total};
 
-/// A head, what it was asked, and the rest of its ledger: how many samples could still be stored. Contracts see the head and the questions.
+/// A head, what it was asked, and the rest of its ledger: how many samples could still be stored.
+/// Contracts see the head and the questions.
 #[derive(Drop)]
 pub(crate) struct Locked<L: Naming> {
     head: Head,
@@ -45,7 +46,8 @@ impl<L: Naming> Model for Locked<L> {
 }
 
 impl<L: Naming> Locked<L> {
-    /// A head that was asked nothing yet, with what could still be stored, and its capacity.
+    /// Returns a head that was not asked anything yet, with the number of samples that could still
+    /// be stored, and with its capacity.
     pub(crate) fn new(
         head: Head,
         questions: Questions<L>,
@@ -70,7 +72,7 @@ impl<L: Naming> Locked<L> {
         }
     }
 
-    /// The head, what it was asked, and what could still be stored.
+    /// Returns the head, what it was asked, and the number of samples that could still be stored.
     pub(crate) fn into_parts(self) -> (Head, Questions<L>, Share<L>)
         ensures head { result.0 ≡ self.head }
         ensures questions { result.1 ≡ self.questions }
@@ -88,8 +90,8 @@ impl<L: Naming> Locked<L> {
         (self.head, self.questions, self.rest)
     }
 
-    /// Asks the head, notes the question, and moves as many samples as the head stored from the rest to the seat, which then has seen all
-    /// questions.
+    /// Asks the head, notes the question, and moves as many samples as the head stored from the
+    /// rest to the seat, which then has seen all questions.
     pub(crate) fn answer(&mut self, all: &Total<L>, seat: &mut Seat<L>, body: &[u8]) -> Admission
         requires fits { all.now.amount ≤ most }
         ensures status { told result ≢ 503
@@ -112,7 +114,7 @@ impl<L: Naming> Locked<L> {
         admission
     }
 
-    /// Of how many label sets the head has samples.
+    /// Returns of how many label sets the head has samples.
     pub(crate) fn label_sets(&self) -> usize
         ensures { result ≡ length (label_sets (store_after L.opening
             (bodies_of self.now.questions.asked))) }

@@ -1,4 +1,5 @@
-//! What a head was asked, as its lock and each seat know it. All of it is for contracts: no question is kept.
+//! What a head was asked, as its lock and each seat know it. All of it is for contracts: no
+//! question is kept.
 
 ghost use Rattle.std.specs.Prelude.{◌≡◌, ◌+◌, ◌++◌, [], ◌∷◌};
 ghost use Rattle.rw_recv_head.specs.Questions.{nothing_known, IsSeat};
@@ -16,13 +17,14 @@ use std::mem;
 pub struct Known {
     /// All questions, in the order in which they were answered.
     pub asked: LinkedList<Question>,
-    /// How many seats there are: these are their numbers, from 0 on.
+    /// How many seats there are; their numbers count from 0.
     pub given: u64,
-    /// The numbers of those that are back.
+    /// The numbers of those that were returned.
     pub back: LinkedList<u64>,
 }
 
-/// What a pass knows: the one under the lock all, that of a seat its number and the first questions. No value of it is made.
+/// What a pass knows: the pass under the lock knows all questions, that of a seat knows its number
+/// and the first questions. No value of it is made.
 pub struct View {
     pub knows: bool,
     pub known: Known,
@@ -31,7 +33,8 @@ pub struct View {
     pub seen: LinkedList<Question>,
 }
 
-/// One pass keeps all questions, each seat has a number of its own, and what it has seen begins them, with all of its own.
+/// One pass keeps all questions. Each seat has its own number, and the questions that it has seen
+/// are a prefix of all, with all of its own.
 pub struct Law;
 
 impl TableRule<Question, View, ()> for Law {
@@ -51,7 +54,7 @@ impl Play<Question, View> for Adds {
     ghost then = { Added };
 }
 
-/// A step that notes that this seat is back.
+/// A step that notes that this seat was returned.
 struct Returns;
 
 impl Play<Question, View> for Returns {
@@ -60,7 +63,7 @@ impl Play<Question, View> for Returns {
     ghost then = { Returned };
 }
 
-/// How a new seat is given.
+/// The step that makes a new seat.
 struct Gives;
 
 impl Split<View> for Gives {
@@ -72,7 +75,7 @@ impl Split<View> for Gives {
     ghost right = { λ v. sitter v.known.given v.known.asked };
 }
 
-/// How there is a pass that stands for no seat.
+/// The step that makes a pass that belongs to no seat.
 struct Stands;
 
 impl Split<View> for Stands {
@@ -83,7 +86,7 @@ impl Split<View> for Stands {
     ghost right = { λ v. guest };
 }
 
-/// How the pass under the lock comes to speak for a seat.
+/// The step by which the pass under the lock comes to speak for a seat.
 struct Takes;
 
 impl Join<View> for Takes {
@@ -94,7 +97,7 @@ impl Join<View> for Takes {
     ghost spent = { guest };
 }
 
-/// How the seat has a pass of its own again.
+/// The step by which the seat has its own pass again.
 struct Leaves;
 
 impl Split<View> for Leaves {
@@ -105,7 +108,7 @@ impl Split<View> for Leaves {
     ghost right = { λ v. sitter v.number v.seen };
 }
 
-/// No questions, in a table that has no name yet. Contracts see the table.
+/// An empty list of questions, in a table that has no name yet. Contracts see the table.
 #[derive(Drop)]
 pub(crate) struct Unnamed {
     table: Table<Question, View, (), Law, Global>,
@@ -129,13 +132,13 @@ impl Model for Unnamed {
 }
 
 impl Unnamed {
-    /// A new table, of one word.
+    /// Returns a new table, of one word.
     pub(crate) fn new(alloc: Global) -> Result<Unnamed, AllocError> {
         let (table, pass) = Table::of_words(alloc, &[0], &())?;
         Ok(Unnamed { table, pass })
     }
 
-    /// No questions, under a name.
+    /// Returns an empty list of questions under a name.
     pub(crate) fn named<L: Naming>(self) -> Questions<L>
         requires { self ≡ L.table.id }
         ensures { result ≡ nothing_known }
@@ -149,7 +152,8 @@ impl Unnamed {
     }
 }
 
-/// What a head was asked so far, how many seats it has, and which of them are back. Contracts see these.
+/// What a head was asked so far, how many seats it has, and which of them were returned. Contracts
+/// see these.
 #[derive(Drop)]
 pub(crate) struct Questions<L: Naming> {
     table: Table<Question, View, (), Law, Global>,
@@ -172,7 +176,8 @@ impl<L: Naming> Model for Questions<L> {
         × (q.pass.me ≡ (keeper q.pass.me.0.known, [])) };
 }
 
-/// The number of a seat, and what it has seen of the questions: a beginning, with all of its own. Contracts see both.
+/// The number of a seat, and the questions that it has seen: a prefix of all, with all of its own.
+/// Contracts see both.
 #[derive(Drop)]
 pub(crate) struct Seen<L: Naming> {
     number: u64,
@@ -193,7 +198,7 @@ impl<L: Naming> Model for Seen<L> {
 }
 
 impl<L: Naming> Questions<L> {
-    /// A new seat, with the next number.
+    /// Returns a new seat, with the next number.
     pub(crate) fn give(&mut self, number: u64) -> Seen<L>
         requires next { number ≡ self.old.given }
         requires none_back { self.old.back ≡ [] }
@@ -231,7 +236,7 @@ impl<L: Naming> Questions<L> {
         seen.pass = table.split_seat::<Leaves>(pass);
     }
 
-    /// Takes a seat back.
+    /// Takes a returned seat.
     pub(crate) fn take_back(&mut self, seen: Seen<L>)
         ensures questions { self.new
             ≡ record self.old { back = seen.number ∷ self.old.back } }

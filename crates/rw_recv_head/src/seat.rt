@@ -1,4 +1,4 @@
-//! The right of one thread to ask.
+//! A handle by which one thread asks the shared head.
 
 ghost use Rattle.std.specs.Prelude.{◌≡◌, ◌≢◌, ◌+◌, ◌≤◌, ◌<◌, IsTrue, [], ◌∷◌, ◌++◌, length};
 ghost use Rattle.rw_head.specs.Capacity.{unlimited, StaysWithin};
@@ -27,8 +27,8 @@ pub struct Asked {
     pub samples: u64,
 }
 
-/// The right of one thread to ask a shared head. Contracts see its number, how many samples its requests stored, and what the head had been
-/// asked from all seats when this one asked last.
+/// A handle by which one thread asks a shared head. Contracts see its number, how many samples its
+/// requests stored, and what the head had been asked from all seats when this one asked last.
 #[derive(Drop)]
 pub struct Seat<L: Naming> {
     stored: u64,
@@ -48,7 +48,7 @@ impl<L: Naming> Model for Seat<L> {
 }
 
 impl<L: Naming> Seat<L> {
-    /// A seat of nothing stored.
+    /// Returns a seat that has stored nothing.
     pub(crate) fn new(share: Share<L>, seen: Seen<L>) -> Seat<L>
         requires one_part { share.parts ≡ 1 }
         requires nothing { share.amount ≡ 0 }
@@ -87,7 +87,7 @@ impl<L: Naming> Seat<L> {
         questions.push(&mut self.seen, status, body);
     }
 
-    /// The share of the ledger, and what was seen.
+    /// Returns the share of the ledger, and what was seen.
     pub(crate) fn into_parts(self) -> (Share<L>, Seen<L>)
         ensures parts { result.0.parts ≡ 1 }
         ensures amount { result.0.amount ≡ self.stored }
@@ -96,15 +96,15 @@ impl<L: Naming> Seat<L> {
         (self.share, self.seen)
     }
 
-    /// How many samples the requests from this seat stored. This takes no memory.
+    /// Returns how many samples the requests from this seat stored. This takes no memory.
     pub fn stored(&self) -> u64
         ensures { result ≡ self.now.stored }
     {
         self.stored
     }
 
-    /// The head's answer to a request's body, under the lock: 204, 400, 429 or 503, as `Head::admit`
-    /// gives it for the capacity of the head. May wait for the lock.
+    /// Returns the head's answer to a request's body, under the lock: 204, 400, 429 or 503, as
+    /// `Head::admit` returns it for the capacity of the head. It may wait for the lock.
     pub fn answer<R: Wait>(&mut self, rt: &R, shared: &SharedHead<L>, body: &[u8]) -> u16
         ensures statuses { IsStatus result }
         ensures asked { HasAsked L.opening self.old body.now result self.new }
@@ -112,8 +112,8 @@ impl<L: Naming> Seat<L> {
         self.ask(rt, shared, body).status
     }
 
-    /// Answers a request as `answer` does, and returns whether the head was full, and how many label
-    /// sets and samples it holds then.
+    /// Answers a request as `answer` does, and also returns whether the head was full, and how many
+    /// label sets and samples it then holds.
     pub fn ask<R: Wait>(&mut self, rt: &R, shared: &SharedHead<L>, body: &[u8]) -> Asked
         ensures statuses { IsStatus result.status }
         ensures asked { HasAsked L.opening self.old body.now result.status self.new }

@@ -17,10 +17,11 @@ use std::marker::Model;
 use std::sync::ledger::Total;
 use std::sync::{Mutex, Wait};
 
-/// A head that threads ask under one lock. Contracts see how many samples it held when it was shared,
-/// and among how many seats.
+/// A head that threads ask under one lock. Contracts see how many samples it held when it was
+/// shared, and among how many seats.
 ///
-/// Whenever the lock is free, the timestamps of each list rise strictly, and the head's total is that at the start with what the seats stored.
+/// Whenever the lock is free, the timestamps of each list rise strictly, and the head's total is
+/// that at the start with what the seats stored.
 #[derive(Drop)]
 pub struct SharedHead<L: Naming> {
     locked: Mutex<Locked<L>>,
@@ -39,9 +40,9 @@ impl<L: Naming> Model for SharedHead<L> {
 }
 
 impl<L: Naming> SharedHead<L> {
-    /// Shares a head among so many seats, which are numbered, over a blank of one part for each of them
-    /// and one for the lock, and with the capacity of the blank. Where memory runs out, the head comes
-    /// back as it was.
+    /// Shares a head among `n` seats, which are numbered from 0, over a blank of `n` + 1 parts: one
+    /// for each seat and one for the lock. The head has the capacity of the blank. If memory runs
+    /// out, the head comes back as it was.
     pub fn seats(
         alloc: Global,
         blank: Blank,
@@ -76,7 +77,7 @@ impl<L: Naming> SharedHead<L> {
         Ok((SharedHead { locked, all }, seats))
     }
 
-    /// The answer to a body from a seat, under the lock.
+    /// Returns the answer to a body from a seat, under the lock.
     pub(crate) fn ask<R: Wait>(&self, rt: &R, seat: &mut Seat<L>, body: &[u8]) -> Asked
         ensures statuses { IsStatus result.status }
         ensures asked { HasAsked L.opening seat.old body.now result.status seat.new }
@@ -100,8 +101,9 @@ impl<L: Naming> SharedHead<L> {
         }
     }
 
-    /// Gives the head back, once all seats are back. It holds what each of them was told is stored, has taken nothing that none of them was
-    /// asked, and takes label sets by the limits that it had. This takes no memory and waits for nobody.
+    /// Returns the head, once all seats were returned. It holds what was reported to each of them
+    /// as stored, has taken nothing that none of them was asked, and takes label sets by the limits
+    /// that it had. This takes no memory and never waits.
     pub fn gather(self, seats: Vec<Seat<L>>) -> Head
         requires { vec_len seats ≡ self.seats }
         ensures gathered { HasGathered L.opening seats.items result.store }

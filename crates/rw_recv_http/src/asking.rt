@@ -4,7 +4,8 @@ use rw_endpoint::Answer;
 use rw_recv_head::{Naming, Seat, SharedHead};
 use std::sync::Wait;
 
-/// A seat that is lent to answer the bodies of a connection's requests. Each answer may wait for the lock.
+/// A seat that is lent to answer the bodies of a connection's requests. Each answer may wait for
+/// the lock.
 #[derive(Drop)]
 pub struct Asking<'a, R, L: Naming> {
     pub rt: &'a R,

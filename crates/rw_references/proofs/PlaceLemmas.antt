@@ -114,7 +114,7 @@ place_found l sets i e = found_in (ltb (position_or_len (labels_eq l) sets) (len
 pub at_place_of : (n : Named) (k r : ℕ) (l : Labels) → slice_get n.sets k ≡ Some l → r ≡ n.first + k → labels_at n r ≡ Some l
 at_place_of n k r l e f = ap (labels_at n) f ∙ at_first n k l e
 
--- a label set that stands at a place is found
+-- a label set that is at a place is found
 any_at : (l : Labels) (sets : List Labels) (k : ℕ) → slice_get sets k ≡ Some l → list_any (labels_eq l) sets ≡ true
 any_at l [] k e = absurd (cc)
 any_at l (x ∷ sets) zero e = here (labels_eq l x) (ap (labels_eq l) (let same : x ≡ l = cc in same) ∙ equal_if_same l l refl)

@@ -24,7 +24,7 @@ with_set l n = record n { sets = n.sets ++ l ∷ [] }
 abbrev pub Grows : Labels → Named → Named → Type 0
 Grows l old new = (new ≡ old) ⊎ (new ≡ with_set l old)
 
--- those without a definition are gone
+-- those without a definition are removed
 abbrev pub only_defined : Named → Named
 only_defined n = record n { sets = take n.defined n.sets }
 
@@ -42,7 +42,7 @@ abbrev pub StandFor : List Entry → ℕ → List Labels → Type 0
 StandFor es r [] = Unit {0}
 StandFor es r (l ∷ ls) = (labels_of es r (length es) ≡ Some l) × StandFor es (suc r) ls
 
--- the log has the definitions that it is said to have
+-- the log has the definitions that it should have
 abbrev pub AreDefined : List Entry → Named → Type 0
 AreDefined es n = StandFor es n.first (take n.defined n.sets)
 

@@ -1,4 +1,4 @@
--- What the text of a pattern means, in the words of the regex crate.
+-- What the text of a pattern means to the regex crate.
 use Rattle.std.specs.Prelude.{◌≢◌, ◌⊎◌, ℕ, List, ◌++◌, Bool, Option, Some, None, false, is_some, codes, chars}
 use Rattle.regex_hir.specs.Find.{find_str}
 use Rattle.regex_hir.specs.Re.{Re}
@@ -10,7 +10,7 @@ use Rattle.regex.specs.Strings.{IsDefaultFailure}
 use Rattle.regex.specs.declared.error.Error.{Error}
 use Rattle.regex.specs.declared.error.Error.TheVariants.{Internal, OutOfMemory}
 
--- the pattern as it is used: from the beginning to the end of a text, with `.` for a newline too
+-- the pattern as it is used: from the start to the end of a text, with `.` for a newline too
 abbrev pub anchored : List ℕ → List ℕ
 anchored pattern = codes "^(?s:" ++ pattern ++ codes ")$"
 
@@ -18,8 +18,8 @@ anchored pattern = codes "^(?s:" ++ pattern ++ codes ")$"
 unfoldable pub IsReadable : List ℕ → Type 0
 IsReadable pattern = IsPattern default_config pattern
 
--- The crate has an error for the text that is not about memory: by its clauses the text is not readable,
--- or it is and takes too much room.
+-- The crate has an error for the text that is not about memory: by its clauses the text is not
+-- readable, or it is and takes too much room.
 unfoldable pub IsRefused : List ℕ → Type 0
 IsRefused pattern = (error : Error) × (error ≢ OutOfMemory) × (error ≢ Internal) × IsDefaultFailure pattern error
 

@@ -14,7 +14,7 @@ pub record RuleConfig : Type 0 where
   pub separator : List ℕ
   pub pattern : List ℕ
 
--- the value of the label of this name, empty where there is none
+-- the value of the label of this name, empty if there is none
 abbrev pub value_of : Labels → List ℕ → List ℕ
 value_of [] name = []
 value_of (label ∷ labels) name = if bytes_eq label.0 name then label.1 else value_of labels name

@@ -17,7 +17,7 @@ pub struct Choice {
 }
 
 impl Choice {
-    /// All series with legacy names: there are no rules. This takes no memory.
+    /// Returns all series with legacy names: there are no rules. This takes no memory.
     pub fn legacy(alloc: Global) -> Choice
         ensures { result ≡ legacy }
     {

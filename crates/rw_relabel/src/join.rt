@@ -1,4 +1,4 @@
-//! The text that a rule's pattern is held against.
+//! The text that the pattern of a rule is matched against.
 
 ghost use Rattle.std.specs.Prelude.{◌≡◌, map, string_bytes, IfOk};
 ghost use Rattle.std.specs.List.{join_by};
@@ -7,7 +7,7 @@ ghost use Rattle.rw_relabel.specs.Rules.{value_of};
 
 use std::alloc::{AllocError, Global};
 
-/// The value of the label of this name, or the empty text.
+/// Returns the value of the label of this name, or the empty text.
 fn value_in<'a>(labels: &'a [(String, String)], name: &str) -> &'a str
     ensures { result.now ≡ value_of (map text_label labels.now) name.now }
 {
@@ -19,7 +19,7 @@ fn value_in<'a>(labels: &'a [(String, String)], name: &str) -> &'a str
     ""
 }
 
-/// The values of the labels of these names, with the separator between them.
+/// Returns the values of the labels of these names, with the separator between them.
 pub(crate) fn join_values(
     alloc: Global,
     labels: &[(String, String)],

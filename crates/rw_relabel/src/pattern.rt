@@ -9,7 +9,7 @@ use crate::rule_fault::RuleFault;
 use regex::Regex;
 use std::alloc::{AllocError, Global};
 
-/// A text compiled as a pattern.
+/// Compiles a text as a pattern.
 #[tactic(auto, unfolding(crate::specs::Patterns::IsReadable, crate::specs::Patterns::IsRefused))]
 fn compiled(alloc: Global, pattern: &str) -> Result<Regex, RuleFault>
     ensures config { IfOk result (λ r. regex_config r ≡ default_config) }
@@ -26,7 +26,7 @@ fn compiled(alloc: Global, pattern: &str) -> Result<Regex, RuleFault>
     }
 }
 
-/// The pattern as it is used.
+/// Returns the text `^(?s:PATTERN)$` of a pattern, which is the form in which it is used.
 fn anchored_text(alloc: Global, pattern: &str) -> Result<String, AllocError>
     ensures { IfOk result (λ t. string_bytes t ≡ anchored pattern.now) }
 {
@@ -36,7 +36,7 @@ fn anchored_text(alloc: Global, pattern: &str) -> Result<String, AllocError>
     Ok(text)
 }
 
-/// The pattern compiled as it is used.
+/// Compiles a pattern in the form in which it is used.
 pub(crate) fn compiled_whole(alloc: Global, pattern: &str) -> Result<Regex, RuleFault>
     ensures config { IfOk result (λ r. regex_config r ≡ default_config) }
     ensures read { IfOk result IsReadFromSource }
@@ -50,7 +50,7 @@ pub(crate) fn compiled_whole(alloc: Global, pattern: &str) -> Result<Regex, Rule
     compiled(alloc, text.as_str())
 }
 
-/// Whether the compiled pattern matches the text.
+/// Returns whether the compiled pattern matches the text.
 pub(crate) fn is_found(alloc: Global, regex: &Regex, text: &str) -> Result<bool, AllocError>
     requires config { regex_config regex.now ≡ default_config }
     requires read { IsReadFromSource regex.now }

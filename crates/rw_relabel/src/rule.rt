@@ -21,13 +21,14 @@ pub const DEFAULT_PATTERN: &str = "(.*)";
 /// What a rule does with a series.
 #[derive(Clone, Copy, Debug, PartialEq, Eq)]
 pub enum Action {
-    /// Keeps it where the pattern matches, and not where it does not.
+    /// Keeps it if the pattern matches, and drops it otherwise.
     Keep,
-    /// Drops it where the pattern matches.
+    /// Drops it if the pattern matches, and keeps it otherwise.
     Drop,
 }
 
-/// A rule with its pattern compiled. Contracts see its configuration: action, source labels, separator and pattern.
+/// A rule with its pattern compiled. Contracts see its configuration: action, source labels,
+/// separator and pattern.
 #[derive(Debug, Drop)]
 pub struct Rule {
     action: Action,
@@ -59,12 +60,14 @@ impl Model for Rule {
 }
 
 impl Rule {
-    /// Makes a rule. Its pattern is held against the values of the source labels, with the separator between them, in the form `^(?s:PATTERN)$`:
-    /// it has to match the whole text, and `.` matches a newline too. The pattern and that form have to be regular expressions of the regex
-    /// crate.
+    /// Makes a rule. Its pattern is matched against the values of the source labels, with the
+    /// separator between them, in the form `^(?s:PATTERN)$`: it has to match the whole text, and
+    /// `.` matches a newline too. The pattern and that form have to be regular expressions of the
+    /// regex crate.
     ///
-    /// `BadPattern` is also the error where a compiled pattern takes more room than that crate allows; no clause says for which ones. It comes
-    /// before `NoSource`. No clause says when memory runs out.
+    /// `BadPattern` is also the error if a compiled pattern takes more room than that crate allows;
+    /// no clause says for which ones. It comes before `NoSource`. No clause says when memory runs
+    /// out.
     pub fn build(
         alloc: Global,
         action: Action,
@@ -98,7 +101,7 @@ impl Rule {
         })
     }
 
-    /// Whether a series with these labels passes this rule.
+    /// Returns whether a series with these labels passes this rule.
     pub(crate) fn lets_pass(
         &self,
         alloc: Global,

@@ -7,9 +7,10 @@ use std::fmt;
 /// Why a rule was not made. Cast to a number, `OutOfMemory` is 0, `BadPattern` 1 and `NoSource` 2.
 #[derive(Clone, Copy, Debug, PartialEq, Eq)]
 pub enum RuleFault {
-    /// Memory ran out, which is no fault of the rule.
+    /// Memory ran out, which is not a fault of the rule.
     OutOfMemory,
-    /// The pattern, or its form `^(?s:PATTERN)$`, is no regular expression, is nested too deep, or takes too much room when it is compiled.
+    /// The pattern, or its form `^(?s:PATTERN)$`, is not a valid regular expression, is nested too
+    /// deeply, or takes too much room when it is compiled.
     BadPattern,
     /// The list of source labels is empty.
     NoSource,

@@ -8,7 +8,8 @@ use rw_types::LabelSet;
 use std::alloc::AllocError;
 use std::marker::Model;
 
-/// A list of rules, which decides which series are kept; where it is empty all are. Contracts see the list of their configurations.
+/// A list of rules, which decides which series are kept; an empty list keeps all. Contracts see the
+/// list of their configurations.
 #[derive(Debug, Drop)]
 pub struct Rules {
     rules: Vec<Rule>,
@@ -24,14 +25,15 @@ impl Model for Rules {
 }
 
 impl Rules {
-    /// A list of these rules. This takes no memory.
+    /// Returns a list of these rules. This takes no memory.
     pub fn new(rules: Vec<Rule>) -> Rules
         ensures { result ≡ rules.items }
     {
         Rules { rules }
     }
 
-    /// Whether a series with these labels is kept: every `Keep` rule matches it, and no `Drop` rule does.
+    /// Returns whether a series with these labels is kept: every `Keep` rule matches it, and no
+    /// `Drop` rule does.
     #[tactic(auto, unfolding(crate::specs::Rules::keeps))]
     pub fn keeps(&self, labels: &LabelSet) -> Result<bool, AllocError>
         ensures { IfOk result (λ b. b ≡ keeps self.now labels.now) }

@@ -60,7 +60,7 @@ nothing_whole : IsWhole page_size []
 unfolding segment item_at
 nothing_whole = refl
 
--- where a log of no segments ends
+-- the end of a log of no segments
 pub ends_nowhere : (ss : Segments) (end : LogEnd) → ss ≡ [] → end.whole ≡ 0 → end.torn.items ≡ [] → end.greatest ≡ 0 → IsEnd ss end
 ends_nowhere ss end empty at torn greatest = record {
   cut = subst (λ (s : Segments). IsCut (last_of s) end.whole) (sym empty) (subst (IsCut []) (sym at) (cut_at_end [] nothing_whole));

@@ -161,7 +161,7 @@ same_none : (later : List Piece) → reading page_size ([] ++ later) ≡ reading
 unfolding reading
 same_none later = refl
 
-pub has_fed-none : (t : Fed) (before : List Entry) (low : ℕ) → t ≡ record { pieces = []; given = 0; skipped = 0; fault = None } → HasFed [] t before before low low
+pub has_fed-none : (t : Fed) (before : List Entry) (low : ℕ) → t ≡ record { pieces = []; given = 0; skipped = []; fault = None } → HasFed [] t before before low low
 has_fed-none t before low is = subst (λ (x : Fed). HasFed [] x before before low low) (sym is) (record {
   same = same_none;
   stops = λ later. refl;

@@ -1,4 +1,4 @@
-//! Where the last segment is cut.
+//! Finds the place at which the last segment is cut.
 
 ghost use Rattle.std.specs.Prelude.{◌≡◌, ◌≤◌, length, true, IfOk, IfErr};
 ghost use Rattle.rw_journal.specs.Torn.{page_end};
@@ -18,7 +18,7 @@ use rw_wal_format::PAGE_BYTES;
 use rw_wal_tail::FaultPlace;
 use std::alloc::{AllocError, Global};
 
-/// Whether a text ends within the page of an offset.
+/// Returns whether a text ends within the page of an offset.
 fn ends_in_page(len: usize, offset: u64) -> bool
     ensures { result ≡ true → len ≤ page_end page_size offset }
 {
@@ -42,8 +42,8 @@ pub(crate) fn damage_error(segment: usize, fault: SegmentFault) -> ReopenError
     })
 }
 
-/// Whether a text that is cut at a place ends between two records, and has as many entries as
-/// before.
+/// Returns whether a text that is cut at a place ends between two records, and has as many entries
+/// as before.
 fn is_clean(alloc: Global, text: &[u8], entries: u64, at: usize) -> Result<bool, AllocError>
     requires within { at ≤ length text.now }
     requires count { entries ≡ entry_count text.now }

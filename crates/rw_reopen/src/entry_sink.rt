@@ -1,4 +1,4 @@
-//! What takes the entries of a log.
+//! A visitor of the entries of a log.
 
 ghost use Rattle.std.specs.Prelude.{◌≡◌, ◌++◌, ◌∷◌, [], List, OnOk};
 ghost use Rattle.rw_types.specs.declared.entry.Entry.{Entry};

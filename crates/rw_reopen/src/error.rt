@@ -20,7 +20,7 @@ pub struct Damage {
 /// Why a log cannot be opened.
 #[derive(Clone, Copy, Debug, PartialEq, Eq)]
 pub enum ReopenError {
-    /// Memory was refused.
+    /// Memory ran out.
     OutOfMemory,
     /// The device failed.
     Failed,

@@ -1,4 +1,4 @@
-//! A log, opened after a crash.
+//! Opens a log after a crash.
 
 ghost use Rattle.std.specs.Prelude.{◌≡◌, ◌<◌, ◌≤◌, ◌++◌, [], ◌∷◌, length, take, drop, get_or, IfOk, OnOk, IfErr, IsErrOf};
 ghost use Rattle.std.specs.List.{AllByRecursion};
@@ -17,7 +17,7 @@ use rw_journal::Journal;
 use rw_torn_log::close_torn;
 use std::alloc::Global;
 
-/// How a log ends that was read again.
+/// The end of a log that was read again.
 #[derive(Debug, Drop)]
 pub struct LogEnd {
     /// Where its last segment is to be cut: after its last whole record.
@@ -123,7 +123,7 @@ pub fn read_log<J: Journal, S: EntrySink>(
     ensures journal { IsOnlyRead J.seen J.may_leave J.moment J.left_since J.faults journal.old
         journal.new }
 
-    // It does not give up by itself.
+    // An error comes only from memory, the device or the log.
     ensures failed { IsErrOf result ReopenError.Failed
         → J.faults journal.old < J.faults journal.new }
     ensures damaged { IfErr result (HasDamage (J.seen journal.old)) }
@@ -170,7 +170,8 @@ pub fn reopen<J: Journal, S: EntrySink>(
     ensures any_moment { LeavesOnly J.moment J.left_since journal.old journal.new
         (λ c. entries_of page_size c ≡ entries_of page_size (J.seen journal.old)) }
 
-    // It does not give up by itself, and a log that it refuses is as it was.
+    // An error comes only from memory, the device or the log, and a log that it refuses is as it
+    // was.
     ensures failed { IsErrOf result ReopenError.Failed
         → J.faults journal.old < J.faults journal.new }
     ensures damaged { IfErr result (HasDamage (J.seen journal.old)) }

@@ -99,7 +99,7 @@ fn feed_text<S: EntrySink>(
     sink: &mut S,
     greatest: &mut u64,
 ) -> Result<(), AllocError>
-    requires { tail.old ≡ record { pieces = []; given = 0; skipped = 0; fault = None } }
+    requires { tail.old ≡ record { pieces = []; given = 0; skipped = []; fault = None } }
     ensures { OnOk result
         (HasFed text.now tail.new (S.taken sink.old) (S.taken sink.new) greatest.old greatest.new) }
 {

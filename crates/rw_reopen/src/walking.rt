@@ -1,4 +1,4 @@
-//! Where the last whole record of a segment ends.
+//! Finds where the last whole record of a segment ends.
 
 ghost use Rattle.std.specs.Prelude.{◌<◌, ◌≤◌, ◌^◌, length};
 
@@ -18,7 +18,7 @@ fn item_len(text: &[u8], at: usize) -> usize
     HEADER_BYTES + (usize::from(text[at + 1]) << 8) + usize::from(text[at + 2])
 }
 
-/// Whether a byte is the type of a fragment that ends a record.
+/// Returns whether a byte is the type of a fragment that ends a record.
 fn ends_record(byte: u8) -> bool {
     match FragmentType::from_byte(byte) {
         Some(FragmentType::Full | FragmentType::Last) => true,

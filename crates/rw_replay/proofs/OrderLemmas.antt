@@ -1,4 +1,4 @@
--- The words of script lines, told apart, and what stands behind them.
+-- The words of script lines, how they differ, and what follows them.
 use Rattle.std.proofs.Common.{◌≡◌, ◌==◌, ◌^◌, ◌<◌, ◌*◌, ◌+◌, nat_lt, ℕ, List, [], ◌∷◌, ◌++◌, All, true, false, not, Option, Some, None, if◌then◌else◌, codes, refl, sym, ap, ◌∙◌, subst, inl, inr, arith}
 use Rattle.std.proofs.Math.ListN.{get_or}
 use Rattle.std.proofs.lemmas.List.Elements.{All-nil, All-cons}
@@ -55,7 +55,7 @@ no_how text none Plain e = not_ascii text (codes "plain") none refl e
 no_how text none Busy e = not_ascii text (codes "busy") none refl e
 no_how text none OutOfMemory e = not_ascii text (codes "short") none refl e
 
--- ---- words are told apart by two of their letters
+-- ---- words differ in two of their letters
 
 letters : List ℕ → ℕ
 letters text = get_or text 1 0 * 256 + get_or text 2 0

@@ -23,7 +23,7 @@ pub record Played : Type 0 where
 abbrev pub segment_pages : ℕ
 segment_pages = 4096
 
--- a record has no room behind so many bytes of a segment
+-- a record has no room after this many bytes of a segment
 abbrev pub is_full : ℕ → List ℕ → Bool
 is_full offset rec = nat_lt (room page_size segment_pages offset) (length rec)
 
@@ -31,7 +31,8 @@ is_full offset rec = nat_lt (room page_size segment_pages offset) (length rec)
 abbrev pub next_segment : Order
 next_segment = order_of_event (event.Feed piece.NextSegment)
 
--- the lines that feed a record to the log: it is written behind what there is, or where it has no room there at the front of a next segment
+-- the lines that feed a record to the log: it is written after what there is, or, if it has no room
+-- there, at the front of a next segment
 abbrev pub feeds : ℕ → List ℕ → List Order
 feeds offset rec =
     if is_full offset rec then next_segment ∷ fed (log_bytes page_size 0 rec) ∷ []
@@ -51,7 +52,7 @@ in_world p w = record p { machine = record p.machine { world = w } }
 abbrev pub world_after : Played → List Event → World
 world_after p events = run p.machine.setup events p.machine.world
 
--- events happened that carry out these orders, and so many bytes are written
+-- events happened that carry out these orders, and this many bytes are written
 abbrev pub Feeds : Played → List Order → ℕ → Played → Type 0
 Feeds p orders offset q =
     (events : List Event) × (map order_of_event events ≡ orders) × (q ≡ record (in_world p (world_after p events)) { offset = offset })
@@ -60,16 +61,18 @@ Feeds p orders offset q =
 abbrev pub Happens : Played → Order → Played → Type 0
 Happens p o q = (e : Event) × (order_of_event e ≡ o) × (q ≡ in_world p (happens p.machine.setup p.machine.world e))
 
--- the world after so many rounds of an orderly shutdown
+-- the world after this many rounds of an orderly shutdown
 abbrev pub settled_after : Played → ℕ → World
 settled_after p rounds = settle p.machine.setup rounds p.machine.world
 
--- the line is `settle`, and an orderly shutdown went on until there was a report; further rounds change nothing
+-- the line is `settle`, and an orderly shutdown went on until there was a report; further rounds
+-- change nothing
 abbrev pub Settles : Played → Order → Played → Type 0
 Settles p o q = (o ≡ order_of command.Settle)
     × ((rounds : ℕ) × (e : Ending) × (report (settled_after p rounds) ≡ Some e) × (q ≡ in_world p (settled_after p rounds)))
 
--- a line was carried out: its record is fed to the log, its event happened, or it is an orderly shutdown
+-- a line was carried out: its record is fed to the log, its event happened, or it is an orderly
+-- shutdown
 abbrev pub Plays : Played → Order → Played → Type 0
 Plays p (logged rec) q = Feeds p (feeds p.offset rec) (end_of p.offset rec) q
 Plays p o q = Happens p o q ⊎ Settles p o q

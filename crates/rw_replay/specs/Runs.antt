@@ -15,14 +15,15 @@ pub record ReadsScript (left_before left_after : Option (List ℕ)) (orders : Li
   pub ended : IsAtEnd left_after
   pub script : IsScript text orders
 
--- a text was read to its end, and the first of its lines that makes it no script has this number
+-- a text was read to its end, and the first of its lines that is not a line of a script has this
+-- number
 pub record ReadsBadLine (left_before left_after : Option (List ℕ)) (number : ℕ) : Type 0 where
   pub text : List ℕ
   pub read : Consumes left_before left_after text
   pub ended : IsAtEnd left_after
   pub bad : IsBadLine text number
 
--- a fault of a text is its first bad line; of memory nothing is said
+-- a fault of a text is its first bad line; nothing is said about memory
 abbrev pub IsFaultOfText : List ℕ → ToolFault → Type 0
 IsFaultOfText text OutOfMemory = Unit {0}
 IsFaultOfText text (Line number) = IsBadLine text number
@@ -42,7 +43,7 @@ WritesState c left_before left_after before after =
     (orders : List Order) × ReadsScript left_before left_after orders
     × ((text : List ℕ) × IsPrinted c orders text × Appends before after text)
 
--- a beginning of it was written
+-- a prefix of it was written
 abbrev pub WritesStatePart : Setup → Option (List ℕ) → Option (List ℕ) → Option (List ℕ) → Option (List ℕ) → Type 0
 WritesStatePart c left_before left_after before after =
     (orders : List Order) × ReadsScript left_before left_after orders

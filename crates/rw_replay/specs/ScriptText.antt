@@ -1,4 +1,4 @@
--- Script lines: a word and what stands behind it, with single spaces.
+-- Script lines: a word and what follows it, with single spaces.
 use Rattle.std.specs.Prelude.{◌≡◌, ◌⊎◌, ◌^◌, ◌<◌, ℕ, List, ◌∷◌, ◌++◌, Some, codes}
 use Rattle.rw_text.specs.HexText.{read_digits}
 use Rattle.rw_text.specs.Numbers.{IsNumber}
@@ -15,7 +15,8 @@ use Rattle.rw_replay.specs.declared.words.NumberedWord.TheVariants.{Flush, Take,
 use Rattle.rw_replay.specs.declared.command.Command.{Command}
 use Rattle.rw_replay.specs.declared.command.Command.TheVariants as command
 
--- what a line orders: a record is logged, bytes are fed, a request arrives, or one of the words, alone or with a number
+-- what a line orders: a record is logged, bytes are fed, a request arrives, or one of the words,
+-- alone or with a number
 pub data Order : Type 0 where
   logged : (rec : List ℕ) → Order
   fed : (bytes : List ℕ) → Order
@@ -71,7 +72,7 @@ IsBare (arrives request how) = ⊥
 IsBare (bare word) = Unit {0}
 IsBare (numbered word number) = ⊥
 
--- what stands behind the word and a space
+-- what follows the word and a space
 abbrev pub IsBehind : List ℕ → Order → Type 0
 IsBehind text (logged rec) = IsRecordOf text rec
 IsBehind text (fed bytes) = read_digits text ≡ Some bytes
@@ -79,11 +80,12 @@ IsBehind text (arrives request how) = IsArrival text request how
 IsBehind text (bare word) = ⊥
 IsBehind text (numbered word number) = IsCount text number
 
--- a word and, behind a space, the rest of the line
+-- a word and, after a space, the rest of the line
 abbrev pub IsWordAnd : List ℕ → List ℕ → Order → Type 0
 IsWordAnd word rest o = (word ≡ word_of o) × IsBehind rest o
 
--- a script line: `log LINE`, `feed HEX`, `arrive K plain|busy|short`, a word, or a word and a number
+-- a script line: `log LINE`, `feed HEX`, `arrive K plain|busy|short`, a word, or a word and a
+-- number
 abbrev pub IsOrder : List ℕ → Order → Type 0
 IsOrder text o = (IsBare o × (text ≡ word_of o))
     ⊎ ((word : List ℕ) × (rest : List ℕ) × (text ≡ word ++ 32 ∷ rest) × IsWordAnd word rest o)

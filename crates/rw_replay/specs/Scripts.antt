@@ -39,7 +39,8 @@ pub record IsScript (text : List ℕ) (orders : List Order) : Type 0 where
   pub are_orders : AreOrders (lines text) orders
   pub one_way : is_mixed orders ≡ false
 
--- The line of this number, counted from 1, is not empty, and no order that it may have goes with those before it, which go with one another.
+-- The line of this number, counted from 1, is not empty, and no order that it may have goes with
+-- those before it, which go with one another.
 pub record IsBadLine (text : List ℕ) (number : ℕ) : Type 0 where
   pub front : List (List ℕ)
   pub line : List ℕ
@@ -52,7 +53,7 @@ pub record IsBadLine (text : List ℕ) (number : ℕ) : Type 0 where
   pub some : 0 < length line
   pub bad : (o : Order) → IsOrder line o → is_mixed (orders ++ o ∷ []) ≡ true
 
--- a fault is that of the first bad line; of memory nothing is said
+-- a fault is that of the first bad line; nothing is said about memory
 abbrev pub IsFaultOfScript : List ℕ → ScriptFault → Type 0
 IsFaultOfScript text fault.OutOfMemory = Unit {0}
 IsFaultOfScript text (fault.Line number) = IsBadLine text number

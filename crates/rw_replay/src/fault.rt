@@ -9,7 +9,8 @@ use std::fmt;
 pub enum ScriptFault {
     /// Memory ran out.
     OutOfMemory,
-    /// The line of this number, counted from 1, is not a script line, or mixes `log` with `feed` or `segment`.
+    /// The line of this number, counted from 1, is not a script line, or mixes `log` with `feed` or
+    /// `segment`.
     Line(u64),
 }
 

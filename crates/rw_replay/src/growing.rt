@@ -3,7 +3,7 @@
 use rw_types::{Failed, Sink};
 use std::alloc::Global;
 
-/// A writer into memory, which grows as it takes bytes, and fails where no more memory is given.
+/// A writer into memory, which grows as it takes bytes, and fails if memory runs out.
 #[derive(Debug, Drop)]
 pub(crate) struct Growing {
     pub(crate) bytes: Vec<u8>,
@@ -13,7 +13,7 @@ pub(crate) struct Growing {
 impl Growing {
     ghost use Rattle.std.specs.Prelude.{◌≡◌, [], false};
 
-    /// A writer that holds nothing.
+    /// Returns a writer that holds nothing.
     pub(crate) fn new(alloc: Global) -> Growing
         ensures bytes { result.bytes.items ≡ [] }
         ensures sound { result.failed ≡ false }

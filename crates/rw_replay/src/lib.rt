@@ -1,5 +1,5 @@
-//! The command `replay`: event scripts are read, and played on a sender, a network and a receiver in
-//! one thread.
+//! The command `replay`: event scripts are read, and played on a sender, a network and a receiver
+//! in one thread.
 #![tactic(auto)]
 
 mod command;

@@ -14,7 +14,7 @@ use rw_text::{TextFault, read_digits, read_number, read_record, split_at_byte};
 use rw_wal_tail::Piece;
 use std::alloc::Global;
 
-/// What stands behind `log `.
+/// Returns what follows `log `.
 fn read_log(alloc: Global, line: &[u8]) -> Result<Command, TextFault>
     ensures ok { IfOk result (λ c. IsWordAnd (codes "log") line.now (order_of c)) }
     ensures err { result ≡ Err TextFault.NotOfForm → (rec : List ℕ) → IsRecordOf line.now rec → ⊥ }
@@ -23,7 +23,7 @@ fn read_log(alloc: Global, line: &[u8]) -> Result<Command, TextFault>
     Ok(Command::Log(rec))
 }
 
-/// What stands behind `feed `.
+/// Returns what follows `feed `.
 fn read_feed(alloc: Global, digits: &[u8]) -> Result<Command, TextFault>
     ensures ok { IfOk result (λ c. IsWordAnd (codes "feed") digits.now (order_of c)) }
     ensures err { result ≡ Err TextFault.NotOfForm → (bytes : List ℕ)
@@ -35,7 +35,7 @@ fn read_feed(alloc: Global, digits: &[u8]) -> Result<Command, TextFault>
     }
 }
 
-/// What stands behind `arrive `.
+/// Returns what follows `arrive `.
 fn read_arrival(text: &[u8]) -> Option<Event>
     ensures { MatchOption result
         ((request : ℕ) (how : How) → IsArrival text.now request how → ⊥)
@@ -53,7 +53,7 @@ fn read_arrival(text: &[u8]) -> Option<Event>
     Some(Event::Arrive(request, how))
 }
 
-/// A word and the number behind it.
+/// Returns a word and the number after it.
 fn read_numbered(word: &[u8], number: &[u8]) -> Option<Event>
     ensures { MatchOption result
         ((w : NumberedWord) (n : ℕ) → word.now ≡ numbered_text w → IsCount number.now n → ⊥)
@@ -68,7 +68,7 @@ fn read_numbered(word: &[u8], number: &[u8]) -> Option<Event>
     Some(word.event(number))
 }
 
-/// A word and what stands behind it.
+/// Returns a word and what follows it.
 fn read_word_and(alloc: Global, word: &[u8], rest: &[u8]) -> Result<Command, TextFault>
     ensures ok { IfOk result (λ c. IsWordAnd word.now rest.now (order_of c)) }
     ensures err { result ≡ Err TextFault.NotOfForm → (o : Order) → IsWordAnd word.now rest.now o
@@ -92,9 +92,10 @@ fn read_word_and(alloc: Global, word: &[u8], rest: &[u8]) -> Result<Command, Tex
     }
 }
 
-/// Reads a script line, without its LF: `log LINE`, `feed HEX`, `arrive K plain`, `arrive K busy`, `arrive K short`, one of the words `segment`,
-/// `place`, `restart`, `close`, `kill` and `settle`, or `flush`, `take`, `freeze`, `send`, `reply`, `lost` or `reshard` and a number. The record
-/// of a `log` line has at most 16 MiB.
+/// Reads a script line, without its LF: `log LINE`, `feed HEX`, `arrive K plain`, `arrive K busy`,
+/// `arrive K short`, one of the words `segment`, `place`, `restart`, `close`, `kill` and `settle`,
+/// or `flush`, `take`, `freeze`, `send`, `reply`, `lost` or `reshard` and a number. The record of a
+/// `log` line has at most 16 MiB.
 pub fn read_command(alloc: Global, line: &[u8]) -> Result<Command, TextFault>
     ensures ok { IfOk result (λ c. IsOrder line.now (order_of c)) }
     ensures err { result ≡ Err TextFault.NotOfForm → (o : Order) → IsOrder line.now o → ⊥ }

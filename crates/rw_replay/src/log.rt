@@ -12,7 +12,7 @@ use std::alloc::{AllocError, Global};
 /// The most pages of a segment.
 const SEGMENT_PAGES: usize = 4096;
 
-/// What a record is written as, and how many bytes of its segment are written then.
+/// The bytes that are written for a record, and how many bytes of its segment are written then.
 #[derive(Drop)]
 pub(crate) struct Written {
     pub(crate) bytes: Vec<u8>,
@@ -31,7 +31,7 @@ fn end_writing(writer: SegmentWriter<Growing>) -> Written
     }
 }
 
-/// Writes a record behind so many bytes of a segment; none where it has no room there.
+/// Writes a record after `offset` bytes of a segment; `None` if it has no room there.
 pub(crate) fn write_behind(
     alloc: Global,
     offset: usize,

@@ -23,7 +23,7 @@ const LABELS: &str =
 
 const TOO_LONG: &str = "its record has more than 16 MiB";
 
-/// What is wrong behind `series `.
+/// Returns what is wrong after `series `.
 fn note_on_series(alloc: Global, rest: &[u8]) -> Result<&'static str, AllocError> {
     let Some((number, labels)) = split_at_byte(rest, b' ') else {
         return Ok(FORMS);
@@ -38,7 +38,7 @@ fn note_on_series(alloc: Global, rest: &[u8]) -> Result<&'static str, AllocError
     }
 }
 
-/// What is wrong behind `sample `.
+/// Returns what is wrong after `sample `.
 fn note_on_sample(rest: &[u8]) -> &'static str {
     let Some((number, behind)) = split_at_byte(rest, b' ') else {
         return FORMS;
@@ -58,7 +58,7 @@ fn note_on_sample(rest: &[u8]) -> &'static str {
     FORMS
 }
 
-/// What is wrong with a line that stands for no record.
+/// Returns what is wrong with a line that does not stand for a record.
 fn note_on(alloc: Global, line: &[u8]) -> Result<&'static str, AllocError> {
     if str::from_utf8(line).is_err() {
         return Ok("the line is not UTF-8");
@@ -76,7 +76,7 @@ fn note_on(alloc: Global, line: &[u8]) -> Result<&'static str, AllocError> {
     }
 }
 
-/// Whether a line stands for a record.
+/// Returns whether a line stands for a record.
 fn is_record(alloc: Global, line: &[u8]) -> Result<bool, AllocError>
     ensures yes { result ≡ Ok true → (rec : List ℕ) × IsRecordOf line.now rec }
     ensures no { result ≡ Ok false → (rec : List ℕ) → IsRecordOf line.now rec → ⊥ }
@@ -89,7 +89,8 @@ fn is_record(alloc: Global, line: &[u8]) -> Result<bool, AllocError>
     Ok(true)
 }
 
-/// What is wrong with a line of log text, without its LF; nothing where it stands for a record. The words are advice.
+/// Returns what is wrong with a line of log text, without its LF, or the empty text if it stands
+/// for a record. No clause says anything about the wording.
 pub fn log_line_note(alloc: Global, line: &[u8]) -> Result<Option<&'static str>, AllocError>
     ensures { IfOk result (λ note. MatchOption note
         ((rec : List ℕ) × IsRecordOf line.now rec)

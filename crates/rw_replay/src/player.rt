@@ -21,12 +21,13 @@ use rw_world::World;
 use std::alloc::{AllocError, Global};
 use std::marker::Model;
 
-/// A world that carries out the lines of a script. Contracts see its machine, and how far its log is written.
+/// A world that carries out the lines of a script. Contracts see its machine, and how far its log
+/// is written.
 #[derive(Drop)]
 pub(crate) struct Player {
     alloc: Global,
     world: World,
-    /// The bytes that are written of the segment that the log has come to.
+    /// How many bytes of the current segment are written.
     offset: usize,
 }
 
@@ -46,7 +47,7 @@ impl Model for Player {
 }
 
 impl Player {
-    /// Before the first line.
+    /// Returns a player before the first line.
     pub(crate) fn new(alloc: Global, settings: Settings) -> Result<Player, AllocError>
         ensures { IfOk result (λ p. p ≡ beginning (setup_of settings.config settings.limits)) }
     {
@@ -58,7 +59,7 @@ impl Player {
         })
     }
 
-    /// What was written reaches the log.
+    /// Feeds what was written to the log.
     fn feed(&mut self, written: Written) -> Result<(), AllocError>
         requires { IsPlace segment_pages written.offset }
         ensures { OnOk result
@@ -70,7 +71,7 @@ impl Player {
         Ok(())
     }
 
-    /// A record begins the next segment.
+    /// Begins the next segment with a record.
     fn log_in_next(&mut self, rec: &[u8]) -> Result<(), AllocError>
         requires some { 0 < length rec.now }
         requires short { length rec.now ≤ 16 * 1024 * 1024 }
@@ -85,7 +86,7 @@ impl Player {
         }
     }
 
-    /// A record is written behind the others.
+    /// Writes a record after the others.
     fn log(&mut self, rec: &[u8]) -> Result<(), AllocError>
         requires some { 0 < length rec.now }
         requires short { length rec.now ≤ 16 * 1024 * 1024 }
@@ -97,14 +98,14 @@ impl Player {
         }
     }
 
-    /// One event happens.
+    /// Lets one event happen.
     fn happen(&mut self, event: Event) -> Result<(), AllocError>
         ensures { OnOk result (Plays self.old (order_of_event event) self.new) }
     {
         self.world.step(event)
     }
 
-    /// An orderly shutdown.
+    /// Shuts the sender down in order.
     fn settle(&mut self) -> Result<(), AllocError>
         ensures { OnOk result (Plays self.old (order_of command.Settle) self.new) }
     {
@@ -135,7 +136,7 @@ impl Player {
         Ok(())
     }
 
-    /// The state that the lines have led to, as text.
+    /// Returns the state that the lines have led to, as text.
     pub(crate) fn state(&self) -> Result<Vec<u8>, AllocError>
         ensures { IfOk result (λ text. text.items ≡ state_text self.now.machine.world) }
     {

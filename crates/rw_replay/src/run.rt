@@ -19,7 +19,7 @@ use rw_text::ToolFault;
 use rw_types::{Sink, Source, read_to_end, write_all};
 use std::alloc::{AllocError, Global};
 
-/// The commands of a script.
+/// Returns the commands of a script.
 fn commands_of(alloc: Global, text: &[u8]) -> Result<Vec<Command>, ToolFault>
     ensures ok { IfOk result (λ commands. IsScript text.now (map order_of commands.items)) }
     ensures err { IfErr result (IsFaultOfText text.now) }
@@ -31,7 +31,7 @@ fn commands_of(alloc: Global, text: &[u8]) -> Result<Vec<Command>, ToolFault>
     }
 }
 
-/// Reads a script to its end, and answers its commands.
+/// Reads a script to its end, and returns its commands.
 fn read_commands<R: Source>(alloc: Global, reader: &mut R) -> Result<Vec<Command>, ToolFault>
     ensures ok { IfOk result
         (λ commands. ReadsScript (R.remaining reader.old) (R.remaining reader.new)
@@ -45,7 +45,7 @@ fn read_commands<R: Source>(alloc: Global, reader: &mut R) -> Result<Vec<Command
     commands_of(alloc, &text)
 }
 
-/// The text of the state that commands lead to.
+/// Returns the text of the state that commands lead to.
 fn state_after(
     alloc: Global,
     settings: Settings,
@@ -61,10 +61,12 @@ fn state_after(
     player.state()
 }
 
-/// Reads an event script and writes the state at its end: for each label set of which the receiver holds samples, by byte order of its
-/// list of (name, value), `received LABELS T=VALUE ..`; `dropped POS REASON` by position; `filtered COUNT`; `abandoned POS` by position;
-/// and `report ..`, each line ended by LF. A damaged log is told by the report, and is no fault of the run.
-/// All lines are read before the first one is carried out, and nothing is written before all are carried out.
+/// Reads an event script and writes the state at its end: for each label set of which the receiver
+/// holds samples, by byte order of its list of (name, value), `received LABELS T=VALUE ..`;
+/// `dropped POS REASON` by position; `filtered COUNT`; `abandoned POS` by position; and `report
+/// ..`, each line ended by LF. A damaged log shows in the report, and is not a fault of the run.
+/// All lines are read before the first one is carried out, and nothing is written before all are
+/// carried out.
 pub fn run_replay<R: Source, W: Sink>(
     alloc: Global,
     reader: &mut R,
@@ -78,14 +80,15 @@ pub fn run_replay<R: Source, W: Sink>(
     ensures writer_sound { OnOk result
         (W.has_failed writer.old ≡ false → W.has_failed writer.new ≡ false) }
 
-    // The only fault of the data is the first line that makes the text no script. Nothing is written then, or where memory ran out.
+    // The only fault of the data is the first line that is not a line of a script. Then nothing is
+    // written, nor if memory ran out.
     ensures line { (n : ℕ) → result ≡ Err (Line n)
         → ReadsBadLine (R.remaining reader.old) (R.remaining reader.new) n }
     ensures no_log { (f : TailFault) → result ≡ Err (Log f) → ⊥ }
     ensures no_full { result ≡ Err SegmentFull → ⊥ }
     ensures untouched { IfErr result (λ e. e ≢ Device → writer.new ≡ writer.old) }
 
-    // Where a device fails, the writer holds a beginning of the state.
+    // If a device fails, the writer holds a prefix of the state.
     ensures device { result ≡ Err Device
         → ((R.has_failed reader.new ≡ true) × (writer.new ≡ writer.old))
         ⊎ ((W.has_failed writer.new ≡ true)

@@ -12,7 +12,8 @@ use crate::ways::Ways;
 use rw_text::{TextFault, first_line};
 use std::alloc::{AllocError, Global};
 
-/// The command of a line; an empty line has none. It does not go with others that let the log grow in the other way.
+/// Returns the command of a line, or `None` for an empty line. A command that lets the log grow in
+/// another way than those before it is an error.
 fn next_command(alloc: Global, line: &[u8], ways: Ways) -> Result<Option<Command>, TextFault>
     ensures ok { IfOk result (λ found. MatchOption found (length line.now ≡ 0)
         (λ c. (0 < length line.now) × IsOrder line.now (order_of c)
@@ -40,8 +41,8 @@ fn add(commands: &mut Vec<Command>, command: Command) -> Result<(), AllocError>
     }
 }
 
-/// Reads the commands of a script: one a line, only LF ends a line, and empty lines are passed over. A script lets the log grow by `log` lines or
-/// by `feed` and `segment` lines, and not by both.
+/// Reads the commands of a script: one a line, only LF ends a line, and empty lines are skipped. A
+/// script lets the log grow by `log` lines or by `feed` and `segment` lines, but not by both.
 pub fn read_script(alloc: Global, text: &[u8]) -> Result<Vec<Command>, ScriptFault>
     ensures ok { IfOk result (λ commands. IsScript text.now (map order_of commands.items)) }
     ensures err { IfErr result (IsFaultOfScript text.now) }

@@ -14,7 +14,7 @@ flush N, take N, freeze N, send N, arrive N HOW, reply N, lost N, restart, resha
 
 const NUMBER: &str = "behind the word stands no whole number from 0 to 18446744073709551615";
 
-/// What is wrong with a line that is no event.
+/// Returns what is wrong with a line that is not an event.
 fn note_on(alloc: Global, line: &[u8]) -> Result<&'static str, AllocError> {
     let Some((word, rest)) = split_at_byte(line, b' ') else {
         return Ok(EVENTS);
@@ -31,7 +31,7 @@ fn note_on(alloc: Global, line: &[u8]) -> Result<&'static str, AllocError> {
     }
 }
 
-/// Whether a line is an event.
+/// Returns whether a line is an event.
 fn is_event(alloc: Global, line: &[u8]) -> Result<bool, AllocError>
     ensures yes { result ≡ Ok true → (o : Order) × IsOrder line.now o }
     ensures no { result ≡ Ok false → (o : Order) → IsOrder line.now o → ⊥ }
@@ -44,7 +44,8 @@ fn is_event(alloc: Global, line: &[u8]) -> Result<bool, AllocError>
     Ok(true)
 }
 
-/// What is wrong with a line of an event script, without its LF; nothing where it is an event. The words are advice.
+/// Returns what is wrong with a line of an event script, without its LF, or the empty text if it is
+/// an event. No clause says anything about the wording.
 pub fn script_line_note(alloc: Global, line: &[u8]) -> Result<Option<&'static str>, AllocError>
     ensures { IfOk result (λ note. MatchOption note
         ((o : Order) × IsOrder line.now o)

@@ -1,4 +1,4 @@
-//! Lines of a text, shown.
+//! Lines of a text, as they are shown.
 
 ghost use Rattle.std.specs.Prelude.{◌≡◌, ◌-◌, option_map, slice_get};
 ghost use Rattle.rw_text.specs.RecordLines.{lines};
@@ -6,10 +6,10 @@ ghost use Rattle.rw_text.specs.RecordLines.{lines};
 use rw_text::first_line;
 use std::alloc::{AllocError, Global};
 
-/// So many bytes of a line are shown.
+/// The most bytes of a line that are shown.
 const MOST_SHOWN: usize = 120;
 
-/// The line of this number of a text, counted from 1, without its LF.
+/// Returns the line of this number of a text, counted from 1, without its LF.
 pub fn numbered_line(text: &[u8], number: u64) -> Option<&[u8]>
     ensures { option_map (λ line. line.now) result ≡ slice_get (lines text.now) (number - 1) }
 {
@@ -26,7 +26,8 @@ pub fn numbered_line(text: &[u8], number: u64) -> Option<&[u8]>
     None
 }
 
-/// What is shown of a line: its first bytes as text, without the control characters of ASCII.
+/// Returns the text that is shown of a line: its first bytes, without the control characters of
+/// ASCII.
 pub fn shown_line(alloc: Global, line: &[u8]) -> Result<String, AllocError> {
     let mut shown = Vec::new(alloc);
     for byte in &line[..line.len().min(MOST_SHOWN)] {

@@ -8,7 +8,8 @@ use rw_state_text::{push_received, push_work};
 use rw_world::World;
 use std::alloc::{AllocError, Global};
 
-/// Adds a `received` line for each label set of which the receiver holds samples, by byte order of their lists of (name, value).
+/// Adds a `received` line for each label set of which the receiver holds samples, by byte order of
+/// their lists of (name, value).
 fn push_all_received(out: &mut Vec<u8>, world: &World) -> Result<(), AllocError>
     ensures { OnOk result (out.new.items ≡ out.old.items ++ store_text world.now.world.head.store) }
 {
@@ -20,7 +21,7 @@ fn push_all_received(out: &mut Vec<u8>, world: &World) -> Result<(), AllocError>
     Ok(())
 }
 
-/// The state of a world as text, one fact a line.
+/// Returns the state of a world as text, one fact a line.
 pub(crate) fn text_of(alloc: Global, world: &World) -> Result<Vec<u8>, AllocError>
     ensures { IfOk result (λ text. text.items ≡ state_text world.now.world) }
 {

@@ -15,7 +15,7 @@ impl Ways {
     ghost use Rattle.rw_replay.specs.ScriptText.{order_of};
     ghost use Rattle.rw_replay.specs.Ways.{are_both, with_order};
 
-    /// The ways once this command has come, too.
+    /// Returns the ways with that of this command.
     pub(crate) fn with(self, command: &Command) -> Ways
         ensures { result ≡ with_order self (order_of command.now) }
     {
@@ -29,7 +29,7 @@ impl Ways {
         }
     }
 
-    /// Whether both are used.
+    /// Returns whether both are used.
     pub(crate) fn are_both(self) -> bool
         ensures { result ≡ are_both self }
     {

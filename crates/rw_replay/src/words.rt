@@ -22,7 +22,7 @@ pub(crate) enum BareWord {
 }
 
 impl BareWord {
-    /// The word that is this text.
+    /// Returns the word that this text is.
     pub(crate) fn read(text: &[u8]) -> Option<BareWord>
         ensures { MatchOption result ((word : BareWord) → text.now ≡ bare_text word
             → ⊥) (λ word. text.now ≡ bare_text word) }
@@ -41,7 +41,7 @@ impl BareWord {
         }
     }
 
-    /// What the word asks for.
+    /// Returns what the word asks for.
     pub(crate) fn command(self) -> Command
         ensures { order_of result ≡ bare self }
     {
@@ -69,7 +69,7 @@ pub(crate) enum NumberedWord {
 }
 
 impl NumberedWord {
-    /// The word that is this text.
+    /// Returns the word that this text is.
     pub(crate) fn read(text: &[u8]) -> Option<NumberedWord>
         ensures { MatchOption result ((word : NumberedWord) → text.now ≡ numbered_text word
             → ⊥) (λ word. text.now ≡ numbered_text word) }
@@ -89,7 +89,7 @@ impl NumberedWord {
         }
     }
 
-    /// The event of this number that the word asks for.
+    /// Returns the event of this number that the word asks for.
     pub(crate) fn event(self, number: u64) -> Event
         ensures { order_of_event result ≡ numbered self number }
     {
@@ -105,7 +105,7 @@ impl NumberedWord {
     }
 }
 
-/// The way of answering that is this text.
+/// Returns the way of answering that this text names.
 pub(crate) fn read_how(text: &[u8]) -> Option<How>
     ensures { MatchOption result ((how : How) → text.now ≡ how_text how → ⊥)
         (λ how. text.now ≡ how_text how) }

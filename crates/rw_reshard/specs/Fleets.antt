@@ -2,14 +2,16 @@
 use Rattle.std.specs.Prelude.{◌≡◌, ℕ, ◌+◌, ◌≤◌, List, ◌++◌, length, take, drop, Some, slice_get}
 use Rattle.rw_types.specs.Beginnings.{Begins}
 
--- the shards of an epoch, and those that were made for the next one, which is to have so many
+-- the shards of an epoch, and those that were made for the next one, with the number that it is to
+-- have
 pub record Shards (S : Type 0) : Type 0 where
   pub epoch : ℕ
   pub running : List S
   pub wanted : ℕ
   pub made : List S
 
--- the same, where other shards were written over the first n; there are n of them when a slice was lent
+-- the same, if other shards were written over the first n; there are n of them when a slice was
+-- lent
 abbrev pub refilled : {S : Type 0} → ℕ → Shards S → List S → Shards S
 refilled n f shards = record f { running = take n (shards ++ drop (length shards) f.running) }
 

@@ -2,7 +2,7 @@
 use Rattle.std.specs.Prelude.{ℕ, ◌+◌, ◌*◌, min, max, ◌==◌, nat_lt, if◌then◌else◌}
 use Rattle.std.specs.Int.{div_ceil, abs_diff}
 
--- a number, brought into a range
+-- a number, limited to a range
 abbrev pub within : ℕ → ℕ → ℕ → ℕ
 within least most n = min (max least n) most
 
@@ -10,11 +10,12 @@ within least most n = min (max least n) most
 abbrev pub desired : ℕ → ℕ → ℕ → ℕ → ℕ → ℕ → ℕ
 desired n placed resolved backlog least most = within least most (div_ceil (n * (placed + backlog)) resolved)
 
--- a new number is taken where it differs from the present one by more than three tenths of this
+-- a new number is taken if it differs from the present one by more than three tenths of this
 abbrev pub if_far : ℕ → ℕ → ℕ
 if_far n new = if nat_lt (3 * n) (10 * abs_diff new n) then new else n
 
--- the shards that are wanted where there are n, after so many samples were placed and resolved; while none is resolved, as many as there are
+-- the shards that are wanted if there are n, after these numbers of samples were placed and
+-- resolved; while none is resolved, as many as there are
 abbrev pub wanted : ℕ → ℕ → ℕ → ℕ → ℕ → ℕ → ℕ
 wanted n placed resolved backlog least most =
     let now = within least most n in

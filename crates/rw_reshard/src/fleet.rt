@@ -62,7 +62,7 @@ impl<S, G: Stage> Model for Fleet<S, G> {
     ghost invariant = { λ f. G.allows (length f.made.items) f.wanted };
 }
 
-/// Makes the next shard of `epoch`, behind those that there are.
+/// Makes the next shard of `epoch`, after those that there are.
 fn make_shard<M: Make>(make: &mut M, epoch: u64, shards: &mut Vec<M::S>) -> Result<(), AllocError>
     requires within { length shards.old.items < 1000 }
     requires fresh { AreNew M.is_new epoch shards.old.items }
@@ -77,7 +77,7 @@ fn make_shard<M: Make>(make: &mut M, epoch: u64, shards: &mut Vec<M::S>) -> Resu
     Ok(())
 }
 
-/// Makes shards of `epoch` behind those that there are, until there are `wanted`.
+/// Makes shards of `epoch` after those that there are, until there are `wanted`.
 fn make_shards<M: Make>(
     make: &mut M,
     epoch: u64,
@@ -98,7 +98,7 @@ fn make_shards<M: Make>(
     Ok(())
 }
 
-/// Whether all shards are drained.
+/// Returns whether all shards are drained.
 fn all_drained<S: Shard>(shards: &[S]) -> bool
     ensures { result ≡ list_all S.is_drained shards.now }
 {
@@ -106,7 +106,7 @@ fn all_drained<S: Shard>(shards: &[S]) -> bool
 }
 
 impl<S, G: Stage> Fleet<S, G> {
-    /// The shards of this epoch, in the order of their numbers.
+    /// Returns the shards of this epoch, in the order of their numbers.
     pub fn shards_mut(&mut self) -> &mut [S]
         ensures* writes_back { sem 𝓛 (lends_shards S.row G.row G.Stage self.entry result) }
         ensures shards { result.now ≡ self.old.running }
@@ -114,7 +114,7 @@ impl<S, G: Stage> Fleet<S, G> {
         self.running.as_mut_slice()
     }
 
-    /// The shards of this epoch, and those of the next one that a refused `next` has made.
+    /// Returns the shards of this epoch, and those of the next one that a failed `next` has made.
     pub fn into_shards(self) -> (Vec<S>, Vec<S>)
         ensures running { result.0.items ≡ self.running }
         ensures made { result.1.items ≡ self.made }
@@ -132,7 +132,7 @@ impl<S, G: Stage> Fleet<S, G> {
 }
 
 impl<S: Shard> Fleet<S, Running> {
-    /// The `n` shards of epoch 0. Where memory runs out, those that were made come back.
+    /// Returns the `n` shards of epoch 0. If memory runs out, those that were made come back.
     pub fn first<M: Make<S = S>>(
         alloc: Global,
         n: u32,
@@ -158,7 +158,7 @@ impl<S: Shard> Fleet<S, Running> {
         })
     }
 
-    /// Begins the change to `n` shards: from here on the shards work off what they have.
+    /// Begins the change to `n` shards: from here on the shards only finish what they have.
     pub fn begin(self, n: u32) -> Fleet<S, Draining>
         requires some { 1 ≤ n }
         requires most { n ≤ 1000 }
@@ -184,8 +184,10 @@ impl<S: Shard> Fleet<S, Running> {
 }
 
 impl<S: Shard> Fleet<S, Draining> {
-    /// Makes the next epoch's shards, and returns them with the old ones. No new shard is made before all old ones are drained; until then the
-    /// error is `NotDrained`, and nothing changes. After `OutOfMemory` the shards that were made are kept, and the next call goes on from there.
+    /// Makes the next epoch's shards, and returns them with the old ones. No new shard is made
+    /// before all old ones are drained; until then the error is `NotDrained`, and nothing changes.
+    /// After `OutOfMemory` the shards that were made are kept, and the next call goes on from
+    /// there.
     pub fn next<M: Make<S = S>>(
         self,
         make: &mut M,

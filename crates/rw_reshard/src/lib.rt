@@ -1,4 +1,5 @@
-//! The shards of a sender, epoch by epoch: how many are wanted, and no new ones before the old ones are drained.
+//! The shards of a sender, epoch by epoch: how many are wanted, and no new ones before the old ones
+//! are drained.
 #![tactic(auto)]
 
 mod fleet;

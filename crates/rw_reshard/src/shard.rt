@@ -1,4 +1,4 @@
-//! What a shard tells, and what makes one.
+//! A shard, and what makes one.
 
 ghost use Rattle.std.specs.Prelude.{◌≡◌, ℕ, Bool, IfOk};
 
@@ -9,7 +9,7 @@ pub trait Shard {
     /// Whether its queue's end was taken and all its samples are resolved.
     ghost is_drained: { Self → Bool };
 
-    /// Whether the End of its queue was taken, and all its samples are resolved.
+    /// Returns whether the End of its queue was taken and all its samples are resolved.
     fn drained(&self) -> bool
         ensures { result ≡ is_drained self.now };
 }

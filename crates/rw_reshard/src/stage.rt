@@ -4,7 +4,8 @@ ghost use Rattle.std.specs.Prelude.{◌≡◌, ◌≤◌, ℕ};
 
 /// What the shards of a fleet do: `Running` or `Draining`.
 pub trait Stage {
-    /// Whether the stage allows it that this many shards of the next epoch were made, where that many are wanted.
+    /// Whether the stage allows that this many shards of the next epoch were made, if that many are
+    /// wanted.
     ghost allows: { ℕ → ℕ → Type 0 };
 }
 
@@ -16,7 +17,7 @@ impl Stage for Running {
     ghost allows = { λ made wanted. made ≡ 0 };
 }
 
-/// The shards work off what they have, and the next epoch is to come.
+/// The shards finish what they have, and the next epoch is to come.
 #[derive(Debug)]
 pub struct Draining;
 

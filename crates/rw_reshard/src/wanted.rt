@@ -3,7 +3,7 @@
 ghost use Rattle.std.specs.Prelude.{◌≡◌, ◌≤◌};
 ghost use Rattle.rw_reshard.specs.Wanted.{within, desired, wanted};
 
-/// A number, brought into a range.
+/// Returns a number, limited to a range.
 fn bring_within(n: u128, min: u32, max: u32) -> u32
     requires { min ≤ max }
     ensures { result ≡ within min max n }
@@ -11,7 +11,7 @@ fn bring_within(n: u128, min: u32, max: u32) -> u32
     n.max(min as u128).min(max as u128) as u32
 }
 
-/// How many shards would have resolved what was placed, and the backlog with it.
+/// Returns how many shards would have resolved what was placed and the backlog.
 fn desire(now: u32, placed: u64, resolved: u64, backlog: u64, min: u32, max: u32) -> u32
     requires range { min ≤ max }
     requires some { 1 ≤ resolved }
@@ -21,9 +21,11 @@ fn desire(now: u32, placed: u64, resolved: u64, backlog: u64, min: u32, max: u32
     bring_within(work.div_ceil(resolved as u128), min, max)
 }
 
-/// How many shards are wanted, from `min` to `max`, where there are `n`. First `n` is brought into the range. Then so many that they would have
-/// resolved the `placed` samples and the `backlog` while that many resolved `resolved` samples; where this differs by three tenths or less, or
-/// nothing is resolved yet, that number itself. This takes no memory.
+/// Returns how many shards are wanted, from `min` to `max`, if there are `n`. First `n` is limited
+/// to the range. The answer is then the number of shards that would have resolved the `placed`
+/// samples and the `backlog` in the time in which that many resolved `resolved` samples. If this
+/// differs from `n` by three tenths or less, or nothing is resolved yet, the answer is `n` itself.
+/// This takes no memory.
 pub fn want(n: u32, placed: u64, resolved: u64, backlog: u64, min: u32, max: u32) -> u32
     requires some { 1 ≤ n }
     requires least { 1 ≤ min }

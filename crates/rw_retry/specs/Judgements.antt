@@ -1,4 +1,4 @@
--- What a sender makes of a reply (Remote-Write 1.0, "Retries & backoff").
+-- How a sender judges a reply (Remote-Write 1.0, "Retries & backoff").
 use Rattle.std.specs.Prelude.{ℕ, ◌+◌, ◌||◌, Bool, ◌==◌, nat_le, nat_lt, ◌&&◌, if◌then◌else◌}
 use Rattle.rw_retry.specs.declared.judgement.Judgement.{Judgement}
 use Rattle.rw_retry.specs.declared.judgement.Judgement.TheVariants.{Done, Again, Refused}

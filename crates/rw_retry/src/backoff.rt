@@ -10,8 +10,9 @@ fn power_of_two(exponent: u64) -> u64
     1 << exponent
 }
 
-/// How many milliseconds to wait before retry number `retry` of a batch, counted from 0: `min_backoff` at first, twice as long each time, and at
-/// most `max_backoff`. This takes no memory.
+/// Returns how many milliseconds to wait before retry number `retry` of a batch, counted from 0:
+/// `min_backoff` at first, twice as long each time, and at most `max_backoff`. This takes no
+/// memory.
 pub fn delay(min_backoff: u64, max_backoff: u64, retry: u64) -> u64
     requires { min_backoff ≤ max_backoff }
     ensures { result ≡ delay_of min_backoff max_backoff retry }

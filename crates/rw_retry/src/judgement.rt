@@ -10,13 +10,14 @@ use http::StatusCode;
 pub enum Judgement {
     /// 2xx: the receiver has it.
     Done,
-    /// 429 and 5xx: it is sent again, the same bytes.
+    /// 429 and 5xx: it is sent again, with the same bytes.
     Again,
     /// Any other status: the receiver will never take it.
     Refused,
 }
 
-/// What a reply of this status means for its batch (Remote-Write 1.0, "Retries & backoff"). This takes no memory.
+/// Returns what a reply of this status means for its batch (Remote-Write 1.0, "Retries & backoff").
+/// This takes no memory.
 pub fn judge(status: StatusCode) -> Judgement
     ensures { result ≡ judgement_of status }
 {

@@ -1,4 +1,5 @@
-//! What a sender makes of a reply, and how long it waits before it sends again (Remote-Write 1.0, "Retries & backoff").
+//! How a sender judges a reply, and how long it waits before it sends again (Remote-Write 1.0,
+//! "Retries & backoff").
 #![tactic(auto)]
 
 mod backoff;

@@ -47,7 +47,7 @@ pub turned : {S : Type 0} (status : ℕ) (old : S) (bytes : List ℕ) (new : S) 
 turned status old bytes new how read (unasked, closed, refusal, contents) r =
     (read_of bytes status read contents (or_right (is_verdict status) (is_refusal status) refusal) r, unasked)
 
--- where nothing was written, nothing was asked
+-- if nothing was written, nothing was asked
 pub unheard : {S : Type 0} (answers : S → List ℕ → ℕ → S → Type 0) (body : List ℕ) (old : S) (contents : Option (List ℕ)) (new : S) (how : ServeEnd) →
     IsServedAlone answers body old [] contents new how → how ≡ OutOfMemory → new ≡ old
 unheard answers body old contents new how (inl (closed, status, given, verdict, e)) is = absurd (cc)

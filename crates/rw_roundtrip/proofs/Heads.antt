@@ -3,7 +3,7 @@ use Rattle.std.specs.Prelude.{ℕ, List, [], ◌∷◌, codes}
 use Rattle.httparse.specs.Ascii.{space}
 use Rattle.httparse.specs.Grammar.{crlf, Field, RequestHead}
 
--- a field line: one space stands before the value
+-- a field line: one space is before the value
 abbrev pub field : List ℕ → List ℕ → Field
 field name value = record { name = name; raw = space ∷ value; end = crlf }
 

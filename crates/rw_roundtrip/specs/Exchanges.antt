@@ -1,4 +1,5 @@
--- One request and its reply (RFC 9112, section 9.3): what the endpoint makes of it, and the status that is read in its reply.
+-- One request and its reply (RFC 9112, section 9.3): what the endpoint makes of it, and the status
+-- that is read in its reply.
 use Rattle.std.specs.Prelude.{◌≡◌, ℕ, ◌⊎◌, List, IsTrue, Result, Ok, Err}
 use Rattle.std.specs.declared.alloc.AllocError.{AllocError}
 use Rattle.rw_endpoint.specs.Alone.{IsOneRequest, IsOneRefusal}
@@ -8,12 +9,12 @@ use Rattle.rw_endpoint.specs.Replies.{is_verdict}
 abbrev pub IsRequest : List ℕ → ℕ → List ℕ → Type 0
 IsRequest path limit input = ((body : List ℕ) × IsOneRequest path limit input body) ⊎ ((status : ℕ) × IsOneRefusal path limit input status)
 
--- the body was answered with this status; or memory was refused, and it was not asked
+-- the body was answered with this status; or memory ran out, and nothing was asked
 abbrev pub IsAnswered : {S : Type 0} → (S → List ℕ → ℕ → S → Type 0) → List ℕ → S → Result ℕ AllocError → S → Type 0
 IsAnswered answers body old (Ok status) new = answers old body status new × IsTrue (is_verdict status)
 IsAnswered answers body old (Err e) new = new ≡ old
 
--- nothing was asked, and the status is this one, unless memory was refused
+-- nothing was asked, and the status is this one, unless memory ran out
 abbrev pub IsRefused : {S : Type 0} → ℕ → S → Result ℕ AllocError → S → Type 0
 IsRefused status old (Ok read) new = (read ≡ status) × (new ≡ old)
 IsRefused status old (Err e) new = new ≡ old

@@ -13,7 +13,8 @@ use std::alloc::{AllocError, Global};
 /// The most bytes of a reply.
 const REPLY_ROOM: usize = 86;
 
-/// The status with which the endpoint replies to one request, as a sender reads it. Both work in memory, without a connection.
+/// Returns the status with which the endpoint replies to one request, as a sender reads it. Both
+/// work in memory, without a connection.
 ///
 /// An `Err` means that memory ran out, and then `answer` was not asked.
 pub fn exchange<A: Answer>(

@@ -11,7 +11,8 @@ ghost use Rattle.rw_endpoint.specs.Judgement.{is_refusal};
 ghost use Rattle.rw_endpoint.specs.Replies.{reply, is_verdict};
 ghost use Rattle.rw_roundtrip.specs.Exchanges.{IsRequest};
 
-/// Law: the endpoint reads a request as the sender makes it, as one request with the body that it carries; where that is over the limit, it answers 413.
+/// Law: the endpoint reads a request as the sender makes it, as one request with the body that it
+/// carries; if that is over the limit, it answers 413.
 pub fn requests_are_read()
     ensures read { (host path body : List ℕ) (limit : ℕ) → is_host_name host ≡ true
         → is_request_path path ≡ true

@@ -1,4 +1,5 @@
-//! The requests of the sender as the endpoint of the receiver reads them, and an exchange between the two in memory.
+//! The requests of the sender as the endpoint of the receiver reads them, and an exchange between
+//! the two in memory.
 #![tactic(auto)]
 
 mod in_memory;

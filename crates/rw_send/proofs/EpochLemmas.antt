@@ -61,7 +61,7 @@ same_length [] (q ∷ qs) same = absurd same
 same_length (p ∷ ps) [] same = absurd same
 same_length (p ∷ ps) (q ∷ qs) same = let rest = same_length ps qs same.2 in omega (arith, rest)
 
--- where there are shards
+-- if there are shards
 pub compared_resolved : {T : Type 0} (old new : Shipping T) → (new.fleet ≡ old.fleet) ⊎ HasCompared old.fleet new.fleet → 1 ≤ length new.fleet.current → AreResolved old.fleet.ended → AreResolved new.fleet.ended
 compared_resolved {T} old new (inl same) some done = subst (λ (f : Shards T). AreResolved f.ended) (sym same) done
 compared_resolved old new (inr (all, by, inl none)) some done = let no : ⊥ = omega (arith, ap length none, some) in absurd no

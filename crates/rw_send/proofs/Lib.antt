@@ -2,7 +2,7 @@ pub mod AnswerLemmas
 pub mod FollowLemmas
 pub mod PrintLemmas
 pub mod EpochLemmas
-pub mod HaltLemmas
+pub mod FeedErrorLemmas
 pub mod PartLemmas
 pub mod SegmentLemmas
 pub mod ShortLemmas

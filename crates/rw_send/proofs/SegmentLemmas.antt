@@ -1,4 +1,4 @@
--- The segments that pieces tell.
+-- The segments that pieces make.
 use Rattle.std.proofs.Common.{◌≡◌, ℕ, Bool, true, false, List, [], ◌∷◌, ◌++◌, map, Option, Some, None, refl, sym, ap, ◌∙◌, subst, append_assoc, append-nil}
 use Rattle.std.specs.Io.KnownBytes.{Consumes, IsAtEnd}
 use Rattle.rw_wal_format.specs.Pieces.{Piece, bytes, next_segment}

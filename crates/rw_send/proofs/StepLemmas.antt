@@ -28,7 +28,7 @@ stays_kept {T} old new h = (h.choice, ap (λ (f : Shards T). f.config) h.fleet)
 pub between : (P : ℕ → ℕ → Type 0) {least greatest fewest most : ℕ} → least ≡ fewest → greatest ≡ most → P least greatest → P fewest most
 between P {least} {greatest} {fewest} {most} f m h = subst (λ (k : ℕ). P k most) f (subst (λ (k : ℕ). P least k) m h)
 
--- ---- a segment, and then those behind it
+-- ---- a segment, and then those after it
 
 pub some_more : {A B : Type 0} (f : A → B) (xs : List A) (left : ℕ) → left ≡ length xs → is_some_more (map f xs) ≡ nat_lt 0 left
 some_more f [] left e = ap (nat_lt 0) (sym e)

@@ -1,6 +1,6 @@
 pub mod Following
 pub mod ReportText
 pub mod Sending
-pub mod Halting
+pub mod FeedErrors
 pub mod Segments
 pub mod Steps

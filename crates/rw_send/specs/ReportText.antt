@@ -19,7 +19,7 @@ names_in parts = flat_map (λ (part : Named). entries part.names) parts
 abbrev pub AreByPosition : List (ℕ × Reason) → List (ℕ × Reason) → Type 0
 AreByPosition names sorted = IsPermutation names sorted × IsNonDecreasingBy (λ (name : ℕ × Reason). name.0) sorted
 
--- the end that an outcome tells, with the samples that are not resolved by position
+-- the end that an outcome is, with the samples that are not resolved by position
 abbrev pub IsEnding : Outcome → Ending → Type 0
 IsEnding (outcome.Complete end) ending = ending ≡ Complete end
 IsEnding (outcome.Abandoned placed samples) ending =
@@ -34,7 +34,7 @@ pub record IsTextOf {T : Type 0} (r : Report T) (text : List ℕ) : Type 0 where
   pub ends : IsEnding r.outcome ending
   pub text_is : text ≡ work_text names r.filtered (Some ending)
 
--- a beginning of the text was written
+-- a prefix of the text was written
 pub record WritesPart {T : Type 0} (r : Report T) (before after : Option (List ℕ)) : Type 0 where
   pub text : List ℕ
   pub text_of : IsTextOf r text

@@ -1,9 +1,10 @@
--- The pieces of a log that stands in several segments.
+-- The pieces of a log that is in several segments.
 use Rattle.std.specs.Prelude.{◌≡◌, ℕ, ◌<◌, ◌≤◌, Bool, true, false, List, [], ◌∷◌, ◌++◌, length, Option, Some, None, ⊤}
 use Rattle.std.specs.Io.KnownBytes.{Consumes}
 use Rattle.rw_wal_format.specs.Pieces.{Piece, bytes, next_segment}
 
--- the text of each segment that pieces tell: the bytes between two words of a next segment, joined; here after some text of the first one
+-- the text of each segment that pieces make: the bytes between two ends of segments, joined; here
+-- after some text of the first one
 abbrev pub texts_after : List ℕ → List Piece → List (List ℕ)
 texts_after text [] = text ∷ []
 texts_after text (bytes b ∷ pieces) = texts_after (text ++ b) pieces
@@ -21,7 +22,7 @@ abbrev pub AreShort : List Piece → Type 0
 AreShort [] = ⊤
 AreShort (piece ∷ pieces) = IsShort piece × AreShort pieces
 
--- a reader gave all that it had left, where that is known
+-- a reader returned all that it had left, if that is known
 abbrev pub IsAllOf : Option (List ℕ) → List ℕ → Type 0
 IsAllOf None text = ⊤
 IsAllOf (Some left) text = text ≡ left
@@ -33,7 +34,8 @@ AreAllOf [] (text ∷ texts) = ⊥
 AreAllOf (left ∷ lefts) [] = ⊥
 AreAllOf (left ∷ lefts) (text ∷ texts) = IsAllOf left text × AreAllOf lefts texts
 
--- one segment for each reader, in order, with all that it had left; no piece where there is no reader
+-- one segment for each reader, in order, with all that it had left; no piece if there is no
+-- reader
 abbrev pub IsLogOf : List (Option (List ℕ)) → List Piece → Type 0
 IsLogOf [] pieces = pieces ≡ []
 IsLogOf (left ∷ lefts) pieces = AreAllOf (left ∷ lefts) (texts pieces)
@@ -47,7 +49,7 @@ abbrev pub HasMoreBytes : List (Option (List ℕ)) → List Piece → Type 0
 HasMoreBytes lefts pieces = (rest : List ℕ) × (later : List Piece) × (0 < length rest)
     × IsLogOf lefts (pieces ++ bytes rest ∷ later)
 
--- before a segment's bytes stands word of it, unless it is the first
+-- the end of the segment before comes before a segment's bytes, unless it is the first
 abbrev pub OpensSegment : Bool → List Piece → List Piece → Type 0
 OpensSegment true old new = new ≡ old
 OpensSegment false old new = new ≡ old ++ next_segment ∷ []
@@ -64,7 +66,7 @@ pub record IsFed (left : Option (List ℕ)) (old new : List Piece) : Type 0 wher
   pub is_more : IsMore text more
   pub all : IsAllOf left text
 
--- a beginning of it was fed
+-- a prefix of it was fed
 pub record IsFedPart (left : Option (List ℕ)) (old new : List Piece) : Type 0 where
   pub text : List ℕ
   pub rest : List ℕ
@@ -77,11 +79,11 @@ pub record IsFedPart (left : Option (List ℕ)) (old new : List Piece) : Type 0 
 abbrev pub IsFedLess : Option (List ℕ) → List Piece → List Piece → Type 0
 IsFedLess left old new = (part : IsFedPart left old new) × (0 < length part.rest)
 
--- a reader gave some bytes
+-- a reader returned some bytes
 abbrev pub IsSomeRead : Option (List ℕ) → Option (List ℕ) → Type 0
 IsSomeRead before after = (text : List ℕ) × (0 < length text) × Consumes before after text
 
--- a reader gave some bytes more, and they were fed
+-- a reader returned some bytes more, and they were fed
 pub record IsFedMore (left_before left_after : Option (List ℕ)) (old new : List Piece) : Type 0 where
   pub text : List ℕ
   pub consumed : Consumes left_before left_after text

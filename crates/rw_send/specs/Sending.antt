@@ -15,8 +15,8 @@ use Rattle.rw_sender.specs.Shipping.{Shipping, PlacesAll, HasStopped}
 use Rattle.rw_sender.specs.declared.report.Report.{Report}
 use Rattle.rw_text.specs.declared.tool_fault.ToolFault.{ToolFault}
 use Rattle.rw_text.specs.declared.tool_fault.ToolFault.TheVariants as fault
-use Rattle.rw_send.specs.declared.halt.Halt.{Halt}
-use Rattle.rw_send.specs.declared.halt.Halt.TheVariants as halt
+use Rattle.rw_send.specs.declared.feed_error.FeedError.{FeedError}
+use Rattle.rw_send.specs.declared.feed_error.FeedError.TheVariants as error
 use Rattle.rw_send.specs.ReportText.{IsTextOf, WritesPart}
 use Rattle.rw_send.specs.Segments.{AreShort, AreSure, HasMoreBytes, IsBeginningOf, IsLogOf}
 use Rattle.rw_send.specs.Steps.{AreShipped, AreShippedPart, HasLastEpoch, HasStarted}
@@ -28,7 +28,7 @@ EndsFor cause s r =
     EndBy Orderly s.fleet r.workers.items
     ⊎ (EndBy Hard s.fleet r.workers.items × IsAbandoned r.outcome × (IsSome s.fault ⊎ cause))
 
--- work is abandoned only where a worker was cut, the shipper failed, or for this cause
+-- work is abandoned only if a worker was cut, the shipper failed, or for this cause
 abbrev pub IsCutFor : {T : Type 0} → (cause : Type 0) → Shipping T → Report T → Type 0
 IsCutFor cause s r =
     IsAbandoned r.outcome → ListsCut r.workers.items ⊎ (IsSome s.fault ⊎ cause)
@@ -64,8 +64,9 @@ answer_to (outcome.Complete end) = Ok tt
 answer_to (outcome.Abandoned placed samples) = Err fault.OutOfMemory
 answer_to (outcome.Damaged f) = Err (fault.Log f)
 
--- How a run answers whose report has this outcome: all is well only where the log was fed whole and the outcome is complete, a fault of the log
--- is that of the outcome, and otherwise the work is abandoned; for a device's fault only where one can fail.
+-- How a run answers whose report has this outcome: all is well only if the log was fed whole and
+-- the outcome is complete, a fault of the log is that of the outcome, and otherwise the work is
+-- abandoned; for a device's fault only if one can fail.
 abbrev pub Answers : (whole unsure : Type 0) → Outcome → Result (Unit {0}) ToolFault → Type 0
 Answers whole unsure o (Ok u) = IsComplete o × whole
 Answers whole unsure o (Err (fault.Log f)) = o ≡ outcome.Damaged f
@@ -74,7 +75,7 @@ Answers whole unsure o (Err fault.Device) = IsAbandoned o × unsure
 Answers whole unsure o (Err (fault.Line n)) = ⊥
 Answers whole unsure o (Err fault.SegmentFull) = ⊥
 
--- why a run that answers so was stopped at once: memory for a piece was refused, or a read failed
+-- why a run that answers so was stopped at once: memory for a piece ran out, or a read failed
 abbrev pub StopsAtOnce : (refused unsure : Type 0) → Result (Unit {0}) ToolFault → Type 0
 StopsAtOnce refused unsure (Ok u) = ⊥
 StopsAtOnce refused unsure (Err (fault.Log f)) = ⊥
@@ -83,8 +84,8 @@ StopsAtOnce refused unsure (Err fault.Device) = unsure
 StopsAtOnce refused unsure (Err (fault.Line n)) = ⊥
 StopsAtOnce refused unsure (Err fault.SegmentFull) = ⊥
 
--- A beginning of the segments that readers had left, which are sure or not, was shipped in short pieces, and after each segment the number of shards was
--- set; with this report and this answer.
+-- A prefix of the segments that readers had left, which are sure or not, was shipped in short
+-- pieces, and after each segment the number of shards was set; with this report and this answer.
 pub record IsSent {T : Type 0} (tells : T → Type 0) (seen : T → List Exchange) (is_for : ℕ → ℕ → T → Type 0) (c : ConfigFields) (limit : Option ℕ) (lefts : List (Option (List ℕ))) (sures : List Bool) (r : Report T) (answer : Result (Unit {0}) ToolFault) : Type 0 where
   pub pieces : List Piece
   pub begins : IsBeginningOf lefts pieces
@@ -104,7 +105,7 @@ pub record IsPrinted {T : Type 0} (tells : T → Type 0) (seen : T → List Exch
   pub text_of : IsTextOf report text
   pub written : Appends before after text
 
--- a beginning of it was written
+-- a prefix of it was written
 pub record IsPrintedPart {T : Type 0} (tells : T → Type 0) (seen : T → List Exchange) (is_for : ℕ → ℕ → T → Type 0) (c : ConfigFields) (limit : Option ℕ) (lefts : List (Option (List ℕ))) (sures : List Bool) (before after : Option (List ℕ)) : Type 0 where
   pub answer : Result (Unit {0}) ToolFault
   pub report : Report T
@@ -112,8 +113,10 @@ pub record IsPrintedPart {T : Type 0} (tells : T → Type 0) (seen : T → List 
   pub part : WritesPart report before after
 
 -- for this fault the work is stopped at once; a damaged log is shipped as far as it goes
-abbrev pub hard_fault : Result (Unit {0}) Halt → Option ToolFault
+abbrev pub hard_fault : Result (Unit {0}) FeedError → Option ToolFault
 hard_fault (Ok u) = None
-hard_fault (Err (halt.Damaged f)) = None
-hard_fault (Err halt.Failed) = Some fault.OutOfMemory
-hard_fault (Err halt.Unreadable) = Some fault.Device
+hard_fault (Err (error.Damaged f)) = None
+hard_fault (Err error.Failed) = Some fault.OutOfMemory
+hard_fault (Err error.Unreadable) = Some fault.Device
+hard_fault (Err (error.Missing n)) = Some fault.Device
+hard_fault (Err error.Aborted) = Some fault.Device

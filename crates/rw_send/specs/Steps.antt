@@ -23,11 +23,11 @@ pub record StaysOpen {T : Type 0} (old new : Shipping T) : Type 0 where
 abbrev pub IsKept : {T : Type 0} → Shipping T → Shipping T → Type 0
 IsKept old new = (new.log.choice ≡ old.log.choice) × (new.fleet.config ≡ old.fleet.config)
 
--- how many shards are wanted where there are n, under this load
+-- how many shards are wanted if there are n, under this load
 abbrev pub wanted_under : (fewest most n : ℕ) → Load → ℕ
 wanted_under fewest most n load = wanted n load.placed load.resolved load.backlog fewest most
 
--- the same, by what was placed and resolved beyond so much
+-- the same, by what was placed and resolved beyond these numbers
 abbrev pub wanted_since : (fewest most n placed resolved : ℕ) → Load → ℕ
 wanted_since fewest most n placed resolved load = wanted n (load.placed - placed) (load.resolved - resolved) load.backlog fewest most
 
@@ -38,7 +38,8 @@ pub record IsNextEpoch {T : Type 0} (old new : Shards T) : Type 0 where
   pub epoch : new.epoch ≡ old.epoch + 1
   pub fresh : AreFresh new.epoch new.current
 
--- where more is to come, there are as many shards as are wanted under the load; where there were as many before, all stays as it is
+-- if more is to come, there are as many shards as are wanted under the load; if there were as
+-- many before, all stays as it is
 pub record IsSet {T : Type 0} (more : Bool) (fewest most : ℕ) (old new : Shipping T) : Type 0 where
   pub load : Load
   pub advised : IsLoad old.fleet load
@@ -53,7 +54,8 @@ pub record IsSet {T : Type 0} (more : Bool) (fewest most : ℕ) (old new : Shipp
 abbrev pub HasPutAll : {T : Type 0} → Shipping T → Type 0
 HasPutAll s = (s.log.placed ≡ entries s.log.pieces) × PlacesAll s.log s.fleet
 
--- all that a reader had left was fed, behind word of a next segment unless it is the first, and then the number of shards was set, where more is to come
+-- all that a reader had left was fed, after the end of the segment before unless it is the first,
+-- and then the number of shards was set, if more is to come
 pub record IsShipped {T : Type 0} (fewest most : ℕ) (first : Bool) (left : Option (List ℕ)) (more : Bool) (old new : Shipping T) : Type 0 where
   pub begun : List Piece
   pub begins : OpensSegment first old.log.pieces begun
@@ -67,12 +69,13 @@ abbrev pub is_some_more : {A : Type 0} → List A → Bool
 is_some_more [] = false
 is_some_more (x ∷ xs) = true
 
--- so the segments of these readers, in order
+-- the same for the segments of these readers, in order
 abbrev pub AreShipped : {T : Type 0} → (fewest most : ℕ) → Bool → List (Option (List ℕ)) → Shipping T → Shipping T → Type 0
 AreShipped fewest most first [] old new = new ≡ old
 AreShipped {T} fewest most first (left ∷ lefts) old new = (next : Shipping T) × IsShipped fewest most first left (is_some_more lefts) old next × AreShipped fewest most false lefts next new
 
--- the reading halted before a segment or within it, or the number of shards could not be set behind it
+-- the reading halted before a segment or within it, or the number of shards could not be set after
+-- it
 pub record HasHalted {T : Type 0} (first : Bool) (left : Option (List ℕ)) (old new : Shipping T) : Type 0 where
   pub fed : Shipping T
   pub part : (fed.log.pieces ≡ old.log.pieces) ⊎ ((begun : List Piece) × OpensSegment first old.log.pieces begun × IsFedPart left begun fed.log.pieces)
@@ -81,7 +84,7 @@ pub record HasHalted {T : Type 0} (first : Bool) (left : Option (List ℕ)) (old
   pub limit : new.limit ≡ fed.limit
   pub fleet : (new.fleet ≡ fed.fleet) ⊎ HasCompared fed.fleet new.fleet
 
--- so the segments of these readers, in order, as far as the reading came
+-- the same for the segments of these readers, in order, as far as the reading came
 abbrev pub AreShippedPart : {T : Type 0} → (fewest most : ℕ) → Bool → List (Option (List ℕ)) → Shipping T → Shipping T → Type 0
 AreShippedPart fewest most first [] old new = new ≡ old
 AreShippedPart {T} fewest most first (left ∷ lefts) old new = HasHalted first left old new ⊎ ((next : Shipping T) × IsShipped fewest most first left (is_some_more lefts) old next × AreShippedPart fewest most false lefts next new)
@@ -96,8 +99,8 @@ pub record HasStarted {T : Type 0} (c : ConfigFields) (limit : Option ℕ) (s : 
   pub limit_is : s.limit ≡ limit
 
 -- The fleet before its last shards were ended: that of the shipper; or, if a change of the number
--- of shards failed that had ended them and begun no others, the fleet before it. All that was put in
--- the epochs before is resolved.
+-- of shards failed that had ended them and begun no others, the fleet before it. All that was put
+-- in the epochs before is resolved.
 pub record HasLastEpoch {T : Type 0} (s : Shipping T) : Type 0 where
   pub before : Shards T
   pub resolved : AreResolved before.ended

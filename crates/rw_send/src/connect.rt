@@ -12,8 +12,8 @@ use std::net::{Net, SocketAddr, TcpStream};
 use std::sync::Arc;
 use std::time::Clock;
 
-/// Gives each worker a transport to the same receiver, with one connection for each attempt, and pauses by the clock. Contracts see the
-/// addresses and the timeout.
+/// Gives each worker a transport to the same receiver, with one connection for each attempt, and
+/// pauses by the clock. Contracts see the addresses and the timeout.
 #[derive(Drop)]
 pub struct TcpConnect<N> {
     alloc: Global,
@@ -36,7 +36,8 @@ impl<N> Model for TcpConnect<N> {
 }
 
 impl<N> TcpConnect<N> {
-    /// To these addresses of one receiver, tried in turn. The timeout is in milliseconds, for a whole attempt. The counters are told of each attempt.
+    /// Returns a source of transports to these addresses of one receiver, which are tried in turn.
+    /// The timeout is in milliseconds, for a whole attempt. The counters count each attempt.
     pub fn new(
         alloc: Global,
         net: N,
@@ -58,7 +59,7 @@ impl<N> TcpConnect<N> {
 }
 
 impl<N: Net<Stream = TcpStream> + Clock + Copy> TcpConnect<N> {
-    /// A transport to the addresses, with the timeout.
+    /// Returns a transport to the addresses, with the timeout.
     fn to_receiver(&self) -> Result<TcpTransport<N>, AllocError>
         ensures receiver { IfOk result (λ transport. transport.receiver ≡ self.now) }
         ensures unused { IfOk result (λ transport. transport.seen ≡ []) }

@@ -1,18 +1,18 @@
-//! Why a log is followed no further.
+//! Why following a log ends early.
 
 use rw_text::ToolFault;
 use std::alloc::AllocError;
 use std::error::Error;
 use std::fmt;
 
-/// Why a following ends other than well.
+/// Why the following of a log ends with a fault.
 #[derive(Clone, Copy, Debug, PartialEq, Eq)]
 pub enum FollowFault {
     /// As a run of the command `send` ends.
     Tool(ToolFault),
     /// The segment of this number is missing.
     Missing(u64),
-    /// It was told to end at once.
+    /// It was asked to end at once.
     Stopped,
 }
 

@@ -3,24 +3,24 @@
 #![tactic(auto)]
 
 mod connect;
-mod feed_counters;
+mod counters;
+mod feed_error;
 mod follow_fault;
 mod following;
-mod halt;
 mod live;
+mod options;
 mod printing;
 mod send;
 mod sharding;
 mod shipping;
-mod telling;
 
 pub use connect::TcpConnect;
-pub use feed_counters::Means;
+pub use counters::FeedContext;
+pub use feed_error::FeedError;
 pub use follow_fault::FollowFault;
 pub use following::run_follow;
-pub use halt::Halt;
+pub use options::SendOptions;
 pub use rw_worker::StopFlag;
 pub use send::run_send;
 pub use sharding::{Sharding, resharded, retuned};
 pub use shipping::ship_all;
-pub use telling::Counted;

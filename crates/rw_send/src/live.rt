@@ -1,10 +1,10 @@
-//! A log is fed to a shipper as it grows.
+//! Feeds a log to a shipper as it grows.
 
 ghost use Rattle.std.specs.Prelude.{◌≡◌, ◌<◌, ◌≤◌, ◌⊎◌, [], length, map, true, false, None, Ok, IfErr, IfOk, IsSome, OnOk, OnErr};
 ghost use Rattle.rw_follow.specs.Growth as growth;
 ghost use Rattle.rw_follow.specs.Growth.{HadAll, IsBeginning, Known, with_next, with_piece};
-ghost use Rattle.rw_follow.specs.Turns.{IsWithin, given_by, wish_of};
-ghost use Rattle.rw_follow.specs.declared.follower.Stop.TheVariants as Stop;
+ghost use Rattle.rw_follow.specs.Turns.{IsWithin, given_by};
+ghost use Rattle.rw_follow.specs.declared.signal.StopRequest.TheVariants as StopRequest;
 ghost use Rattle.rw_fleet.specs.ShardHistories.{marked, marks_of};
 ghost use Rattle.rw_fleet.specs.Work.{AreResolved};
 ghost use Rattle.rw_fleet.specs.Loads.{IsLoad};
@@ -12,14 +12,14 @@ ghost use Rattle.rw_fleet.specs.declared.load.Load.{Load};
 ghost use Rattle.rw_sender.specs.Placement.{IsShardCount};
 ghost use Rattle.rw_send.specs.Following.{FailsWith, HaltsAt, IsCut, IsUnread, MarksBy, meal_of};
 ghost use Rattle.rw_send.specs.Segments.{AreShort};
-ghost use Rattle.rw_send.specs.Halting.{IsHalted};
+ghost use Rattle.rw_send.specs.FeedErrors.{IsHalted};
 ghost use Rattle.rw_send.specs.Steps.{HasLastEpoch, IsKept};
 
-use crate::feed_counters::{Means, tell};
-use crate::halt::Halt;
+use crate::counters::{FeedContext, update_counters};
+use crate::feed_error::FeedError;
 use crate::sharding::{Sharding, resharded, retuned};
 use crate::shipping::begin_segment;
-use rw_follow::{Broken, Follower, Segments, Stop, Turn, Watch};
+use rw_follow::{Follower, Segments, Turn, Watch};
 use rw_sender::{Connect, Shipper};
 use rw_wal_tail::Piece;
 use std::alloc::Global;
@@ -27,43 +27,12 @@ use std::sync::Wait;
 use std::thread::Threads;
 use std::time::Clock;
 
-/// Why a log is followed no further, but for a sign.
-#[derive(Clone, Copy, Debug, PartialEq, Eq)]
-pub(crate) enum Cut {
-    /// The log cannot be followed.
-    Broken(Broken),
-    /// The shipper takes no more.
-    Halted(Halt),
-}
-
-impl From<Broken> for Cut {
-    ghost use Rattle.std.specs.Prelude.{◌≡◌};
-    ghost use Rattle.rw_send.specs.declared.live.Cut.TheVariants.{Broken};
-
-    ghost from_gives = { λ b c. c ≡ Broken b };
-
-    fn from(broken: Broken) -> Cut {
-        Cut::Broken(broken)
-    }
-}
-
-impl From<Halt> for Cut {
-    ghost use Rattle.std.specs.Prelude.{◌≡◌};
-    ghost use Rattle.rw_send.specs.declared.live.Cut.TheVariants.{Halted};
-
-    ghost from_gives = { λ h c. c ≡ Halted h };
-
-    fn from(halt: Halt) -> Cut {
-        Cut::Halted(halt)
-    }
-}
-
 /// Feeds some bytes of the current segment.
 fn feed_bytes<R: Wait, C: Connect + Drop>(
     rt: &R,
     shipper: &mut Shipper<C>,
     piece: Vec<u8>,
-) -> Result<(), Halt>
+) -> Result<(), FeedError>
     requires live { shipper.old.fault ≡ None }
     requires short { length piece.items ≤ 65_536 }
     ensures kept { IsKept shipper.old shipper.new }
@@ -87,12 +56,12 @@ fn feed_bytes<R: Wait, C: Connect + Drop>(
     Ok(())
 }
 
-/// Tells that the next segment begins, with as many shards as are wanted under the load.
+/// Feeds word that the next segment begins, with as many shards as are wanted under the load.
 fn feed_next<R: Threads + Wait + Clock + Copy + Send + 'static, C: Connect + Drop>(
     rt: &R,
     shipper: &mut Shipper<C>,
     sharding: Sharding,
-) -> Result<Sharding, Halt>
+) -> Result<Sharding, FeedError>
     requires live { shipper.old.fault ≡ None }
     requires shards { length shipper.old.fleet.current ≡ sharding.shards }
     ensures kept { IsKept shipper.old shipper.new }
@@ -119,8 +88,8 @@ fn feed_next<R: Threads + Wait + Clock + Copy + Send + 'static, C: Connect + Dro
     Ok(next)
 }
 
-/// Asks each shard to send what waits for a full batch.
-fn flush<R: Wait, C: Connect + Drop>(rt: &R, shipper: &mut Shipper<C>) -> Result<(), Halt>
+/// Makes each shard send what waits for a full batch.
+fn flush<R: Wait, C: Connect + Drop>(rt: &R, shipper: &mut Shipper<C>) -> Result<(), FeedError>
     requires live { shipper.old.fault ≡ None }
     ensures kept { IsKept shipper.old shipper.new }
     ensures limit { shipper.new.fault ≡ None → shipper.new.limit ≡ shipper.old.limit }
@@ -146,7 +115,7 @@ fn obey<R: Threads + Wait + Clock + Copy + Send + 'static, C: Connect + Drop>(
     sharding: Sharding,
     turn: Turn,
     buf: &[u8],
-) -> Result<Sharding, Halt>
+) -> Result<Sharding, FeedError>
     requires live { shipper.old.fault ≡ None }
     requires shards { length shipper.old.fleet.current ≡ sharding.shards }
     requires within { IsWithin turn (length buf.now) }
@@ -183,11 +152,11 @@ fn obey<R: Threads + Wait + Clock + Copy + Send + 'static, C: Connect + Drop>(
             flush(rt, shipper)?;
             Ok(sharding)
         }
-        Turn::Nothing | Turn::Stopped(_) => Ok(sharding),
+        Turn::Nothing | Turn::Finished | Turn::Aborted => Ok(sharding),
     }
 }
 
-/// Sets the number of shards where that is due, and does what a turn of a follower asks for.
+/// Sets the number of shards if that is due, and does what a turn of a follower asks for.
 fn step<R: Threads + Wait + Clock + Copy + Send + 'static, C: Connect + Drop>(
     rt: &R,
     alloc: Global,
@@ -196,7 +165,7 @@ fn step<R: Threads + Wait + Clock + Copy + Send + 'static, C: Connect + Drop>(
     is_reshard_due: bool,
     turn: Turn,
     buf: &[u8],
-) -> Result<Sharding, Halt>
+) -> Result<Sharding, FeedError>
     requires live { shipper.old.fault ≡ None }
     requires shards { length shipper.old.fleet.current ≡ sharding.shards }
     requires within { IsWithin turn (length buf.now) }
@@ -228,16 +197,21 @@ fn step<R: Threads + Wait + Clock + Copy + Send + 'static, C: Connect + Drop>(
     obey(rt, alloc, shipper, next, turn, buf)
 }
 
-/// Tells of a turn that was done.
-fn tell_turn<C: Connect + Drop>(means: Means<'_>, shipper: &Shipper<C>, shards: u32, turn: Turn) {
+/// Counts a turn that was done.
+fn count_turn<C: Connect + Drop>(
+    context: FeedContext<'_>,
+    shipper: &Shipper<C>,
+    shards: u32,
+    turn: Turn,
+) {
     if let Turn::Piece(count) = turn {
-        means.counters.read_bytes(count);
+        context.counters.read_bytes(count);
     }
-    means.counters.set_shards(shards);
-    tell(means.counters, shipper);
+    context.counters.set_shards(shards);
+    update_counters(context.counters, shipper);
 }
 
-/// Feeds a log as it grows, until the watch says that it is to end.
+/// Feeds a log as it grows, until the watch asks to stop.
 pub(crate) fn ship_live<
     R: Threads + Wait + Clock + Copy + Send + 'static,
     S: Segments,
@@ -245,13 +219,13 @@ pub(crate) fn ship_live<
     W: Watch,
 >(
     rt: &R,
-    means: Means<'_>,
+    context: FeedContext<'_>,
     shipper: &mut Shipper<C>,
     sharding: Sharding,
     segments: &mut S,
     watch: &mut W,
     buf: &mut [u8],
-) -> Result<Stop, Cut>
+) -> Result<(), FeedError>
     requires begun { shipper.old.log.pieces ≡ [] }
     requires live { shipper.old.fault ≡ None }
     requires shards { length shipper.old.fleet.current ≡ sharding.shards }
@@ -265,10 +239,10 @@ pub(crate) fn ship_live<
     ensures live { OnOk result (shipper.new.fault ≡ None) }
     ensures begins { Known (S.now segments.new)
         (λ m. IsBeginning (meal_of shipper.new.log.pieces) (growth.texts m)) }
-    ensures whole { result ≡ Ok Stop.Orderly
-        → Known (S.now segments.new) (HadAll (meal_of shipper.new.log.pieces)) }
-    ensures signed { IfOk result (λ stop. W.said watch.new ≡ wish_of stop) }
-    ensures cut { IfErr result (IsCut shipper.new (S.now segments.new)
+    ensures whole { OnOk result
+        (Known (S.now segments.new) (HadAll (meal_of shipper.new.log.pieces))) }
+    ensures signed { OnOk result (W.said watch.new ≡ StopRequest.Finish) }
+    ensures cut { IfErr result (IsCut shipper.new (S.now segments.new) (W.said watch.new)
         (S.is_sure segments.old ≡ true → ⊥)) }
     ensures last { AreResolved shipper.old.fleet.ended → HasLastEpoch shipper.new }
 {
@@ -276,12 +250,15 @@ pub(crate) fn ship_live<
     let mut follower = Follower::new();
     for _ in rt.forever() {
         let turn = follower.turn(segments, watch, buf)?;
-        if let Turn::Stopped(stop) = turn {
-            return Ok(stop);
+        if let Turn::Finished = turn {
+            return Ok(());
+        }
+        if let Turn::Aborted = turn {
+            return Err(FeedError::Aborted);
         }
         let is_due = watch.is_reshard_due();
-        sharding = step(rt, means.alloc, shipper, sharding, is_due, turn, buf)?;
-        tell_turn(means, shipper, sharding.shards, turn);
+        sharding = step(rt, context.alloc, shipper, sharding, is_due, turn, buf)?;
+        count_turn(context, shipper, sharding.shards, turn);
     }
     unreachable!()
 }

@@ -1,4 +1,4 @@
-//! A report is printed.
+//! Prints a report.
 
 ghost use Rattle.std.specs.Prelude.{◌≡◌, ◌++◌, ◌⊎◌, ℕ, List, flat_map, true, false, Err, IfOk, IfErr, OnOk};
 ghost use Rattle.std.specs.Io.KnownBytes.{Appends};
@@ -14,7 +14,7 @@ use rw_text::ToolFault;
 use rw_types::{Sink, write_all};
 use std::alloc::{AllocError, Global};
 
-/// The dropped samples of all parts.
+/// Returns the dropped samples of all parts.
 fn all_names(alloc: Global, parts: &[Ledger]) -> Result<Vec<(u64, Reason)>, AllocError>
     ensures { IfOk result (λ names. names.items ≡ names_in parts.now) }
 {
@@ -25,7 +25,7 @@ fn all_names(alloc: Global, parts: &[Ledger]) -> Result<Vec<(u64, Reason)>, Allo
     Ok(names)
 }
 
-/// The dropped samples of all parts, by position.
+/// Returns the dropped samples of all parts, by position.
 fn names_by_position(alloc: Global, parts: &[Ledger]) -> Result<Vec<(u64, Reason)>, AllocError>
     ensures { IfOk result (λ names. AreByPosition (names_in parts.now) names.items) }
 {
@@ -34,7 +34,7 @@ fn names_by_position(alloc: Global, parts: &[Ledger]) -> Result<Vec<(u64, Reason
     Ok(names)
 }
 
-/// An outcome with its samples by position.
+/// Returns an outcome with its samples by position.
 fn by_position(outcome: Outcome) -> Outcome
     ensures { IsEnding outcome (ending_of result) }
 {
@@ -61,7 +61,7 @@ fn push_all_dropped(out: &mut Vec<u8>, names: &[(u64, Reason)]) -> Result<(), Al
     Ok(())
 }
 
-/// The text of a report.
+/// Returns the text of a report.
 fn text_of<T: Drop>(alloc: Global, report: Report<T>) -> Result<Vec<u8>, AllocError>
     ensures { IfOk result (λ text. IsTextOf report text.items) }
 {

@@ -7,7 +7,7 @@ ghost use Rattle.rw_fleet.specs.Loads.{IsLoad};
 ghost use Rattle.rw_fleet.specs.declared.load.Load.{Load};
 ghost use Rattle.rw_send.specs.Steps.{HasPutAll, IsSet, wanted_since};
 
-use crate::halt::Halt;
+use crate::feed_error::FeedError;
 use rw_reshard::want;
 use rw_sender::{Connect, Load, Shipper};
 use rw_shard_core::Config;
@@ -21,7 +21,7 @@ pub struct Sharding {
     pub shards: u32,
     pub fewest: u32,
     pub most: u32,
-    /// How many samples had been placed as the clock asked last.
+    /// How many samples had been placed when the clock last asked for an adjustment.
     pub placed: u64,
     /// How many had been resolved then.
     pub resolved: u64,
@@ -33,7 +33,7 @@ pub struct Sharding {
 impl Sharding {
     ghost use Rattle.std.specs.Prelude.{◌≡◌};
 
-    /// As a sender is configured.
+    /// Returns the number and its bounds as a sender is configured.
     pub fn of(config: &Config) -> Sharding
         ensures shards { result.shards ≡ config.now.shards }
         ensures fewest { result.fewest ≡ config.now.min_shards }
@@ -42,7 +42,7 @@ impl Sharding {
         ensures batch { 1 ≤ config.now.batch }
     {
         let fields = config.fields();
-        // What their types say of these two is in the contract.
+        // The contract says that these two are in the ranges of their types.
         let _ = (fields.capacity.get(), fields.batch.get());
         Sharding {
             shards: fields.shards.get() as u32,
@@ -53,7 +53,7 @@ impl Sharding {
         }
     }
 
-    /// As many shards as are wanted under this load.
+    /// Returns as many shards as are wanted under this load.
     fn under(self, load: Load) -> Sharding
         ensures shards { result.shards
             ≡ wanted self.shards load.placed load.resolved load.backlog self.fewest self.most }
@@ -79,7 +79,8 @@ impl Sharding {
         }
     }
 
-    /// As many shards as are wanted under what was placed and resolved since the clock asked last, and what waits under this load.
+    /// Returns as many shards as are wanted under what was placed and resolved since the clock asked
+    /// last, and what waits under this load.
     fn lately(self, load: Load) -> Sharding
         ensures shards { result.shards
             ≡ wanted self.shards (load.placed - self.placed)
@@ -107,12 +108,14 @@ impl Sharding {
     }
 }
 
-/// How often, and for how many milliseconds, the workers are waited for before the number of shards is asked for: 50 ms at most.
+/// How often, and for how many milliseconds, the workers are waited for before the number of shards
+/// is asked for: 50 ms at most.
 const MOMENTS: u32 = 10;
 
 const MOMENT_MS: u64 = 5;
 
-/// Waits a moment for the workers to resolve what was put, so that the load tells whether they keep up.
+/// Waits a moment for the workers to resolve what was put, so that the load shows whether they keep
+/// up.
 fn let_catch_up<R: Clock, C: Connect + Drop>(rt: &R, shipper: &Shipper<C>) {
     for _ in 0..MOMENTS {
         if shipper.load().backlog == 0 {
@@ -122,13 +125,14 @@ fn let_catch_up<R: Clock, C: Connect + Drop>(rt: &R, shipper: &Shipper<C>) {
     }
 }
 
-/// Changes the number of shards to what is wanted under the load, where that is another one and more is to come.
+/// Changes the number of shards to what is wanted under the load, if that is another one and more is
+/// to come.
 pub fn resharded<R: Threads + Wait + Clock + Copy + Send + 'static, C: Connect + Drop>(
     rt: &R,
     shipper: &mut Shipper<C>,
     sharding: Sharding,
     is_more: bool,
-) -> Result<Sharding, Halt>
+) -> Result<Sharding, FeedError>
     requires { length shipper.old.fleet.current ≡ sharding.shards }
     ensures put { shipper.old.fault ≡ None → HasPutAll shipper.old }
     ensures set { OnOk result
@@ -143,7 +147,7 @@ pub fn resharded<R: Threads + Wait + Clock + Copy + Send + 'static, C: Connect +
         ⊎ HasCompared shipper.old.fleet shipper.new.fleet }
     ensures config { shipper.new.fleet.config ≡ shipper.old.fleet.config }
     ensures sound { shipper.old.fault ≡ None → OnOk result (shipper.new.fault ≡ None) }
-    ensures err { OnErr result (result ≡ Err Halt.Failed) }
+    ensures err { OnErr result (result ≡ Err FeedError.Failed) }
     ensures failed { OnErr result (IsSome shipper.new.fault) }
 {
     if is_more && sharding.fewest < sharding.most {
@@ -154,20 +158,21 @@ pub fn resharded<R: Threads + Wait + Clock + Copy + Send + 'static, C: Connect +
         return Ok(sharding);
     }
     if shipper.reshard(rt, next.shards).is_err() {
-        return Err(Halt::Failed);
+        return Err(FeedError::Failed);
     }
     Ok(next)
 }
 
-/// Changes the number of shards to what is wanted under what was placed and resolved since the clock asked last, where it asks and that is another one.
+/// Changes the number of shards to what is wanted under what was placed and resolved since the clock
+/// asked last, if it asks and that is another one.
 pub fn retuned<R: Threads + Wait + Clock + Copy + Send + 'static, C: Connect + Drop>(
     rt: &R,
     shipper: &mut Shipper<C>,
     sharding: Sharding,
     is_due: bool,
-) -> Result<Sharding, Halt>
+) -> Result<Sharding, FeedError>
     requires { length shipper.old.fleet.current ≡ sharding.shards }
-    // The next question is of what comes after the load that decided.
+    // The next adjustment counts from the load that decided.
     ensures asked { is_due ≡ true → IfOk result (λ s. (load : Load)
         × IsLoad shipper.old.fleet load × (s.shards
         ≡ wanted_since sharding.fewest sharding.most sharding.shards sharding.placed
@@ -182,7 +187,7 @@ pub fn retuned<R: Threads + Wait + Clock + Copy + Send + 'static, C: Connect + D
     ensures compared { (shipper.new.fleet ≡ shipper.old.fleet)
         ⊎ HasCompared shipper.old.fleet shipper.new.fleet }
     ensures sound { shipper.old.fault ≡ None → OnOk result (shipper.new.fault ≡ None) }
-    ensures err { OnErr result (result ≡ Err Halt.Failed) }
+    ensures err { OnErr result (result ≡ Err FeedError.Failed) }
     ensures failed { OnErr result (IsSome shipper.new.fault) }
     ensures placed { OnErr result (PlacesAll shipper.old.log shipper.old.fleet) }
 {
@@ -197,7 +202,7 @@ pub fn retuned<R: Threads + Wait + Clock + Copy + Send + 'static, C: Connect + D
         return Ok(next);
     }
     if shipper.reshard(rt, next.shards).is_err() {
-        return Err(Halt::Failed);
+        return Err(FeedError::Failed);
     }
     Ok(next)
 }

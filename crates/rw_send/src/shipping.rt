@@ -1,16 +1,16 @@
-//! The segments of a log are fed to a shipper.
+//! Feeds the segments of a log to a shipper.
 
 ghost use Rattle.std.specs.Prelude.{◌≡◌, ◌<◌, ◌≤◌, ◌⊎◌, [], length, map, true, false, None, Ok, Err, IfOk, IfErr, IsSome, OnOk, OnErr, vec_len};
 ghost use Rattle.std.specs.Io.KnownBytes.{Consumes, IsAtEnd};
 ghost use Rattle.rw_fleet.specs.Work.{AreResolved};
 ghost use Rattle.rw_sender.specs.Placement.{IsShardCount};
 ghost use Rattle.rw_send.specs.Segments.{AreShort, AreSure, HasMoreBytes, OpensSegment, IsBeginningOf, IsFed, IsFedLess, IsFedMore, IsFedPart, IsLogOf, IsSomeRead};
-ghost use Rattle.rw_send.specs.Halting.{IsHalted};
+ghost use Rattle.rw_send.specs.FeedErrors.{IsHalted};
 ghost use Rattle.rw_send.specs.Steps.{AreShipped, AreShippedPart, HasLastEpoch, IsKept, StaysOpen};
-ghost use Rattle.rw_send.specs.declared.halt.Halt.TheVariants.{Unreadable};
+ghost use Rattle.rw_send.specs.declared.feed_error.FeedError.TheVariants.{Unreadable};
 
-use crate::feed_counters::{Means, tell};
-use crate::halt::Halt;
+use crate::counters::{FeedContext, update_counters};
+use crate::feed_error::FeedError;
 use crate::sharding::{Sharding, resharded};
 use rw_sender::{Connect, Shipper};
 use rw_types::Source;
@@ -23,7 +23,7 @@ use std::time::Clock;
 /// The most bytes of a piece.
 pub const PIECE_BYTES: usize = 65_536;
 
-/// Room for a piece.
+/// Returns room for a piece.
 pub fn zeros(alloc: Global) -> Result<Vec<u8>, AllocError>
     ensures { IfOk result (λ v. vec_len v ≡ PIECE_BYTES) }
 {
@@ -31,8 +31,12 @@ pub fn zeros(alloc: Global) -> Result<Vec<u8>, AllocError>
 }
 
 /// Reads some bytes of a segment, through `buf`; none at its end. So memory is taken only for bytes
-/// that are there.
-fn read_piece<S: Source>(alloc: Global, segment: &mut S, buf: &mut [u8]) -> Result<Vec<u8>, Halt>
+/// that exist.
+fn read_piece<S: Source>(
+    alloc: Global,
+    segment: &mut S,
+    buf: &mut [u8],
+) -> Result<Vec<u8>, FeedError>
     requires buffer { 0 < length buf.old }
     requires small { length buf.old ≤ PIECE_BYTES }
     ensures room { length buf.new ≡ length buf.old }
@@ -44,10 +48,10 @@ fn read_piece<S: Source>(alloc: Global, segment: &mut S, buf: &mut [u8]) -> Resu
         → (S.is_sure segment.new ≡ true) × (result ≡ Err Unreadable → ⊥) }
     ensures sound { OnOk result (S.has_failed segment.new ≡ false) }
     ensures failed { result ≡ Err Unreadable → S.has_failed segment.new ≡ true }
-    ensures memory { result ≡ Err Halt.Failed → S.has_failed segment.new ≡ false }
-    ensures refused { result ≡ Err Halt.Failed
+    ensures memory { result ≡ Err FeedError.Failed → S.has_failed segment.new ≡ false }
+    ensures refused { result ≡ Err FeedError.Failed
         → IsSomeRead (S.remaining segment.old) (S.remaining segment.new) }
-    ensures err { IfErr result (λ h. (h ≡ Halt.Failed) ⊎ (h ≡ Unreadable)) }
+    ensures err { IfErr result (λ h. (h ≡ FeedError.Failed) ⊎ (h ≡ Unreadable)) }
 {
     let count = segment.read(buf)?;
     if count == 0 {
@@ -57,14 +61,14 @@ fn read_piece<S: Source>(alloc: Global, segment: &mut S, buf: &mut [u8]) -> Resu
     Ok(piece)
 }
 
-/// Feeds the next bytes of a segment. False is its end.
+/// Feeds the next bytes of a segment. Returns false at its end.
 fn ship_piece<R: Wait, S: Source, C: Connect + Drop>(
     rt: &R,
-    means: Means<'_>,
+    context: FeedContext<'_>,
     shipper: &mut Shipper<C>,
     segment: &mut S,
     buf: &mut [u8],
-) -> Result<bool, Halt>
+) -> Result<bool, FeedError>
     requires sound { shipper.old.fault ≡ None }
     requires buffer { 0 < length buf.old }
     requires small { length buf.old ≤ PIECE_BYTES }
@@ -85,30 +89,30 @@ fn ship_piece<R: Wait, S: Source, C: Connect + Drop>(
     ensures sure { S.is_sure segment.old ≡ true
         → (S.is_sure segment.new ≡ true) × (result ≡ Err Unreadable → ⊥) }
     ensures failed { result ≡ Err Unreadable → S.has_failed segment.new ≡ true }
-    ensures memory { result ≡ Err Halt.Failed → S.has_failed segment.old ≡ false
+    ensures memory { result ≡ Err FeedError.Failed → S.has_failed segment.old ≡ false
         → S.has_failed segment.new ≡ false }
-    ensures refused { result ≡ Err Halt.Failed → IsSome shipper.new.fault
+    ensures refused { result ≡ Err FeedError.Failed → IsSome shipper.new.fault
         ⊎ ((shipper.new.log.pieces ≡ shipper.old.log.pieces)
         × IsSomeRead (S.remaining segment.old) (S.remaining segment.new)) }
 {
-    let piece = read_piece(means.alloc, segment, buf)?;
+    let piece = read_piece(context.alloc, segment, buf)?;
     if piece.is_empty() {
         return Ok(false);
     }
-    means.counters.read_bytes(piece.len());
+    context.counters.read_bytes(piece.len());
     shipper.feed(rt, Piece::Bytes(piece))?;
-    tell(means.counters, shipper);
+    update_counters(context.counters, shipper);
     Ok(true)
 }
 
 /// Feeds all bytes of a segment, as they come.
 fn ship_segment<R: Wait, S: Source + Drop, C: Connect + Drop>(
     rt: &R,
-    means: Means<'_>,
+    context: FeedContext<'_>,
     shipper: &mut Shipper<C>,
     segment: S,
     buf: &mut [u8],
-) -> Result<(), Halt>
+) -> Result<(), FeedError>
     requires sound { shipper.old.fault ≡ None }
     requires buffer { 0 < length buf.old }
     requires small { length buf.old ≤ PIECE_BYTES }
@@ -122,24 +126,24 @@ fn ship_segment<R: Wait, S: Source + Drop, C: Connect + Drop>(
         (IsFedPart (S.remaining segment) shipper.old.log.pieces shipper.new.log.pieces) }
     ensures halted { IfErr result (IsHalted shipper.new) }
     ensures sure { S.is_sure segment ≡ true → result ≡ Err Unreadable → ⊥ }
-    ensures refused { result ≡ Err Halt.Failed → IsSome shipper.new.fault
+    ensures refused { result ≡ Err FeedError.Failed → IsSome shipper.new.fault
         ⊎ IsFedLess (S.remaining segment) shipper.old.log.pieces shipper.new.log.pieces }
 {
     let mut segment = segment;
     for _ in rt.forever() {
-        if !ship_piece(rt, means, shipper, &mut segment, buf)? {
+        if !ship_piece(rt, context, shipper, &mut segment, buf)? {
             return Ok(());
         }
     }
     unreachable!()
 }
 
-/// Tells that the next segment begins, where it is not the first one.
+/// Feeds word that the next segment begins, unless it is the first one.
 pub fn begin_segment<R: Wait, C: Connect + Drop>(
     rt: &R,
     shipper: &mut Shipper<C>,
     is_first: bool,
-) -> Result<(), Halt>
+) -> Result<(), FeedError>
     requires { shipper.old.fault ≡ None }
     ensures stays { StaysOpen shipper.old shipper.new }
     ensures short { AreShort shipper.old.log.pieces → AreShort shipper.new.log.pieces }
@@ -149,7 +153,7 @@ pub fn begin_segment<R: Wait, C: Connect + Drop>(
         ⊎ OpensSegment is_first shipper.old.log.pieces shipper.new.log.pieces) }
     ensures halted { IfErr result (IsHalted shipper.new) }
     ensures unread { result ≡ Err Unreadable → ⊥ }
-    ensures refused { result ≡ Err Halt.Failed → IsSome shipper.new.fault }
+    ensures refused { result ≡ Err FeedError.Failed → IsSome shipper.new.fault }
 {
     if is_first {
         return Ok(());
@@ -166,12 +170,12 @@ pub fn ship_all<
     C: Connect + Drop,
 >(
     rt: &R,
-    means: Means<'_>,
+    context: FeedContext<'_>,
     shipper: &mut Shipper<C>,
     sharding: Sharding,
     segments: Vec<S>,
     buf: &mut [u8],
-) -> Result<(), Halt>
+) -> Result<(), FeedError>
     requires begun { shipper.old.log.pieces ≡ [] }
     requires sound { shipper.old.fault ≡ None }
     requires shards { length shipper.old.fleet.current ≡ sharding.shards }
@@ -191,8 +195,8 @@ pub fn ship_all<
     ensures halted { IfErr result (IsHalted shipper.new) }
     ensures sure { AreSure (map S.is_sure segments.items) → result ≡ Err Unreadable → ⊥ }
 
-    // Memory for a piece is refused only if the log has more bytes.
-    ensures refused { result ≡ Err Halt.Failed → IsSome shipper.new.fault
+    // Memory for a piece runs out only if the log has more bytes.
+    ensures refused { result ≡ Err FeedError.Failed → IsSome shipper.new.fault
         ⊎ HasMoreBytes (map S.remaining segments.items) shipper.new.log.pieces }
     ensures number { shipper.new.fault ≡ None → IsShardCount (length shipper.new.fleet.current) }
     ensures last { AreResolved shipper.old.fleet.ended → HasLastEpoch shipper.new }
@@ -200,14 +204,14 @@ pub fn ship_all<
     let mut sharding = sharding;
     let mut is_first = true;
     let mut left = segments.len();
-    means.counters.set_shards(sharding.shards);
+    context.counters.set_shards(sharding.shards);
     for segment in segments {
         begin_segment(rt, shipper, is_first)?;
-        ship_segment(rt, means, shipper, segment, buf)?;
+        ship_segment(rt, context, shipper, segment, buf)?;
         is_first = false;
         left -= 1;
         sharding = resharded(rt, shipper, sharding, left > 0)?;
-        means.counters.set_shards(sharding.shards);
+        context.counters.set_shards(sharding.shards);
     }
     Ok(())
 }

@@ -67,7 +67,7 @@ below_place n (item.Sample p t w l ∷ xs) (suc k) o h at = below_place n xs k o
 below_place n (item.Flush ∷ xs) k o h at = below_place n xs k o h at
 below_place n (item.End kind ∷ xs) k o h at = below_place n xs k o h at
 
--- what was put so far stands below the next position
+-- what was put so far is below the next position
 pub placing_below : (e n j : ℕ) (ended current : List ShardHistory) (choice : Choice) (es : List Entry) (l : ShardHistory) → IsPlacing e ended current (sent choice es) → n ≡ length es → slice_get current j ≡ Some l
     → (k : ℕ) (o : Place) → slice_get (places_in l.put) k ≡ Some o → o.pos < n
 placing_below e n j ended current choice es l h count at k o there =

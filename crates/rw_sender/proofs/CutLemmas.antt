@@ -99,7 +99,7 @@ get_again [] k was now x at there = absurd (let none : None ≡ Some was = at in
 get_again (p ∷ ps) zero was now x at there = sym (same_Some now x there)
 get_again (p ∷ ps) (suc k) was now x at there = get_again ps k was now x at there
 
--- the shard that was put a sample, behind a mark where that was asked for
+-- the shard that was put a sample, after a mark if that was asked for
 record IsPutCut (over : Bool) (k : ℕ) (x : Item) (lane : ShardHistory) (old new : List ShardHistory) : Type 0 where
   now : ShardHistory
   items : now.put ≡ lane.put ++ behind_cut over x
@@ -164,7 +164,7 @@ goes_cut_put a b k s old mid new same h room put =
       counted = subst (λ m. AreCounted m b.rooms new) (sym same) (counted_put a.limit room.over k _ _ _ _ _ room.lane a.rooms b.rooms old new refl room.at cut room.counts h);
     }
 
--- the sample does not fit where its room is too small
+-- the sample does not fit if its room is too small
 over_so : (limit ob room b : ℕ) → room ≡ limit - ob → room < b → true ≡ is_over (Some limit) ob b
 over_so limit ob room b is lt = let gt : limit - ob < b = omega arith in grind (arith, nat_tests)
 
@@ -179,7 +179,7 @@ over_of (Some limit) k b rooms after false lane lanes h at counts = fits_so limi
 pub room_made : (a b : Counting) (k n : ℕ) (over : Bool) (lane : ShardHistory) (was now : List ShardHistory) → AreCounted a.limit a.rooms was → slice_get was k ≡ Some lane → Counts a.limit k n a.rooms b.rooms over → IsCutAt over k lane was now → HasRoomMade k n a b was now
 room_made a b k n over lane was now h at counts cut = record { lane = lane; at = at; over = over; over_is = over_of a.limit k n a.rooms b.rooms over lane was h at counts; cut = cut; counts = counts }
 
--- nothing is counted of fresh shards, nor behind a mark in each
+-- nothing is counted of fresh shards, nor after a mark in each
 pub counted_fresh : (limit : Option ℕ) (rooms : List ℕ) (epoch n : ℕ) (ls : List ShardHistory) → AreFull limit rooms → length ls ≡ n → n ≤ 1000 → AreFresh epoch ls → AreCounted limit rooms ls
 counted_fresh None rooms epoch n ls full len few fresh = tt
 counted_fresh (Some limit) rooms epoch n ls full len few fresh = record {

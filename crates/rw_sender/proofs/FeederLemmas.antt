@@ -1,5 +1,5 @@
 -- What a feeder keeps, with one entry more.
-use Rattle.std.proofs.Common.{◌≡◌, ℕ, ℤ, ◌+◌, ◌<◌, ◌≤◌, cond, List, [], ◌∷◌, ◌++◌, length, take, Option, None, Some, refl, sym, ap, ◌∙◌, subst, append-nil, length-append, add-zero, arith}
+use Rattle.std.proofs.Common.{◌≡◌, ◌⊎◌, inl, inr, ℕ, ℤ, ◌+◌, ◌^◌, ◌<◌, ◌≤◌, true, false, Result, Ok, Err, cond, List, [], ◌∷◌, ◌++◌, length, take, Option, None, Some, refl, sym, ap, ◌∙◌, subst, append-nil, length-append, add-zero, arith}
 use Rattle.std.specs.Prelude.{fold, drop}
 use Rattle.std.proofs.lemmas.List.Sums.{fold-append}
 use Rattle.std.specs.Cmp.{nat_cmp_total}
@@ -16,9 +16,11 @@ use Rattle.rw_series_cache.specs.Fates.{Fate, Drops, Filters, Sends, fate}
 use Rattle.rw_series_cache.specs.Routing.{Routing, Knows, Routes, RoutesAs, IsSentNext}
 use Rattle.rw_series_cache.specs.declared.router.Routed.TheVariants as routed
 use Rattle.rw_series_cache.specs.declared.sample.RoutedSample.{RoutedSample}
-use Rattle.rw_wal_tail.specs.Fed.{Fed}
+use Rattle.rw_wal_format.specs.declared.tail_fault.TailFault.TheVariants.{OutOfMemory}
+use Rattle.rw_wal_tail.specs.Fed.{Fed, size_of, is_out_of_memory}
+use Rattle.rw_wal_tail.specs.Taking.{HasTaken, HasRead, HasTakenAll, TakesNext}
 use Rattle.rw_sender.specs.Logs.{Sent, kept_sample, sent_by_fate, sent_of, with_name, named, dropped, dropped_by_fate, dropped_of, filtered, filtered_by_fate, filtered_of}
-use Rattle.rw_sender.specs.Feeders.{Sorting, HasTaken, HasRead, IsFeeder, sent_by}
+use Rattle.rw_sender.specs.Feeders.{Sorting, IsFeeder, sent_by}
 use Rattle.rw_types.proofs.GatherLemmas.{gather-push}
 use Rattle.rw_sender.proofs.HeldLemmas.{held_more, held_placed}
 use Rattle.rw_types.proofs.TimeLemmas.{nat_cmp-apart}
@@ -74,11 +76,7 @@ same_taken tail after router names n ps hand h taken = record {
   filter_within = h.filter_within;
 }
 
-pub same_tail : (tail after : Fed) (router : Routing) (names : FinMap nat_cmp Reason) (n : ℕ) (ps hand : List Entry) → IsFeeder tail router names n ps hand → after.pieces ≡ tail.pieces → after.given ≡ tail.given → IsFeeder after router names n ps hand
-same_tail tail after router names n ps hand h pieces given =
-    same_taken tail after router names n ps hand h (record { count = given ∙ h.taken.count; rest = h.taken.rest; begins = ap entries pieces ∙ h.taken.begins })
-
--- a name for the next position leaves those behind it without one
+-- a name for the next position leaves those after it without one
 pub named_below : (names now : FinMap nat_cmp Reason) (n : ℕ) (reason : Reason) → ((p : ℕ) → n ≤ p → get names p ≡ None) → now ≡ insert names n reason → (p : ℕ) → n < p → get now p ≡ None
 named_below names now n reason h is p lt =
     ap (λ m. get m p) is ∙ get-insert nat_cmp_total names n reason p ∙ ap (λ b. cond b (Some reason) (get names p)) (nat_cmp-apart n p lt) ∙ h p (omega arith)
@@ -99,7 +97,7 @@ router_placed router after ps pos (Sample reference t word) is = by_fate (fate r
         (ap (λ (x : Routing). x.cache.choice) is, refl, refl, omega arith, omega arith)
     by_fate (Sends l) is = absurd is
 
--- a sample that it told to send
+-- a sample that the router returned to be sent
 pub router_sends : (router after : Routing) (ps : List Entry) (pos : ℕ) (e : Entry) (s : RoutedSample) → pos ≡ length ps → Routes router ps pos e after (routed.Sample s)
     → (after ≡ router) × (sent_of router.cache.choice ps e ≡ sent_by s ∷ []) × IsSentNext router.cache.choice ps e s.series s.t
 router_sends router after ps pos (Def reference l) s at is = absurd (cc)
@@ -177,7 +175,7 @@ pub no_more : (fc : ℕ) (fs : List ℕ) → fs ≡ [] → fc ≡ fc + length fs
 no_more fc fs is = sym (ap (λ l. fc + length l) is ∙ add-zero fc)
 
 -- before the first piece
-pub feeder_begun : (tail : Fed) (router : Routing) (names : FinMap nat_cmp Reason) (r : List Entry) → tail ≡ record { pieces = []; given = 0; skipped = 0; fault = None } → Knows [] router.cache → router.filtered ≡ 0 → names ≡ empty → r ≡ [] → IsFeeder tail router names 0 (take 0 r) (drop 0 r)
+pub feeder_begun : (tail : Fed) (router : Routing) (names : FinMap nat_cmp Reason) (r : List Entry) → tail ≡ record { pieces = []; given = 0; skipped = []; fault = None } → Knows [] router.cache → router.filtered ≡ 0 → names ≡ empty → r ≡ [] → IsFeeder tail router names 0 (take 0 r) (drop 0 r)
 unfolding reading segment
 feeder_begun tail router names r t knows none m is = subst (IsFeeder tail router names 0 []) (sym is) (record {
   taken = record { count = ap (λ (x : Fed). x.given) t; rest = []; begins = ap (λ (x : Fed). entries x.pieces) t };
@@ -188,3 +186,35 @@ feeder_begun tail router names r t knows none m is = subst (IsFeeder tail router
   filter_counted = none;
   filter_within = omega (arith, none);
 })
+
+-- what a reader says
+abbrev pub Said : Type 0
+Said = Result (Option Entry) TailFault
+
+pub took_entry : (taken : List Entry) (new : Fed) (said : Said) (e : Entry) → TakesNext taken said new → said ≡ Ok (Some e) → HasTaken new (taken ++ e ∷ [])
+took_entry taken new said e h is = subst (λ (r : Said). TakesNext taken r new) is h
+
+pub took_none : (taken : List Entry) (new : Fed) (said : Said) → TakesNext taken said new → said ≡ Ok None → HasTakenAll new taken None
+took_none taken new said h is = subst (λ (r : Said). TakesNext taken r new) is h
+
+pub took_fault : (taken : List Entry) (new : Fed) (said : Said) (f : TailFault) → TakesNext taken said new → said ≡ Err f → HasTaken new taken × (is_out_of_memory f ≡ false → HasTakenAll new taken (Some f))
+took_fault taken new said f h is = subst (λ (r : Said). TakesNext taken r new) is h
+
+-- the same of the pieces as they were before
+pub read_of : (pieces : List Piece) (taken : List Entry) (new : Fed) (found : Option TailFault) → HasTakenAll new taken found → new.pieces ≡ pieces → HasRead pieces taken found
+read_of pieces taken new found h same = subst (λ (ps : List Piece). HasRead ps taken found) same h.read
+
+refused : (f : TailFault) → is_out_of_memory f ≡ true → f ≡ OutOfMemory
+refused OutOfMemory e = refl
+refused f e = absurd cc
+
+-- memory runs out only if an entry comes next, or at the end of a count
+pub read_refused : (choice : Choice) (t : Fed) (placed hand : List Entry) (s : Sorting) (said : Said) (f : TailFault) → record { choice = choice; pieces = t.pieces; placed = placed; hand = hand } ≡ s
+    → HasTaken t (placed ++ hand) → said ≡ Err f → is_out_of_memory f ≡ true → (said ≡ Err OutOfMemory → (t.given < length (entries t.pieces)) ⊎ (2 ^ 60 ≤ size_of t.pieces))
+    → (length s.placed < length (entries s.pieces)) ⊎ (2 ^ 60 ≤ size_of s.pieces)
+read_refused choice t placed hand s said f v h is out certain =
+    subst (λ (x : Sorting). (length x.placed < length (entries x.pieces)) ⊎ (2 ^ 60 ≤ size_of x.pieces)) v
+    (elim (certain (is ∙ ap Err (refused f out))) [
+      | inl more ↦ inl (omega (arith, more, h.count, length-append placed hand))
+      | inr end ↦ inr end
+    ])

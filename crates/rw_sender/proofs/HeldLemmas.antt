@@ -13,7 +13,7 @@ module _ {A : Type 0} where
   drop_all [] = refl
   drop_all (x ∷ xs) = drop_all xs
 
-  -- one more behind the cut
+  -- one more after the cut
   pub held_more : (n : ℕ) (r : List A) (e : A) → drop n r ≡ [] → n ≡ length (take n r) → (take n (r ++ e ∷ []) ≡ take n r) × (drop n (r ++ e ∷ []) ≡ e ∷ [])
   held_more n r e none counted =
       let all : take n r ≡ r = sym (append-nil (take n r)) ∙ ap (λ h. take n r ++ h) (sym none) ∙ take-append-drop n r in

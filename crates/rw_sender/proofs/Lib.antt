@@ -6,7 +6,6 @@ pub mod ListingLemmas
 pub mod SpreadLemmas
 pub mod WithinLemmas
 pub mod HeldLemmas
-pub mod TailLemmas
 pub mod FeederLemmas
 pub mod SizeLemmas
 pub mod MarkingLemmas

@@ -53,7 +53,7 @@ module _ {T : Type 0} where
   set_up_behind config [] ys h = h
   set_up_behind config (x ∷ xs) ys h = set_up_behind config xs ys h.1
 
-  -- what waits where all have ended
+  -- what waits if all have ended
   all_left : (tells : T → Type 0) (seen : T → List Exchange) (is_for : ℕ → ℕ → T → Type 0) (s : Shards T) (js : List (StoppedShard T)) → AreAll s js → AreWorked tells seen is_for js → AreSetUp s.config (map lane_of js)
       → length (abandoned_in js) ≤ length (abandoned_in s.ended) + length s.current * window_of s.config
   all_left tells seen is_for s js all worked setup =
@@ -99,7 +99,7 @@ module _ {T : Type 0} where
         samples_within = omega arith;
       }
 
-  -- so many shards more
+  -- room for more shards
   pub space_more : (n m k window : ℕ) (a b : Lists T) → HasSpace n m a → b.room ≡ a.room + k → vec_len b.parts ≡ vec_len a.parts → vec_len b.workers ≡ vec_len a.workers → vec_len b.samples ≡ vec_len a.samples
       → vec_len a.parts + b.room ≤ vec_capacity b.parts → vec_len a.workers + b.room ≤ vec_capacity b.workers → vec_len a.samples + k * window ≤ vec_capacity b.samples → HasSpace (n + k) (k * window) b
   space_more n m k window a b h room pl wl sl pc wc sc =
@@ -216,7 +216,7 @@ module _ {T : Type 0} where
   pub lists_none : (a : Lists T) → ListsAfter a [] a
   lists_none a = (sym (append-nil a.parts.items), sym (append-nil a.workers.items), sym (append-nil a.samples.items))
 
-  -- all is listed behind one part
+  -- all is listed after one part
   pub listed_all : (tells : T → Type 0) (seen : T → List Exchange) (is_for : ℕ → ℕ → T → Type 0) (s : Shards T) (part : Named) (a b c : Lists T) (kind : Kind) (r : Resolution) (js : List (StoppedShard T)) → length a.parts.items ≡ 0 → length a.workers.items ≡ 0 → length a.samples.items ≡ 0
       → b.parts.items ≡ a.parts.items ++ part ∷ [] → b.workers.items ≡ a.workers.items → b.samples.items ≡ a.samples.items → ListsAfter b js c
       → AreAll s js → AreWorked tells seen is_for js → AreSetUp s.config (map lane_of js) → (r ≡ All → AreResolved js) → (is_hard kind ≡ false → r ≡ NotAll → HasCut js) → EndBy kind s (map finished_of js) → HasListed tells seen is_for s part c kind r

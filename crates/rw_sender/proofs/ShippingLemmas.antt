@@ -140,7 +140,7 @@ module _ {T : Type 0} where
   put_marks k l was now put = ap (map marks_of) put.is ∙ marks_set was.current k put.was put.now put.at put.marks
 
 module _ {T : Type 0} where
-  -- a sample was put behind a mark, where that was asked for
+  -- a sample was put after a mark, if that was asked for
   pub goes_cut : (limit : Option ℕ) (k : ℕ) (l : RoutedSample) (old held new : Sorting) (was mid now : Shards T) → held ≡ old → HasPlaced held new → mid ≡ record was { current = mid.current } → now ≡ record mid { current = now.current } → AreSame was.current mid.current
       → (limit ≡ None → mid ≡ was) → IsPut k l mid.current now.current → GoesOn limit old new was now
   goes_cut limit k l old held new was mid now same placed rest next samples none put =
@@ -173,14 +173,14 @@ sent_pos choice before (entry.Def reference labels) x is = absurd (cc)
 sent_pos choice before (entry.Sample reference t word) x is = sent_fate_pos choice before t word (fate choice before reference t) x is
 
 module _ {T : Type 0} where
-  -- a sample stands behind all that were put before it
+  -- a sample is after all that were put before it
   pub stands_behind : (old : Sorting) (was : Shards T) (e : Entry) (l : RoutedSample) (j : ℕ) → PlacesAll old was → sent_of old.choice old.placed e ≡ sent_by l ∷ []
       → (lane : ShardHistory) (k : ℕ) (o : Place) → slice_get was.current j ≡ Some lane → slice_get (places_in lane.put) k ≡ Some o → o.pos < l.pos
   stands_behind old was e l j h is lane k o at there =
       subst (λ n. o.pos < n) (sent_pos old.choice old.placed e (sent_by l) is) (placing_below was.epoch (length old.placed) j (map lane_of was.ended) was.current old.choice old.placed lane h refl at k o there)
 
 module _ {T : Type 0} where
-  -- the shards behind the first ones have ended so
+  -- the shards after the first ones have ended so
   pub ends_behind : (kind : Kind) (xs ys : List (StoppedShard T)) → AreEndedBy kind (drop (length xs) (map put_by (map finished_of (xs ++ ys)))) → AreEndedBy kind (map put_into (map lane_of ys))
   ends_behind kind [] [] h = tt
   ends_behind kind [] (y ∷ ys) h = (h.0, ends_behind kind [] ys h.1)
@@ -226,7 +226,7 @@ module _ {T : Type 0} where
   ready_next log was now None n h len number = (h.0, subst IsShardCount (sym len) number)
   ready_next log was now (Some f) n h len number = tt
 
-  -- what is counted where the next epoch begins, and behind a mark in each queue
+  -- what is counted if the next epoch begins, and after a mark in each queue
   pub reckoned_fresh : (cuts : Counting) (now : Shards T) (f : Option Fault) (n : ℕ) → AreFull cuts.limit cuts.rooms → length now.current ≡ n → n ≤ 1000 → AreFresh now.epoch now.current → IsReckoned cuts now f
   reckoned_fresh cuts now None n full len few fresh = counted_fresh cuts.limit cuts.rooms now.epoch n now.current full len few fresh
   reckoned_fresh cuts now (Some f) n full len few fresh = tt

@@ -96,7 +96,7 @@ part_of b (suc e) (x ∷ xs) lanes samples h at =
       rises = λ r. p.rises (Rises-right StandsBefore h.0 h.1 (subst (Rises StandsBefore) h.2 r));
     }
 
--- a sample of an epoch stands in the shard of its series
+-- a sample of an epoch is in the shard of its series
 dealt_one : (n : ℕ) (lanes : List ShardHistory) (part : List Sent) (x : Sent) → IsDealt n lanes part → Contains part x → (k : ℕ) × (l : ShardHistory) × (slice_get lanes k ≡ Some l) × Contains (put_in l) x
 dealt_one n [] part x d one = absurd (no_one x (subst (λ zs. Contains zs x) (d.none refl) one))
 dealt_one n (a ∷ ls) part x d one =
@@ -111,7 +111,7 @@ each_one b (y ∷ ys) samples x h one = elim (Contains-append_cases h.0 h.1 x (s
   | inr c ↦ (let r = each_one (suc b) ys h.1 x h.4 c in (suc r.0, r.1, r.2, r.3, r.4, r.5))
 ]
 
--- what stands in a shard is of its epoch, and of its series
+-- what is in a shard is of its epoch, and of its series
 shard_one : (n k : ℕ) (lanes : List ShardHistory) (part : List Sent) (l : ShardHistory) (x : Sent) → IsDealt n lanes part → slice_get lanes k ≡ Some l → Contains (put_in l) x → Contains part x × (k ≡ shard_of (length lanes) x.series)
 shard_one n k lanes part l x d at one =
     let f = one_filter (λ s. shard_of (length lanes) s.series == k) x part (subst (λ zs. Contains zs x) (d.each k l at).2 one) in

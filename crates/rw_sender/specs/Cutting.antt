@@ -8,7 +8,8 @@ use Rattle.rw_sender.specs.Marking.{AreSamples, IsWithin, is_over, open_bytes, r
 use Rattle.rw_sender.specs.Rooms.{Counting, Counts}
 use Rattle.rw_fleet.specs.ShardHistories.{ShardHistory, marked}
 
--- a queue was put samples, with a Flush before each that would take what it was put since its last mark above the limit, and no other mark
+-- a queue was put samples, with a Flush before each that would take what it was put since its last
+-- mark above the limit, and no other mark
 abbrev pub IsCutBy : Option ℕ → ShardHistory → ShardHistory → Type 0
 IsCutBy limit old new = (more : List Item) × AreSamples more × (new.put ≡ old.put ++ with_cuts limit (open_bytes old.put) more)
 
@@ -18,7 +19,8 @@ AreCutBy limit [] (q ∷ qs) = ⊥
 AreCutBy limit (p ∷ ps) [] = ⊥
 AreCutBy limit (p ∷ ps) (q ∷ qs) = IsCutBy limit p q × AreCutBy limit ps qs
 
--- in each of these queues each sample is the first one behind a mark, or what is counted with it is within the limit
+-- in each of these queues each sample is the first one after a mark, or what is counted with it is
+-- within the limit
 abbrev pub AreWithin : ℕ → List ShardHistory → Type 0
 AreWithin limit [] = ⊤
 AreWithin limit (p ∷ ps) = IsWithin limit p.put × AreWithin limit ps
@@ -49,12 +51,13 @@ pub record GoesCut (old new : Counting) (was now : List ShardHistory) : Type 0 w
   pub cut : AreCutBy old.limit was now
   pub counted : AreCounted new.limit new.rooms now
 
--- one shard was put a Flush where that is asked for
+-- one shard was put a Flush if that is asked for
 abbrev pub IsCutAt : Bool → ℕ → ShardHistory → List ShardHistory → List ShardHistory → Type 0
 IsCutAt true k was old new = new ≡ set old k (marked was)
 IsCutAt false k was old new = new ≡ old
 
--- a sample of so many bytes is counted for the shard numbered k, which was put a Flush where the sample does not fit
+-- a sample of this many bytes is counted for the shard numbered k, which was put a Flush if the
+-- sample does not fit
 pub record HasRoomMade (k bytes : ℕ) (old new : Counting) (was now : List ShardHistory) : Type 0 where
   pub lane : ShardHistory
   pub at : slice_get was k ≡ Some lane

@@ -5,30 +5,25 @@ use Rattle.std.specs.Ordering.{nat_cmp}
 use Rattle.std.specs.FinMap.{FinMap, get}
 use Rattle.rw_types.specs.declared.entry.Entry.{Entry}
 use Rattle.rw_types.specs.declared.entry.Entry.TheVariants.{Sample}
-use Rattle.rw_wal_format.specs.Pieces.{Piece, entries, fault}
-use Rattle.rw_wal_format.specs.declared.tail_fault.TailFault.{TailFault}
+use Rattle.rw_wal_format.specs.Pieces.{Piece}
 use Rattle.rw_ledger.specs.declared.ledger.Reason.{Reason}
 use Rattle.rw_relabel.specs.declared.choice.Choice.{Choice}
 use Rattle.rw_series_cache.specs.Fates.{Drops, fate}
 use Rattle.rw_series_cache.specs.Routing.{Routing, Knows, IsSentNext}
 use Rattle.rw_series_cache.specs.declared.sample.RoutedSample.{RoutedSample}
 use Rattle.rw_wal_tail.specs.Fed.{Fed}
+pub use Rattle.rw_wal_tail.specs.Taking.{HasTaken, HasRead}
 use Rattle.rw_sender.specs.Logs.{Sent, sent_of, named, dropped, filtered}
 use Rattle.rw_sender.specs.declared.feeder.Next.{Next}
 use Rattle.rw_sender.specs.declared.feeder.Next.TheVariants as next
 
--- the rules, the pieces of the log so far, the entries that were placed, and those that were read and are to be placed
+-- the rules, the pieces of the log so far, the entries that were placed, and those that were read
+-- and are to be placed
 pub record Sorting : Type 0 where
   pub choice : Choice
   pub pieces : List Piece
   pub placed : List Entry
   pub hand : List Entry
-
--- these entries were taken from the reader, each in its turn
-pub record HasTaken (tail : Fed) (taken : List Entry) : Type 0 where
-  pub count : tail.given ≡ length taken
-  pub rest : List Entry
-  pub begins : entries tail.pieces ≡ taken ++ rest
 
 -- what a feeder keeps
 pub record IsFeeder (tail : Fed) (router : Routing) (names : FinMap nat_cmp Reason) (count : ℕ) (placed hand : List Entry) : Type 0 where
@@ -64,11 +59,6 @@ pub record IsToBeSent (s : Sorting) (series : ℕ) (t : ℤ) : Type 0 where
 
 abbrev pub sent_by : RoutedSample → Sent
 sent_by l = record { pos = l.pos; series = l.series; t = l.t; word = l.word; labels = arc_value l.labels }
-
--- the log has these entries and no more: there is this fault after them, or none
-pub record HasRead (pieces : List Piece) (placed : List Entry) (found : Option TailFault) : Type 0 where
-  pub all : placed ≡ entries pieces
-  pub fault_is : fault pieces ≡ found
 
 -- an entry is in hand, or the log has been read to its end, or to a fault
 abbrev pub Reads : Sorting → Sorting → Next → Type 0

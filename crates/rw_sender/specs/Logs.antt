@@ -1,4 +1,6 @@
--- What becomes of the samples of a log: each is sent in its series, or is dropped for its labels, for want of a series, or because it does not rise in its series, or its series is one that the rules drop.
+-- What becomes of the samples of a log: each is sent in its series, or is dropped for its labels,
+-- because it has no series, or because it does not rise in its series, or its series is one that
+-- the rules drop.
 use Rattle.std.specs.Prelude.{ℕ, ℤ, List, [], ◌∷◌, length, fold}
 use Rattle.std.specs.Ordering.{nat_cmp}
 use Rattle.std.specs.FinMap.{FinMap, empty, insert}
@@ -11,7 +13,8 @@ use Rattle.rw_relabel.specs.declared.choice.Choice.{Choice}
 use Rattle.rw_series_cache.specs.Numbers.{series_of, number_of}
 use Rattle.rw_series_cache.specs.Fates.{Fate, Drops, Filters, Sends, fate}
 
--- a sample that is sent: its position in the log, the number of its series, its time and value, and its labels
+-- a sample that is sent: its position in the log, the number of its series, its time and value, and
+-- its labels
 pub record Sent : Type 0 where
   pub pos : ℕ
   pub series : ℕ
@@ -46,7 +49,8 @@ abbrev pub dropped_of : Choice → List Entry → Entry → List (ℕ × Reason)
 dropped_of choice before (Def reference labels) = []
 dropped_of choice before (Sample reference t word) = dropped_by_fate (length before) (fate choice before reference t)
 
--- the positions of the samples that have no series, or one whose labels are no label set, or that do not rise in their series
+-- the positions of the samples that have no series, or one whose labels are not a label set, or
+-- that do not rise in their series
 abbrev pub dropped : Choice → List Entry → List (ℕ × Reason)
 dropped choice es = gather (dropped_of choice) es
 

@@ -9,14 +9,14 @@ item_bytes (Sample place t word labels) = bytes_of labels.value (word, t)
 item_bytes Flush = 0
 item_bytes (End kind) = 0
 
--- what the samples behind the last mark count, where so much was counted before these items
+-- what the samples after the last mark count, if this much was counted before these items
 abbrev pub bytes_after : ℕ → List Item → ℕ
 bytes_after n [] = n
 bytes_after n (Sample place t word labels ∷ xs) = bytes_after (n + bytes_of labels.value (word, t)) xs
 bytes_after n (Flush ∷ xs) = bytes_after 0 xs
 bytes_after n (End kind ∷ xs) = bytes_after 0 xs
 
--- what the samples behind the last mark of a queue count
+-- what the samples after the last mark of a queue count
 abbrev pub open_bytes : List Item → ℕ
 open_bytes items = bytes_after 0 items
 
@@ -30,29 +30,31 @@ AreSamples (Sample place t word labels ∷ xs) = AreSamples xs
 AreSamples (Flush ∷ xs) = ⊥
 AreSamples (End kind ∷ xs) = ⊥
 
--- a sample that counts so much does not fit into what is left of the limit behind those counted; without a limit each one fits
+-- a sample that counts this much does not fit into what is left of the limit after those counted;
+-- without a limit each one fits
 abbrev pub is_over : Option ℕ → ℕ → ℕ → Bool
 is_over None counted bytes = false
 is_over (Some limit) counted bytes = not (nat_le bytes (limit - counted))
 
--- an item, behind a Flush where that is asked for
+-- an item, after a Flush if that is asked for
 abbrev pub behind_cut : Bool → Item → List Item
 behind_cut true x = Flush ∷ x ∷ []
 behind_cut false x = x ∷ []
 
--- what is counted with so much more: it alone behind a Flush
+-- what is counted with this much more: it alone after a Flush
 abbrev pub counted_with : Bool → ℕ → ℕ → ℕ
 counted_with true counted bytes = bytes
 counted_with false counted bytes = counted + bytes
 
--- samples, with a Flush before each that would take what was counted since the last mark above the limit, and no other mark
+-- samples, with a Flush before each that would take what was counted since the last mark above the
+-- limit, and no other mark
 abbrev pub with_cuts : Option ℕ → ℕ → List Item → List Item
 with_cuts limit counted [] = []
 with_cuts limit counted (x ∷ xs) =
     let over = is_over limit counted (item_bytes x) in
     behind_cut over x ++ with_cuts limit (counted_with over counted (item_bytes x)) xs
 
--- each sample is the first one behind a mark, or what is counted with it is within the limit
+-- each sample is the first one after a mark, or what is counted with it is within the limit
 abbrev pub WithinFrom : ℕ → ℕ → List Item → Type 0
 WithinFrom limit n [] = ⊤
 WithinFrom limit n (Sample place t word labels ∷ xs) =

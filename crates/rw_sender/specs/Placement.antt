@@ -1,4 +1,5 @@
--- Where the samples of a log went (Remote-Write 1.0: the samples of a series go out in order): each to the shard of its series, epoch after epoch.
+-- Where the samples of a log went (Remote-Write 1.0: the samples of a series go out in order): each
+-- to the shard of its series, epoch after epoch.
 use Rattle.std.specs.Prelude.{◌≡◌, ℕ, suc, ◌≤◌, ◌%◌, ◌==◌, List, [], ◌∷◌, ◌++◌, length, map, filter, Some, slice_get, ⊤}
 use Rattle.rw_plain_queue.specs.Items.{Placed, samples_in}
 use Rattle.rw_plain_queue.specs.declared.item.Kind.TheVariants.{Reshard}
@@ -14,7 +15,7 @@ as_sent p = record { pos = p.place.pos; series = p.place.series; t = p.t; word =
 abbrev pub put_in : ShardHistory → List Sent
 put_in lane = map as_sent (samples_in lane.put)
 
--- the same shard with the samples that it had, and maybe more behind them
+-- the same shard with the samples that it had, and maybe more after them
 abbrev pub IsKept : ShardHistory → ShardHistory → Type 0
 IsKept old new = (new.setup ≡ old.setup) × (more : List Placed) × (samples_in new.put ≡ samples_in old.put ++ more)
 
@@ -25,7 +26,7 @@ AreKept [] (q ∷ qs) = ⊥
 AreKept (p ∷ ps) [] = ⊥
 AreKept (p ∷ ps) (q ∷ qs) = IsKept p q × AreKept ps qs
 
--- the shard of a series, among so many
+-- the shard of a series, among this many
 abbrev pub shard_of : ℕ → ℕ → ℕ
 shard_of shards series = series % shards
 
@@ -50,7 +51,7 @@ joined (lanes ∷ later) = lanes ++ joined later
 abbrev pub IsShardCount : ℕ → Type 0
 IsShardCount n = (1 ≤ n) × (n ≤ 1000)
 
--- each of these epochs had so many shards, and they were ended because their number changed
+-- each of these epochs had this many shards, and they were ended because their number changed
 abbrev pub AreTurned : List (List ShardHistory) → Type 0
 AreTurned [] = ⊤
 AreTurned (lanes ∷ later) = IsShardCount (length lanes) × AreEndedBy Reshard (map put_into lanes) × AreTurned later

@@ -30,11 +30,11 @@ abandoned_in (j ∷ js) = j.abandoned.items ++ abandoned_in js
 abbrev pub HasRoom : {T : Type 0} → Lists T → List (StoppedShard T) → Type 0
 HasRoom lists js = (vec_len lists.parts + length js ≤ vec_capacity lists.parts) × (vec_len lists.workers + length js ≤ vec_capacity lists.workers) × (vec_len lists.samples + length (abandoned_in js) ≤ vec_capacity lists.samples)
 
--- these shards are listed behind what stood there
+-- these shards are listed after what was listed before
 abbrev pub ListsAfter : {T : Type 0} → Lists T → List (StoppedShard T) → Lists T → Type 0
 ListsAfter old js new = (new.parts.items ≡ old.parts.items ++ map part_of js) × (new.workers.items ≡ old.workers.items ++ map finished_of js) × (new.samples.items ≡ old.samples.items ++ abandoned_in js)
 
--- nothing is listed, and there is room for so many shards, one part more, and so many samples
+-- nothing is listed, and there is room for this many shards, one part more, and this many samples
 pub record HasSpace {T : Type 0} (shards samples : ℕ) (lists : Lists T) : Type 0 where
   pub no_parts : vec_len lists.parts ≡ 0
   pub no_workers : vec_len lists.workers ≡ 0
@@ -48,7 +48,7 @@ pub record HasSpace {T : Type 0} (shards samples : ℕ) (lists : Lists T) : Type
 abbrev pub IsRoomFor : {T : Type 0} → Shards T → Lists T → Type 0
 IsRoomFor s lists = HasSpace (length s.ended + length s.current) (length (abandoned_in s.ended) + length s.current * window_of s.config) lists
 
--- All shards have ended, those at work by this End, and are listed behind one part more.
+-- All shards have ended, those at work by this End, and are listed after one part more.
 pub record HasListed {T : Type 0} (tells : T → Type 0) (seen : T → List Exchange) (is_for : ℕ → ℕ → T → Type 0) (s : Shards T) (part : Named) (lists : Lists T) (kind : Kind) (resolution : Resolution) : Type 0 where
   pub joined : List (StoppedShard T)
   pub all : AreAll s joined
@@ -71,7 +71,7 @@ abbrev pub end_of : ℕ → Option TailFault → Outcome
 end_of placed None = Complete placed
 end_of placed (Some f) = Damaged f
 
--- the work was stopped with so many entries placed, and these samples not resolved
+-- the work was stopped with this many entries placed, and these samples not resolved
 abbrev pub IsAbandonedAt : ℕ → List ℕ → Outcome → Type 0
 IsAbandonedAt placed positions (Complete end) = ⊥
 IsAbandonedAt placed positions (Abandoned entries samples) = (entries ≡ placed) × (samples.items ≡ positions)
@@ -82,6 +82,7 @@ IsAbandoned (Complete end) = ⊥
 IsAbandoned (Abandoned placed samples) = ⊤
 IsAbandoned (Damaged f) = ⊥
 
--- one of these queues was cut: one of its ends was gone before the other, or its worker read the stop flag as set
+-- one of these queues was cut: one of its ends was gone before the other, or its worker read the
+-- stop flag as set
 abbrev pub ListsCut : {T : Type 0} → List (Finished T) → Type 0
 ListsCut {T} fs = (k : ℕ) × (f : Finished T) × (slice_get fs k ≡ Some f) × IsCut f

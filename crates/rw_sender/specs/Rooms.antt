@@ -19,7 +19,8 @@ AreFull (Some limit) rooms = (k : ℕ) → k < 1000 → slice_index rooms k ≡ 
 abbrev pub IsRoomNow : List ℕ → List ℕ → ℕ → ℕ → Type 0
 IsRoomNow old new k room = (slice_index new k ≡ room) × ((j : ℕ) → j ≢ k → slice_index new j ≡ slice_index old j)
 
--- a sample of so many bytes was counted for the shard numbered k: it does not fit and stands behind a mark, or it fits
+-- a sample of this many bytes was counted for the shard numbered k: it does not fit and comes after
+-- a mark, or it fits
 abbrev pub Counts : Option ℕ → ℕ → ℕ → List ℕ → List ℕ → Bool → Type 0
 Counts None k bytes old new over = over ≡ false
 Counts (Some limit) k bytes old new true = (slice_index old k < bytes) × IsRoomNow old new k (limit - bytes)

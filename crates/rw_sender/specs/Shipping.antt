@@ -28,7 +28,8 @@ use Rattle.rw_sender.specs.Reports.{part_of, abandoned_in}
 use Rattle.rw_sender.specs.declared.shipper.FeedFault.{FeedFault}
 use Rattle.rw_sender.specs.declared.shipper.FeedFault.TheVariants.{OutOfMemory, Damaged, Gone}
 
--- the log as far as it was placed, the shards, the fault by which it failed, and how many bytes a batch may take
+-- the log as far as it was placed, the shards, the fault by which it failed, and how many bytes a
+-- batch may take
 pub record Shipping (T : Type 0) : Type 0 where
   pub log : Sorting
   pub fleet : Shards T
@@ -54,11 +55,13 @@ abbrev pub IsRead : Sorting → Option Fault → Option TailFault → Type 0
 IsRead log None damage = HasRead log.pieces log.placed damage
 IsRead log (Some f) damage = ⊤
 
--- Each shard of the epoch has ended, by an End that asks for all. The next epoch has a queue only where all that was put is resolved, and nothing was put into those that it has.
+-- Each shard of the epoch has ended, by an End that asks for all. The next epoch has a queue only
+-- if all that was put is resolved, and nothing was put into those that it has.
 abbrev pub HasCompared : {T : Type 0} → Shards T → Shards T → Type 0
 HasCompared old new = AreAll old new.ended × EndBy Reshard old (map finished_of new.ended) × ((new.current ≡ []) ⊎ (AreResolved new.ended × AreFresh new.epoch new.current))
 
--- more entries may have been placed, and their samples put: the rest is as it was, and without a limit no mark was put
+-- more entries may have been placed, and their samples put: the rest is as it was, and without a
+-- limit no mark was put
 pub record GoesOn {T : Type 0} (limit : Option ℕ) (old new : Sorting) (was now : Shards T) : Type 0 where
   pub choice : new.choice ≡ old.choice
   pub pieces : new.pieces ≡ old.pieces
@@ -69,7 +72,7 @@ pub record GoesOn {T : Type 0} (limit : Option ℕ) (old new : Sorting) (was now
   pub kept : AreKept was.current now.current
   pub marks : limit ≡ None → map marks_of now.current ≡ map marks_of was.current
 
--- what one step of the feeder came to
+-- what one step of the feeder resulted in
 abbrev pub Steps : Sorting → Progress → Type 0
 Steps log Placed = log.hand ≡ []
 Steps log End = (log.hand ≡ []) × HasRead log.pieces log.placed None
@@ -79,7 +82,7 @@ abbrev pub answer_to : Fault → FeedFault
 answer_to queue_fault.OutOfMemory = OutOfMemory
 answer_to queue_fault.Gone = Gone
 
--- it has failed, by what the answer says
+-- it has failed, if the answer says so
 abbrev pub FailsBy : Option Fault → FeedFault → Type 0
 FailsBy None e = ⊥
 FailsBy (Some f) e = e ≡ answer_to f
@@ -91,7 +94,7 @@ Feeds s (Err (Damaged f)) = HasRead s.log.pieces s.log.placed (Some f) × (s.fau
 Feeds s (Err OutOfMemory) = s.fault ≡ Some queue_fault.OutOfMemory
 Feeds s (Err Gone) = s.fault ≡ Some queue_fault.Gone
 
--- the piece joins those that were fed; where memory was refused it may not have
+-- the piece joins those that were fed; if memory ran out it may not have
 abbrev pub Joins : Sorting → Sorting → Piece → Result (Unit {0}) FeedFault → Type 0
 Joins old new piece (Ok u) = new.pieces ≡ old.pieces ++ piece ∷ []
 Joins old new piece (Err (Damaged f)) = new.pieces ≡ old.pieces ++ piece ∷ []
@@ -104,7 +107,8 @@ Ends s js (outcome.Complete end) = (end ≡ length s.log.placed) × HasRead s.lo
 Ends s js (outcome.Damaged f) = HasRead s.log.pieces s.log.placed (Some f) × AreResolved js
 Ends s js (outcome.Abandoned placed samples) = (placed ≡ length s.log.placed) × (samples.items ≡ abandoned_in js)
 
--- The entries placed are the first ones of those fed. The shards of all epochs were put their samples, and did what their workers report; the other samples are named, or counted.
+-- The entries placed are the first ones of those fed. The shards of all epochs were put their
+-- samples, and did what their workers report; the other samples are named, or counted.
 pub record HasStopped {T : Type 0} (tells : T → Type 0) (seen : T → List Exchange) (is_for : ℕ → ℕ → T → Type 0) (s : Shipping T) (r : Report T) : Type 0 where
   pub joined : List (StoppedShard T)
   pub own : Named

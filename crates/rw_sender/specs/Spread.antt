@@ -1,4 +1,6 @@
--- How the samples of a log went to the shards of all epochs (Remote-Write 1.0: the samples of a series go out in order): each to one shard, that of its series, by rising position, and later epochs have later samples.
+-- How the samples of a log went to the shards of all epochs (Remote-Write 1.0: the samples of a
+-- series go out in order): each to one shard, that of its series, by rising position, and later
+-- epochs have later samples.
 use Rattle.std.specs.Prelude.{◌≡◌, ◌<◌, ℕ, List, length, Some, slice_get}
 use Rattle.std.specs.List.{Contains}
 use Rattle.rw_types.specs.Rising.{Rises}

@@ -1,4 +1,5 @@
-//! Laws of what samples count, and of marks. The functions do nothing: their contracts are the laws.
+//! Laws of what samples count, and of marks. Each function has an empty body: its contract is the
+//! law.
 
 ghost use Rattle.std.specs.Prelude.{ℕ, ◌≤◌, List, [], ◌∷◌, ◌++◌, length, sum_by, Some};
 ghost use Rattle.rw_plain_queue.specs.declared.item.Item.{Item};
@@ -16,14 +17,14 @@ pub fn body_within_its_count()
     rw_write_request::sample_field_is_short();
 }
 
-/// Law: a queue whose stretches between marks are within a limit stays so with more samples that are
-/// cut by it.
+/// Law: a queue whose stretches between marks are within a limit stays so with more samples that
+/// are cut by it.
 pub fn cuts_keep_within()
     ensures { (limit : ℕ) (items more : List Item) → IsWithin limit items → AreSamples more
         → IsWithin limit (items ++ with_cuts (Some limit) (open_bytes items) more) }
 {}
 
-/// Law: and with a mark more.
+/// Law: the same with one mark more.
 pub fn marks_keep_within()
     ensures { (limit : ℕ) (items : List Item) → IsWithin limit items
         → IsWithin limit (items ++ Flush ∷ []) }

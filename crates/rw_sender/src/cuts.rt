@@ -9,10 +9,11 @@ use rw_write_request::series_field_len;
 use std::alloc::{AllocError, Global};
 use std::marker::Model;
 
-/// For how many shards there is a room: an epoch has no more.
+/// The most shards of an epoch, and so of rooms.
 const MAX_SHARDS: usize = 1000;
 
-/// How many bytes a message of a sample alone takes; none where the number does not fit 64 bits.
+/// Returns how many bytes a message of a sample alone takes, or `None` if the number does not fit
+/// 64 bits.
 #[tactic(auto, unfolding(crate::specs::Sizes::bytes_of))]
 fn len_alone(labels: &LabelSet, word: Word, t: i64) -> Option<usize>
     ensures some { IfSome result (λ n. n ≡ bytes_of labels.now (word, t)) }
@@ -21,7 +22,7 @@ fn len_alone(labels: &LabelSet, word: Word, t: i64) -> Option<usize>
     series_field_len(labels.as_slice(), &[(word, t)])
 }
 
-/// What is left of a room behind a sample; none where the sample does not fit.
+/// Returns what is left of a room after a sample, or `None` if the sample does not fit.
 fn left_of(room: u64, labels: &LabelSet, word: Word, t: i64) -> Option<u64>
     ensures fits { IfSome result (λ left. room ≡ bytes_of labels.now (word, t) + left) }
     ensures over { IfNone result (room < bytes_of labels.now (word, t)) }
@@ -32,7 +33,7 @@ fn left_of(room: u64, labels: &LabelSet, word: Word, t: i64) -> Option<u64>
     }
 }
 
-/// The same room for each.
+/// Sets each room to the limit.
 fn fill(rooms: &mut [u64], limit: u64)
     ensures { EachIndex rooms.new (λ k. slice_index rooms.new k ≡ limit) }
 {
@@ -41,12 +42,12 @@ fn fill(rooms: &mut [u64], limit: u64)
     }
 }
 
-/// How many bytes the samples of each shard may still count before a mark, where batches have a
-/// limit. A sample counts as many bytes as a message of it alone takes.
+/// How many bytes the samples of each shard may still count before a mark, if batches have a limit.
+/// A sample counts as many bytes as a message of it alone takes.
 #[derive(Drop)]
 pub struct Cuts {
     limit: Option<u64>,
-    /// None without a limit.
+    /// No rooms without a limit.
     rooms: Vec<u64>,
 }
 
@@ -61,7 +62,7 @@ impl Model for Cuts {
 }
 
 impl Cuts {
-    /// Nothing counted. Without a limit this takes no memory.
+    /// Returns counts that are all 0. Without a limit this takes no memory.
     pub fn within(alloc: Global, limit: Option<u64>) -> Result<Cuts, AllocError>
         ensures limit { IfOk result (λ c. c.limit ≡ limit) }
         ensures full { IfOk result (λ c. AreFull c.limit c.rooms) }
@@ -77,7 +78,7 @@ impl Cuts {
         Ok(Cuts { limit, rooms })
     }
 
-    /// Counts nothing for any shard, as behind a mark in each queue.
+    /// Counts nothing for any shard, as after a mark in each queue.
     pub fn reset(&mut self)
         ensures limit { self.new.limit ≡ self.old.limit }
         ensures full { AreFull self.new.limit self.new.rooms }
@@ -87,8 +88,8 @@ impl Cuts {
         }
     }
 
-    /// Counts a sample for the shard numbered `shard`. The result says whether a mark has to stand
-    /// before it, as it would take what was counted since the last one above the limit.
+    /// Counts a sample for the shard numbered `shard`. The result says whether a mark has to come
+    /// before it, because it would take what was counted since the last one above the limit.
     pub fn count(&mut self, shard: usize, labels: &LabelSet, word: Word, t: i64) -> bool
         requires { shard < MAX_SHARDS }
         ensures limit { self.new.limit ≡ self.old.limit }

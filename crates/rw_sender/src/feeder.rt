@@ -14,7 +14,7 @@ use rw_ledger::{Ledger, Reason};
 use rw_relabel::Choice;
 use rw_series_cache::{Routed, RoutedSample, Router};
 use rw_types::Entry;
-use rw_wal_tail::{Piece, Tail, TailFault, is_out_of_memory};
+use rw_wal_tail::{Piece, SkippedType, Tail, TailFault, is_out_of_memory};
 use std::alloc::{AllocError, Global};
 use std::marker::Model;
 
@@ -29,10 +29,11 @@ pub enum Next {
     Damaged(TailFault),
 }
 
-/// Reads the entries of a log and routes them: it names the samples that are dropped, counts those whose series the rules drop, and gives the
-/// others with their series.
+/// Reads the entries of a log and routes them: it names the samples that are dropped, counts those
+/// whose series the rules drop, and returns the others with their series.
 ///
-/// It keeps no sample. Contracts see the rules, the pieces of the log, the entries that were placed, and those that were read and are to be placed.
+/// It keeps no sample. Contracts see the rules, the pieces of the log, the entries that were
+/// placed, and those that were read and are to be placed.
 #[derive(Drop)]
 pub struct Feeder {
     tail: Tail,
@@ -40,6 +41,8 @@ pub struct Feeder {
     part: Ledger,
     /// How many entries were placed.
     count: u64,
+    /// The latest timestamp of the samples that were put, or the earliest that there can be.
+    newest: i64,
     read: History<Entry>,
 }
 
@@ -61,7 +64,7 @@ impl Model for Feeder {
 }
 
 impl Feeder {
-    /// Before the first piece of a log. This takes no memory.
+    /// Returns a feeder before the first piece of a log. This takes no memory.
     pub fn new(alloc: Global, choice: Choice) -> Feeder
         ensures { result ≡ record { choice = choice; pieces = []; placed = []; hand = [] } }
     {
@@ -70,11 +73,12 @@ impl Feeder {
             router: Router::new(alloc, choice),
             part: Ledger::new(alloc),
             count: 0,
+            newest: i64::MIN,
             read: History::new(),
         }
     }
 
-    /// The next piece of the log.
+    /// Takes the next piece of the log.
     pub fn feed(&mut self, piece: &Piece) -> Result<(), AllocError>
         ensures ok { OnOk result
             (self.new ≡ record self.old { pieces = self.old.pieces ++ piece_of piece.now ∷ [] }) }
@@ -83,7 +87,7 @@ impl Feeder {
         self.tail.feed_piece(piece)
     }
 
-    /// The next entry.
+    /// Returns the next entry.
     pub fn read(&mut self) -> Result<Next, AllocError>
         requires { self.old.hand ≡ [] }
         ensures ok { IfOk result (λ next. Reads self.old self.new next) }
@@ -106,7 +110,7 @@ impl Feeder {
         }
     }
 
-    /// The next entry is a sample that is dropped.
+    /// Names the sample that comes next as dropped, for `reason`.
     fn name(&mut self, reason: Reason) -> Result<(), AllocError>
         requires { IsDropped self.old reason }
         ensures ok { OnOk result (HasPlaced self.old self.new) }
@@ -118,16 +122,18 @@ impl Feeder {
         Ok(())
     }
 
-    /// The sample that `place` gave was put: of the series of this number, at this time.
+    /// Notes that the sample that `place` returned was put: one of the series of this number, at
+    /// this time.
     pub fn sent(&mut self, series: u64, t: i64)
         requires { IsToBeSent self.old series t }
         ensures { HasPlaced self.old self.new }
     {
         self.router.sent(series, t);
+        self.newest = self.newest.max(t);
         self.count = self.tail.entries_read();
     }
 
-    /// Places the entry that was read, or gives the sample that is to be sent.
+    /// Places the entry that was read, or returns the sample that is to be sent.
     pub fn place(&mut self, entry: Entry) -> Result<Option<RoutedSample>, AllocError>
         requires { self.old.hand ≡ entry ∷ [] }
         ensures ok { IfOk result (λ found. Judges self.old self.new entry found) }
@@ -149,11 +155,22 @@ impl Feeder {
         }
     }
 
-    /// How many entries were placed.
+    /// Returns how many entries were placed.
     pub fn count(&self) -> u64
         ensures { result ≡ length self.now.placed }
     {
         self.count
+    }
+
+    /// Returns how many records of a type the log reader has skipped.
+    pub fn skipped_of(&self, kind: SkippedType) -> u64 {
+        self.tail.skipped_of(kind)
+    }
+
+    /// Returns the latest timestamp of the samples that `sent` was told of, in milliseconds. It is best
+    /// effort: no clause says what it is.
+    pub fn newest(&self) -> i64 {
+        self.newest
     }
 
     /// The samples that were dropped so far. This takes no memory, and its time does not grow.
@@ -163,14 +180,15 @@ impl Feeder {
         &self.part
     }
 
-    /// How many samples were placed so far whose series the rules drop.
+    /// Returns how many samples were placed so far whose series the rules drop.
     pub fn filtered(&self) -> u64
         ensures { result ≡ length (filtered self.now.choice self.now.placed) }
     {
         self.router.filtered()
     }
 
-    /// The samples that were dropped, and how many samples were placed whose series the rules drop.
+    /// Returns the samples that were dropped, and how many samples were placed whose series the
+    /// rules drop.
     pub fn finish(self) -> (Ledger, u64)
         ensures names { result.0.names ≡ named (dropped self.choice self.placed) }
         ensures filtered { result.1 ≡ length (filtered self.choice self.placed) }

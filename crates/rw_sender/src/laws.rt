@@ -1,4 +1,4 @@
-//! What follows of how samples are placed, and of how queues are cut.
+//! Laws of how samples are placed, and of how queues are cut.
 
 ghost use Rattle.std.specs.Prelude.{◌≡◌, ℕ, List, Some, map};
 ghost use Rattle.rw_plain_queue.specs.declared.item.Item.{Item};
@@ -12,7 +12,8 @@ ghost use Rattle.rw_sender.specs.Cutting.{AreCutBy, AreWithin, IsCutShort};
 ghost use Rattle.rw_sender.specs.Placement.{ArePlaced, joined};
 ghost use Rattle.rw_sender.specs.Spread.{IsSpread};
 
-/// Each sample of a log that is to be sent went to one shard, that of its series in its epoch, by rising position, and later epochs have later samples.
+/// Law: each sample of a log that is to be sent went to one shard, that of its series in its epoch,
+/// by rising position, and later epochs have later samples.
 pub fn samples_are_spread()
     ensures { (lanes : List ShardHistory) (choice : Choice) (entries : List Entry)
         → ArePlaced lanes (sent choice entries)
@@ -20,8 +21,8 @@ pub fn samples_are_spread()
         × IsSpread epochs (sent choice entries) }
 {}
 
-/// Queues in which, between two marks, the samples count no more than a limit, or are one: fresh ones
-/// are such, and stay so with what is put under that limit, and with a mark.
+/// Law: in these queues the samples between two marks stay within a limit, or are a single one. A
+/// fresh queue is such, and stays so with what is put under that limit, and with a mark.
 pub fn queues_stay_within()
     ensures fresh { (limit epoch : ℕ) (lanes : List ShardHistory)
         → AreFresh epoch lanes → AreWithin limit lanes }
@@ -34,8 +35,8 @@ pub fn queues_stay_within()
     crate::marks_keep_within();
 }
 
-/// Each batch that a worker cuts out of such a queue, by number of samples and at marks, has a body
-/// within the limit, or one sample.
+/// Law: each batch that a worker cuts out of such a queue, by number of samples and at marks, has a
+/// body within the limit, or one sample.
 pub fn batches_are_short()
     ensures { (limit batch : ℕ) (items : List Item) → IsWithin limit items
         → IsCutShort limit (cut batch items) }

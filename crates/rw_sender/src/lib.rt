@@ -1,5 +1,5 @@
-//! The sender of Remote-Write 1.0 in threads: a log is read piece by piece, its samples are routed to
-//! the queues of many shards, and a worker of each shard sends them in batches of bounded size.
+//! The sender of Remote-Write 1.0 in threads: a log is read piece by piece, its samples are routed
+//! to the queues of many shards, and a worker of each shard sends them in batches of bounded size.
 //!
 //! The configuration, the state of a shard and the workers come from the crates below and are
 //! re-exported here.

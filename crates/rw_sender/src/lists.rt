@@ -1,4 +1,4 @@
-//! What a report lists of the shards, and the room for it.
+//! The lists of a report on the shards, and the room for them.
 
 ghost use Rattle.std.specs.Prelude.{◌≡◌, ◌+◌, ◌*◌, ◌≤◌, ℕ, List, ◌∷◌, [], length, IfOk, OnOk, OnErr};
 ghost use Rattle.rw_fleet.specs.ShardHistories.{AreFresh};
@@ -13,8 +13,8 @@ use std::alloc::{AllocError, Global};
 use std::sync::Wait;
 use std::thread::Threads;
 
-/// What a report lists: the parts of the ledger, the workers, and the positions of the samples that are not resolved. Until the shards are ended
-/// it is empty, with room for all of that.
+/// The lists of a report: the parts of the ledger, the workers, and the positions of the samples
+/// that are not resolved. They are empty until the shards are ended, and have room for all of that.
 #[derive(Drop)]
 pub(crate) struct Lists<T> {
     /// For how many parts there is room: one of the log, and one of each shard.
@@ -25,7 +25,7 @@ pub(crate) struct Lists<T> {
 }
 
 impl<T: Transport + Drop> Lists<T> {
-    /// There is room for the part of the log.
+    /// Returns empty lists with room for the part of the log.
     pub(crate) fn new(alloc: Global) -> Result<Lists<T>, AllocError>
         ensures { IfOk result (HasSpace 0 0) }
     {
@@ -39,8 +39,8 @@ impl<T: Transport + Drop> Lists<T> {
         })
     }
 
-    /// Makes room for so many shards more, of which each leaves at most `window` samples, and no other leaves any. An `Err` leaves the room that
-    /// there was.
+    /// Makes room for `shards` shards more, of which each leaves at most `window` samples, and no
+    /// other leaves any. An `Err` leaves the room that there was.
     pub(crate) fn reserve(&mut self, shards: usize, window: usize) -> Result<(), AllocError>
         ensures kept { OnErr result ((n left : ℕ) → HasSpace n left self.old
             → HasSpace n left self.new) }
@@ -86,7 +86,8 @@ fn list_all<T: Transport + Drop>(joined: Vec<StoppedShard<T>>, mut lists: Lists<
     lists
 }
 
-/// Opens the queues of so many shards, and starts their workers, with room for what is listed of them. Where that is refused some may be at work.
+/// Opens the queues of `shards` shards, and starts their workers, with room for what is listed of
+/// them. After an `Err` some may be at work.
 pub(crate) fn open_listed<C: Connect + Drop, R: Threads + Wait + Copy + Send + 'static>(
     rt: &R,
     fleet: &mut ShardSet<C>,
@@ -106,8 +107,8 @@ pub(crate) fn open_listed<C: Connect + Drop, R: Threads + Wait + Copy + Send + '
     fleet.open(rt, shards)
 }
 
-/// Ends all shards at work and waits for their workers, which are told to stop where the end is hard. It lists what the shards did behind a part
-/// of the ledger.
+/// Ends all shards at work and waits for their workers, which are stopped at once if the end is
+/// hard. Lists what the shards did after a part of the ledger.
 pub(crate) fn finish_listed<C: Connect + Drop, R: Threads + Wait>(
     rt: &R,
     fleet: ShardSet<C>,

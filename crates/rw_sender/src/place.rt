@@ -1,4 +1,4 @@
-//! The entries of the log are placed.
+//! Places the entries of the log.
 
 ghost use Rattle.std.specs.Prelude.{◌≡◌, ◌<◌, ◌∷◌, [], length, IfOk, OnOk, None};
 ghost use Rattle.rw_sender.specs.Feeders.{HasRead};
@@ -16,7 +16,7 @@ use rw_types::Entry;
 use rw_wal_tail::TailFault;
 use std::sync::Wait;
 
-/// What one step came to.
+/// What one step results in.
 pub(crate) enum Progress {
     /// One entry more was placed.
     Placed,
@@ -26,7 +26,7 @@ pub(crate) enum Progress {
     Damaged(TailFault),
 }
 
-/// Counts a sample for its shard, and puts a Flush into the queue of that shard where the sample would
+/// Counts a sample for its shard, and puts a Flush into the queue of that shard if the sample would
 /// take what is counted since the last mark above the limit. It may wait for room.
 fn make_room<C: Connect + Drop, R: Wait>(
     rt: &R,
@@ -87,7 +87,7 @@ fn place_entry<C: Connect + Drop, R: Wait>(
     Ok(())
 }
 
-/// Places the next entry, where there is one. It may wait for room in a queue.
+/// Places the next entry, if there is one. It may wait for room in a queue.
 fn place_next<C: Connect + Drop, R: Wait>(
     rt: &R,
     feeder: &mut Feeder,
@@ -117,7 +117,8 @@ fn place_next<C: Connect + Drop, R: Wait>(
     }
 }
 
-/// Places all entries that there are, and answers the fault of the log after them. It may wait for room in a queue.
+/// Places all entries that there are, and returns the fault of the log after them. It may wait for
+/// room in a queue.
 pub(crate) fn place_all<C: Connect + Drop, R: Wait>(
     rt: &R,
     feeder: &mut Feeder,

@@ -8,7 +8,9 @@ use rw_shard_core::Outcome;
 #[derive(Drop)]
 pub struct Report<T> {
     pub outcome: Outcome,
-    /// The samples that have no series, or one whose labels are no label set, or that do not rise in their series; and then, for each of the workers, its refused samples.
+    /// First the samples that were dropped without being put: those that have no series, one whose
+    /// labels are not a label set, or a timestamp that is not later than the last one of the
+    /// series. Then, for each of the workers, its refused samples.
     pub parts: Vec<Ledger>,
     /// How many samples were placed whose series the rules drop.
     pub filtered: u64,

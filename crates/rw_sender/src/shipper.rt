@@ -25,7 +25,7 @@ use rw_ledger::Ledger;
 use rw_relabel::{Choice, Rules};
 use rw_shard_core::{Config, ConfigFields, Outcome};
 use rw_shard_queue::Kind;
-use rw_wal_tail::{Piece, TailFault};
+use rw_wal_tail::{Piece, SkippedType, TailFault};
 use rw_worker::StopFlag;
 use std::alloc::{AllocError, Global};
 use std::error::Error;
@@ -37,11 +37,12 @@ use std::thread::Threads;
 /// Why a call of a shipper did not do all that it was to do.
 #[derive(Clone, Copy, Debug, PartialEq, Eq)]
 pub enum FeedFault {
-    /// Memory or a thread was refused. The shipper has failed: it answers this from then on.
+    /// Memory ran out or no thread could be made. The shipper has failed, and returns this from
+    /// then on.
     OutOfMemory,
     /// The log has this fault. All entries before it were placed.
     Damaged(TailFault),
-    /// A worker has gone. The shipper has failed: it answers this from then on.
+    /// A worker has gone. The shipper has failed, and returns this from then on.
     Gone,
 }
 
@@ -66,14 +67,15 @@ fn answer_to(fault: Fault) -> FeedFault
     }
 }
 
-/// By which End the shards are ended.
+/// Returns the kind of the End by which the shards are ended.
 fn kind_of(is_hard: bool) -> Kind
     ensures { result ≡ kind_of is_hard }
 {
     if is_hard { Kind::Hard } else { Kind::Orderly }
 }
 
-/// How the work has ended: hard, or with samples that are not resolved, or else with all that the log has.
+/// Returns how the work has ended: at once, or with samples that are not resolved, or else with all
+/// that the log has.
 fn outcome_of(
     is_hard: bool,
     resolution: Resolution,
@@ -133,19 +135,20 @@ fn split_choice(alloc: Global, config: Config) -> (Config, Choice)
     (config, Choice { names, rules })
 }
 
-/// Reads a log as it grows, and puts its samples into the queues of their shards, each with a worker in a thread of its own.
+/// Reads a log as it grows, and puts its samples into the queues of their shards, each with a
+/// worker in its own thread.
 ///
 /// Contracts see the log as far as it was placed, the shards with what they were put, the fault by
-/// which the shipper has failed, and how many bytes a batch may take. One that was started has to be
-/// stopped.
+/// which the shipper has failed, and how many bytes a batch may take. A shipper that was started
+/// has to be stopped.
 pub struct Shipper<C: Connect + Drop> {
     feeder: Feeder,
     fleet: ShardSet<C>,
     lists: Lists<C::T>,
     cuts: Cuts,
-    /// By which it has failed.
+    /// Why it has failed.
     fault: Option<Fault>,
-    /// Of the log, as far as it was fed while the shipper had not failed.
+    /// The fault of the log, as far as it was fed while the shipper had not failed.
     damage: Option<TailFault>,
 }
 
@@ -174,7 +177,8 @@ impl<C: Connect + Drop> Model for Shipper<C> {
 }
 
 impl<C: Connect + Drop> Shipper<C> {
-    /// Opens epoch 0 with as many shards as are configured, and starts their workers. Where memory or a thread is refused the workers that were started are stopped and joined.
+    /// Opens epoch 0 with as many shards as are configured, and starts their workers. If memory
+    /// runs out or no thread can be made, the workers that were started are stopped and joined.
     pub fn start<R: Threads + Wait + Copy + Send + 'static>(
         rt: &R,
         alloc: Global,
@@ -193,13 +197,14 @@ impl<C: Connect + Drop> Shipper<C> {
         Shipper::start_within(rt, alloc, config, connect, None, stop)
     }
 
-    /// Opens epoch 0 as `start` does, for batches that may have a limit in bytes: no body takes more, but
-    /// that of a single sample that does. A sample counts as many bytes as a message of it alone takes,
-    /// so that batches of several samples of a series end below the limit. Where memory or a thread is
-    /// refused the workers that were started are stopped and joined.
+    /// Opens epoch 0 as `start` does, for batches that may have a limit in bytes: no body is
+    /// longer, but that of a single sample that is. A sample counts as many bytes as a message of
+    /// it alone takes, so batches of several samples of a series end below the limit. If memory
+    /// runs out or no thread can be made, the workers that were started are stopped and joined.
     ///
-    /// `stop` is looked at by all workers. Where another thread sets it they leave what is not sent, so that a call that waits for room, or for them,
-    /// comes back: a call that puts something then answers `Gone`, and a stop behind it is a hard one.
+    /// All workers look at `stop`. If another thread sets it, they abandon what is not sent, so
+    /// that a call that waits for room, or for them, comes back: a call that puts something then
+    /// returns `Gone`, and a stop after it is a hard one.
     pub fn start_within<R: Threads + Wait + Copy + Send + 'static>(
         rt: &R,
         alloc: Global,
@@ -235,7 +240,8 @@ impl<C: Connect + Drop> Shipper<C> {
         })
     }
 
-    /// Places the entries that the log has with one piece more, and hands all of them to the workers. It may wait for room in a queue.
+    /// Places the entries that the log has with one piece more, and hands all of them to the
+    /// workers. It may wait for room in a queue.
     pub fn feed<R: Wait>(&mut self, rt: &R, piece: Piece) -> Result<(), FeedFault>
         ensures failed { IfSome self.old.fault
             (λ f. (result ≡ Err (answer_to f)) × (self.new ≡ self.old)) }
@@ -251,8 +257,8 @@ impl<C: Connect + Drop> Shipper<C> {
         ensures limit { self.new.limit ≡ self.old.limit }
         ensures marks { self.old.limit ≡ None
             → map marks_of self.new.fleet.current ≡ map marks_of self.old.fleet.current }
-        // While it has not failed, a mark stands only before a sample that would take what is counted
-        // since the last one above the limit.
+        // While it has not failed, a mark comes only before a sample that would take what is
+        // counted since the last one above the limit.
         ensures cut { self.new.fault ≡ None
             → AreCutBy self.old.limit self.old.fleet.current self.new.fleet.current }
     {
@@ -309,7 +315,8 @@ impl<C: Connect + Drop> Shipper<C> {
         Ok(())
     }
 
-    /// Ends the epoch, once all that was put is resolved, and opens the next one with so many shards.
+    /// Ends the epoch, once all that was put is resolved, and opens the next one with `shards`
+    /// shards.
     pub fn reshard<R: Threads + Wait + Copy + Send + 'static>(
         &mut self,
         rt: &R,
@@ -353,11 +360,22 @@ impl<C: Connect + Drop> Shipper<C> {
         Ok(())
     }
 
-    /// How many entries were placed.
+    /// Returns how many entries were placed.
     pub fn entries_read(&self) -> u64
         ensures { result ≡ length self.now.log.placed }
     {
         self.feeder.count()
+    }
+
+    /// Returns how many records of a type were skipped, up to the end of the last piece.
+    pub fn skipped_of(&self, kind: SkippedType) -> u64 {
+        self.feeder.skipped_of(kind)
+    }
+
+    /// Returns the latest timestamp of the samples that were put into a queue, in milliseconds. It is
+    /// best effort: no clause says what it is.
+    pub fn newest(&self) -> i64 {
+        self.feeder.newest()
     }
 
     /// The samples that were dropped so far without being put into a queue, as the report will name them. Those of a batch that the receiver has
@@ -368,15 +386,17 @@ impl<C: Connect + Drop> Shipper<C> {
         self.feeder.dropped()
     }
 
-    /// How many samples were placed so far whose series the rules drop, as the report will count them.
+    /// Returns how many samples were placed so far whose series the rules drop, as the report will
+    /// count them.
     pub fn filtered(&self) -> u64
         ensures { result ≡ length (filtered self.now.log.choice self.now.log.placed) }
     {
         self.feeder.filtered()
     }
 
-    /// How far the samples have come, as far as the workers have told: advice on how many shards are wanted. Samples that only wait for a
-    /// batch to be full count as resolved. By contract as many wait as can, at most.
+    /// Returns how far the samples have come, as of the last updates of the workers; it is best
+    /// effort, and decides how many shards are wanted. Samples that only wait for a batch to be
+    /// full count as resolved. By its contract at most as many wait as can.
     pub fn load(&self) -> Load
         ensures load { IsLoad self.now.fleet result }
         ensures placed { PlacesAll self.now.log self.now.fleet }
@@ -420,7 +440,8 @@ impl<C: Connect + Drop> Shipper<C> {
         }
     }
 
-    /// Ends all shards once all that was put is resolved, and waits for their workers. `end` is the number of entries placed. A shipper that has failed is stopped at once.
+    /// Ends all shards once all that was put is resolved, and waits for their workers. `end` is the
+    /// number of entries placed. A shipper that has failed is stopped at once.
     pub fn stop_orderly<R: Threads + Wait>(self, rt: &R, end: u64) -> Report<C::T>
         requires { end ≡ length self.log.placed }
         ensures stopped { HasStopped C.T.tells C.T.seen C.T.is_for self result }

@@ -22,7 +22,7 @@ use Rattle.rw_simulation.specs.Arrivals.{Arrival, IsOneReceiver}
 use Rattle.rw_simulation.specs.Received.{AreExchangesOf, IsHeld}
 use Rattle.rw_simulation.specs.StoppedRuns.{NamesAll}
 use Rattle.rw_follow.specs.Growth.{Moment}
-use Rattle.rw_follow.specs.declared.watch.Wish.{Wish}
+use Rattle.rw_follow.specs.declared.signal.StopRequest.{StopRequest}
 use Rattle.rw_text.specs.declared.tool_fault.ToolFault.{ToolFault}
 use Rattle.rw_send.specs.declared.follow_fault.FollowFault.{FollowFault}
 use Rattle.rw_send.specs.Segments.{AreSure, HasMoreBytes}
@@ -66,8 +66,8 @@ pub record HoldsAllOf {T : Type 0} (c : ConfigFields) (pieces : List Piece) (r :
   pub each : (l : Labels)
       → list_of store l ≡ map pair_of (owed names (kept_points (choice_of c) (entries pieces) l))
 
--- So it is of what was placed (`placed`), if the last epoch of a shipper that abandoned work had at
--- most 1000 shards; and of all that was fed, if the outcome is complete.
+-- This is true of what was placed (`placed`), if the last epoch of a shipper that abandoned work
+-- had at most 1000 shards; and of all that was fed, if the outcome is complete.
 pub record Holds {T : Type 0} (c : ConfigFields) (s : Shipping T) (pieces : List Piece)
     (r : Report T) (store : Store) : Type 0 where
   pub placed : (IsAbandoned r.outcome → length s.fleet.current ≤ 1000) → IsHeld s r store
@@ -92,7 +92,7 @@ SentIsHeld tells seen is_for c limit lefts sures r answer =
     sent.report
 
 abbrev pub FollowedIsHeld : {T : Type 0} → (T → Type 0) → (T → List Exchange)
-    → (ℕ → ℕ → T → Type 0) → ConfigFields → Option ℕ → Bool → Option Moment → Wish → Report T
+    → (ℕ → ℕ → T → Type 0) → ConfigFields → Option ℕ → Bool → Option Moment → StopRequest → Report T
     → Result (Unit {0}) FollowFault → Type 0
 FollowedIsHeld tells seen is_for c limit is_sure now said r answer =
     (sent : IsFollowed tells seen is_for c limit is_sure now said r answer)

@@ -1,9 +1,9 @@
-//! The law of what `run_send` and `run_follow` ship. The function has no code of its own: its
-//! contract is the law.
+//! The law of what `run_send` and `run_follow` ship. The function has an empty body: its contract
+//! is the law.
 
 ghost use Rattle.std.specs.Prelude.{ℕ, Bool, List, Option, Result};
 ghost use Rattle.rw_follow.specs.Growth.{Moment};
-ghost use Rattle.rw_follow.specs.declared.watch.Wish.{Wish};
+ghost use Rattle.rw_follow.specs.declared.signal.StopRequest.{StopRequest};
 ghost use Rattle.rw_shard_core.specs.declared.config.ConfigFields.{ConfigFields};
 ghost use Rattle.rw_sender.specs.declared.report.Report.{Report};
 ghost use Rattle.rw_text.specs.declared.tool_fault.ToolFault.{ToolFault};
@@ -18,14 +18,14 @@ use rw_worker::Transport;
 /// rules keep it holds a prefix of the samples that were fed, in log order, each once, less exactly
 /// those that the report lists as dropped; of other label sets none. If no work was abandoned, it
 /// holds all samples that were placed, less those listed. If the outcome is complete, these are the
-/// samples of all that was fed. Of the network and the receiver the law asks what
-/// `one_receiver_holds_the_samples` asks.
+/// samples of all that was fed. The premises on the network and the receiver are those of
+/// `one_receiver_holds_the_samples`.
 pub fn one_receiver_holds_what_was_sent<T: Transport>()
     ensures sent { (c : ConfigFields) (limit : Option ℕ) (lefts : List (Option (List ℕ)))
         (sures : List Bool) (r : Report T) (answer : Result (Unit {0}) ToolFault)
         → SentIsHeld T.tells T.seen T.is_for c limit lefts sures r answer }
     ensures followed { (c : ConfigFields) (limit : Option ℕ) (is_sure : Bool) (now : Option Moment)
-        (said : Wish) (r : Report T) (answer : Result (Unit {0}) FollowFault)
+        (said : StopRequest) (r : Report T) (answer : Result (Unit {0}) FollowFault)
         → FollowedIsHeld T.tells T.seen T.is_for c limit is_sure now said r answer }
 {
     one_receiver_holds_the_samples::<T>();

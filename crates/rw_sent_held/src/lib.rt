@@ -1,4 +1,5 @@
-//! What one receiver holds of a log that `send` has shipped. Laws alone: nothing here runs.
+//! What one receiver holds of a log that `send` has shipped. This crate has only laws: nothing here
+//! runs.
 #![tactic(auto)]
 
 mod laws;

@@ -40,7 +40,7 @@ stays_with sets l false (Some verdict.Filtered) Filtered h = h
 stays_with sets l false (Some (verdict.Kept n)) (Kept m) h = number_stays sets (l ∷ []) m n h
 stays_with sets l false _ _ h = absurd h
 
--- verdicts stand as more series come
+-- verdicts are as more series come
 verdict_stays : (sets : List Labels) (more : Standing) (v : Option Verdict) (is : Standing) → StandsFor sets v is → StandsFor (with_series sets more) v is
 verdict_stays sets Unknown v is h = h
 verdict_stays sets (Bad f) v is h = h

@@ -80,7 +80,7 @@ pub known-take : (choice : Choice) (es : List Entry) (r p : ℕ) → known choic
 unfolding known
 known-take choice es r p = ap (standing_of choice) (labels_of-all (take p es) r)
 
--- a definition is one of the definitions, and a sample is none
+-- a definition is one of the definitions, and a sample is not
 pub definitions_of-definition : (es : List Entry) (r : ℕ) (l : Labels) → definitions_of (es ++ Def r l ∷ []) ≡ definitions_of es ++ Def r l ∷ []
 definitions_of-definition es r l = filter-append is_definition es (Def r l ∷ [])
 

@@ -26,7 +26,7 @@ pub known_before : (before : List Entry) (cache : Taken) (reference : ℕ) → K
 known_before before cache reference k =
     ap (λ ds. known cache.choice ds reference) (sym k.defined) ∙ known-definitions_of cache.choice before reference
 
--- memory is refused of a definition by what is known after all entries
+-- memory runs out for a definition by what is known after all entries
 pub takes_definition : {T E : Type 0} (r : Result T E) (before : List Entry) (cache : Taken) (reference : ℕ) (l : Labels) → Knows before cache
     → (label_fault cache.choice.names l ≡ None) ⊎ (known cache.choice cache.definitions reference ≡ Unknown) → OnErr r (TakesMemory cache.choice before (Def reference l))
 takes_definition (Ok x) before cache reference l k h = tt

@@ -39,7 +39,7 @@ samples_after-push l before (Sample r t w ∷ es) e =
     (samples_after-push l (before ++ Sample r t w ∷ []) es e
     ∙ ap (λ b. samples_after l (before ++ Sample r t w ∷ []) es ++ point_of l b e) (append_assoc before (Sample r t w ∷ []) es))
 
--- labels are kept where they are a label set that the rules keep
+-- labels are kept if they are a label set that the rules keep
 set_kept : (l m : Labels) (b : Bool) → standing_of_set b m ≡ Kept l → (m ≡ l) × (b ≡ true)
 set_kept l m true e = (cc, refl)
 set_kept l m false e = absurd cc
@@ -104,7 +104,7 @@ sample_is_other choice es l r t w other =
     other (ap (standing_of choice) (has_labels-only l (labels_of es r (length es)) there) ∙ kept_labels choice l fine.0 fine.1)))
     ∙ append-nil (samples_after l [] es))
 
--- which samples stand below a position
+-- which samples are below a position
 abbrev is_below : ℕ → Point → Bool
 is_below end p = nat_lt p.0 end
 

@@ -88,7 +88,7 @@ rising_decides ps t s f = by_test (int_lt t s) refl
         never true = refl
         never false = refl
 
--- labels that are none of the series have no kept sample
+-- labels that are not of a series have no kept sample
 unmet_after : (choice : Choice) (l : Labels) → label_fault choice.names l ≡ None → keeps choice.rules l ≡ true → (before es : List Entry) → list_any (labels_eq l) (series_of choice (before ++ es)) ≡ false
     → samples_after l before es ≡ []
 unfolding known

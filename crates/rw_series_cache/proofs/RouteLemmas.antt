@@ -1,4 +1,4 @@
--- What follows from what a router told.
+-- What follows from what a router returned.
 use Rattle.std.proofs.Common.{◌≡◌, ℕ, ◌+◌, ◌≤◌, ℤ, List, refl, sym, ap, ◌∙◌, arith}
 use Rattle.rw_types.specs.declared.entry.Entry.{Entry}
 use Rattle.rw_types.specs.declared.entry.Entry.TheVariants.{Def, Sample}

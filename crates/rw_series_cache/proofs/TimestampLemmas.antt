@@ -43,7 +43,7 @@ insert_swap m j k s t apart = same_map nat_cmp_total nat_cmp-IsAntisymmetric _ _
     either q false true e f o = refl
     either q false false e f o = refl
 
--- what stands in a list of places
+-- what is in a list of places
 abbrev pub noted_in : Option (Option ℤ) → Option ℤ
 noted_in None = None
 noted_in (Some o) = o

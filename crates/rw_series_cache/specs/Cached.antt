@@ -16,7 +16,8 @@ use Rattle.rw_series_cache.specs.Numbers.{with_series, series_of, HasNumber}
 use Rattle.rw_series_cache.specs.declared.verdict.Verdict.{Verdict}
 use Rattle.rw_series_cache.specs.declared.verdict.Verdict.TheVariants as verdict
 
--- the rules, the definitions that were taken, and the latest timestamp that was noted of each series, by its number
+-- the rules, the definitions that were taken, and the latest timestamp that was noted of each
+-- series, by its number
 pub record Taken : Type 0 where
   pub choice : Choice
   pub definitions : List Entry
@@ -31,7 +32,7 @@ pub record Judged : Type 0 where
 abbrev pub Shared : Type 0
 Shared = Arc (List (List ℕ × List ℕ)) Global
 
--- of all these label sets the rules say the same
+-- the rules decide the same for all these label sets
 abbrev pub AllJudged : Choice → Bool → List Shared → Type 0
 AllJudged choice is_kept sets = (set : Shared) → list_any (λ (s : Shared). labels_eq (arc_value set) (arc_value s)) sets ≡ true → keeps choice.rules (arc_value set) ≡ is_kept
 
@@ -43,7 +44,7 @@ StandsFor series (Some verdict.Filtered) Filtered = Unit {0}
 StandsFor series (Some (verdict.Kept number)) (Kept l) = HasNumber series l number
 StandsFor series _ _ = ⊥
 
--- labels are judged, and numbered where they are kept
+-- labels are judged, and numbered if they are kept
 pub record Judges (old new : Judged) (labels : Labels) (found : Verdict) : Type 0 where
   pub choice : new.choice ≡ old.choice
   pub series : new.series ≡ with_series old.series (standing_of old.choice (Some labels))

@@ -1,4 +1,5 @@
--- What becomes of a sample of a log: it is dropped, or its series is one that the rules drop, or it is sent in its series.
+-- What becomes of a sample of a log: it is dropped, or its series is one that the rules drop, or it
+-- is sent in its series.
 use Rattle.std.specs.Prelude.{ℕ, ℤ, Bool, true, false, List}
 use Rattle.rw_types.specs.Labels.{Labels, label_fault_number}
 use Rattle.rw_types.specs.declared.entry.Entry.{Entry}
@@ -13,7 +14,7 @@ pub data Fate : Type 0 where
   Filters : Fate
   Sends : (labels : List (List ℕ × List ℕ)) → Fate
 
--- a sample of a kept series is sent where it rises, and dropped where it does not
+-- a sample of a kept series is sent if it rises, and dropped if it does not
 abbrev pub kept_fate : Bool → Labels → Fate
 kept_fate true l = Sends l
 kept_fate false l = Drops NotRising

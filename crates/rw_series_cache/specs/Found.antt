@@ -1,4 +1,4 @@
--- What an answer of the cache says.
+-- What an answer of the cache means.
 use Rattle.std.specs.Prelude.{◌≡◌, ℕ, List}
 use Rattle.std.specs.Arc.{arc_value}
 use Rattle.rw_types.specs.Labels.{Labels}

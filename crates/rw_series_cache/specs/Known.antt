@@ -8,14 +8,14 @@ use Rattle.rw_wal_format.specs.Series.{labels_of}
 use Rattle.rw_relabel.specs.Rules.{keeps}
 use Rattle.rw_relabel.specs.declared.choice.Choice.{Choice}
 
--- nothing, labels that are no label set, a label set that the rules drop, or one that they keep
+-- nothing, labels that are not a label set, a label set that the rules drop, or one that they keep
 pub data Standing : Type 0 where
   Unknown : Standing
   Bad : (fault : LabelFault) → Standing
   Filtered : Standing
   Kept : (labels : List (List ℕ × List ℕ)) → Standing
 
--- a label set goes by the rules
+-- a label set is kept or dropped by the rules
 abbrev pub standing_of_set : Bool → Labels → Standing
 standing_of_set is_kept l = if is_kept then Kept l else Filtered
 
@@ -23,7 +23,7 @@ abbrev pub standing_by : Choice → Labels → Option LabelFault → Standing
 standing_by choice l None = standing_of_set (keeps choice.rules l) l
 standing_by choice l (Some fault) = Bad fault
 
--- the labels are judged before the rules are asked
+-- the labels are judged before the rules are evaluated
 abbrev pub standing_of : Choice → Option Labels → Standing
 standing_of choice None = Unknown
 standing_of choice (Some l) = standing_by choice l (label_fault choice.names l)

@@ -8,7 +8,7 @@ use Rattle.rw_types.specs.declared.entry.Entry.TheVariants.{Def, Sample}
 use Rattle.rw_relabel.specs.declared.choice.Choice.{Choice}
 use Rattle.rw_series_cache.specs.Known.{Standing, Unknown, Bad, Filtered, Kept, standing_of}
 
--- a label set that is kept and is none of the series yet becomes the last one
+-- a label set that is kept and is not yet a series becomes the last one
 abbrev pub with_series : List Labels → Standing → List Labels
 with_series series Unknown = series
 with_series series (Bad fault) = series
@@ -27,7 +27,7 @@ series_of choice entries = fold (with_entry choice) [] entries
 abbrev pub number_of : List Labels → Labels → ℕ
 number_of series l = position_or_len (labels_eq l) series
 
--- the labels have this number, and stand there
+-- the labels have this number, and are there
 pub record HasNumber (series : List Labels) (l : Labels) (number : ℕ) : Type 0 where
   pub numbered : number ≡ number_of series l
   pub stands : slice_get series number ≡ Some l

@@ -1,4 +1,4 @@
--- What a router knows, and what it tells.
+-- What a router knows, and what it returns.
 use Rattle.std.specs.Prelude.{◌≡◌, ◌⊎◌, None, ℕ, suc, ℤ, List, [], ◌∷◌, ◌++◌}
 use Rattle.std.specs.Arc.{arc_value}
 use Rattle.rw_types.specs.Labels.{Labels, label_fault}
@@ -36,7 +36,8 @@ pub record IsSample (choice : Choice) (before : List Entry) (pos : ℕ) (t : ℤ
   pub labels_are : arc_value s.labels ≡ l
   pub numbered : HasNumber (series_of choice before) l s.series
 
--- a sample by its fate: nothing changes before it is named, or put; one that the rules drop is counted
+-- a sample by its fate: nothing changes before it is named, or put; one that the rules drop is
+-- counted
 abbrev pub RoutesAs : Routing → List Entry → ℕ → ℤ → ℕ → Fate → Routing → Routed → Type 0
 RoutesAs old before pos t word (Drops reason) new (routed.Dropped found) = (found ≡ reason) × (new ≡ old)
 RoutesAs old before pos t word Filters new routed.Placed = new ≡ record old { filtered = suc old.filtered }
@@ -69,12 +70,12 @@ pub record IsRising (cache : Taken) (series : ℕ) (t : ℤ) : Type 0 where
 abbrev pub WouldSend : Choice → List Entry → ℕ → ℤ → ℕ → Type 0
 WouldSend choice before reference t series = (l : Labels) × (fate choice before reference t ≡ Sends l) × HasNumber (series_of choice before) l series
 
--- it would not
+-- it would not be sent
 abbrev pub WouldKeep : Choice → List Entry → ℕ → ℤ → Type 0
 WouldKeep choice before reference t = (l : Labels) → fate choice before reference t ≡ Sends l → ⊥
 
--- Memory may be refused of this entry: of a definition of a label set, of the first definition of its
--- reference, and of a sample that is sent.
+-- Memory may run out for this entry: for a definition of a label set, for the first definition of
+-- its reference, and for a sample that is sent.
 abbrev pub TakesMemory : Choice → List Entry → Entry → Type 0
 TakesMemory choice before (Def reference l) = (label_fault choice.names l ≡ None) ⊎ (known choice before reference ≡ Unknown)
 TakesMemory choice before (Sample reference t word) = (l : Labels) × (fate choice before reference t ≡ Sends l)

@@ -19,6 +19,7 @@ abbrev pub HasRoom : Verdicts → ℕ → Type 0
 HasRoom verdicts reference =
     length verdicts.table.items ≤ reference → (0 < spare verdicts.beside) ⊎ IsSome (get nat_eq verdicts.beside reference)
 
--- The verdicts are those of so many definitions at most, and so is the table: four places for each, and 1,024 beyond that.
+-- The verdicts are those of at most this many definitions, and so is the table: four places for
+-- each, and 1,024 beyond that.
 abbrev pub IsWithin : Verdicts → ℕ → Type 0
 IsWithin verdicts count = (verdicts.definitions ≤ count) × (length verdicts.table.items ≤ 4 * count + 1024)

@@ -20,8 +20,9 @@ use rw_types::{Entry, Names, RawLabels};
 use std::alloc::{AllocError, Global};
 use std::marker::Model;
 
-/// What the definitions of a log say of its references, and the latest timestamp that was noted of each series. Contracts see the choice of
-/// series, the definitions taken so far, and what is noted.
+/// What the definitions of a log say of its references, and the latest timestamp that was noted of
+/// each series. Contracts see the choice of series, the definitions taken so far, and what is
+/// noted.
 #[derive(Drop)]
 pub struct Cache {
     taken: History<Entry>,
@@ -52,7 +53,8 @@ impl Model for Cache {
 }
 
 impl Cache {
-    /// A cache that has taken no definition. `choice` says which series are kept. This takes no memory.
+    /// Returns a cache that has taken no definition. `choice` says which series are kept. This
+    /// takes no memory.
     pub fn new(alloc: Global, choice: Choice) -> Cache
         ensures { result ≡ record { choice = choice; definitions = []; noted = map.empty } }
     {
@@ -64,15 +66,16 @@ impl Cache {
         }
     }
 
-    /// Which label names are accepted.
+    /// Returns which label names are accepted.
     pub fn names(&self) -> Names
         ensures { result ≡ self.now.choice.names }
     {
         self.sets.names()
     }
 
-    /// Takes the next definition of the log: from here on `reference` stands for `labels`. A label set that came before is not stored again, and
-    /// the rules are not asked of it again. An `Err` changes nothing.
+    /// Takes the next definition of the log: from here on `reference` stands for `labels`. A label
+    /// set that came before is not stored again, and the rules are not evaluated for it again. An
+    /// `Err` changes nothing.
     pub fn define(&mut self, reference: u64, labels: RawLabels) -> Result<(), AllocError>
         ensures ok { OnOk result (self.new
             ≡ record self.old {
@@ -81,12 +84,13 @@ impl Cache {
             }) }
         ensures err { OnErr result (self.new ≡ self.old) }
 
-        // Memory is refused only of a label set, or of the first definition of a reference.
+        // Memory can run out only for labels that are a label set, or for the first definition of a
+        // reference.
         ensures sound { OnErr result
             ((label_fault self.old.choice.names labels ≡ None)
             ⊎ (known self.old.choice self.old.definitions reference ≡ Unknown)) }
     {
-        // The room is made first: once a label set has its number, nothing is refused any more.
+        // The room is made first: once a label set has its number, nothing can fail any more.
         self.verdicts.make_room(reference)?;
         let verdict = self.sets.judge(&labels, &mut self.latest)?;
         self.verdicts.put(reference, verdict);
@@ -94,11 +98,12 @@ impl Cache {
         Ok(())
     }
 
-    /// What is known of `reference`, by its last definition.
+    /// Returns what is known of `reference`, by its last definition.
     pub fn look(&self, reference: u64) -> Known<'_>
         ensures answer { Answers self.now.choice self.now.definitions reference result }
 
-        // What is known after some entries of a log is what its definitions say: the samples among them change nothing.
+        // What is known after some entries of a log is what its definitions say: the samples among
+        // them change nothing.
         ensures log { (entries : List Entry) → definitions_of entries ≡ self.now.definitions
             → Answers self.now.choice entries reference result }
     {
@@ -110,7 +115,8 @@ impl Cache {
         }
     }
 
-    /// Whether `t`, in milliseconds since the Unix epoch, is later than what is noted of the series, or nothing is. This takes no memory.
+    /// Returns whether `t`, in milliseconds since the Unix epoch, is later than the noted timestamp
+    /// of the series, or no timestamp is noted. This takes no memory.
     pub fn rises(&self, series: u64, t: i64) -> bool
         requires within { series < length (series_of self.now.choice self.now.definitions) }
         ensures { result ≡ is_after (map.get self.now.noted series) t }
@@ -121,7 +127,8 @@ impl Cache {
         }
     }
 
-    /// Notes `t`, in milliseconds since the Unix epoch, as the latest timestamp of the series. This takes no memory.
+    /// Notes `t`, in milliseconds since the Unix epoch, as the latest timestamp of the series. This
+    /// takes no memory.
     pub fn note(&mut self, series: u64, t: i64)
         requires within { series < length (series_of self.old.choice self.old.definitions) }
         requires rising { is_after (map.get self.old.noted series) t ≡ true }
@@ -130,7 +137,7 @@ impl Cache {
         self.latest.set(series as usize, t);
     }
 
-    /// How many series the rules have kept so far.
+    /// Returns how many series the rules have kept so far.
     pub fn series_count(&self) -> usize
         ensures { result ≡ length (series_of self.now.choice self.now.definitions) }
     {

@@ -12,6 +12,7 @@ pub enum Known<'a> {
     Bad(LabelFault),
     /// The rules drop its label set.
     Filtered,
-    /// The rules keep its label set: the number of the series, counted from 0 in the order in which label sets were first kept, and the label set.
+    /// The rules keep its label set: the number of the series, counted from 0 in the order in which
+    /// label sets were first kept, and the label set.
     Kept(u64, &'a Arc<LabelSet>),
 }

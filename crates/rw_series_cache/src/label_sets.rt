@@ -15,8 +15,8 @@ use std::collections::HashSet;
 use std::marker::Model;
 use std::sync::Arc;
 
-/// The rules, and the label sets that they were asked of, each once. Contracts see the rules and the kept label sets,
-/// in the order in which they came.
+/// The rules, and the label sets for which they were evaluated, each once. Contracts see the rules
+/// and the kept label sets, in the order in which they came.
 #[derive(Drop)]
 pub(crate) struct LabelSets {
     alloc: Global,
@@ -50,16 +50,16 @@ impl LabelSets {
         }
     }
 
-    /// The names that are taken.
+    /// Returns which names are accepted.
     pub(crate) fn names(&self) -> Names
         ensures { result ≡ self.now.choice.names }
     {
         self.choice.names
     }
 
-    /// What becomes of the labels. A label set that was judged before is not asked of the rules again.
-    /// A series that is new has a place in `latest`, which is made before it has a number. Labels with
-    /// a fault take no memory.
+    /// Returns what becomes of the labels. The rules are not evaluated again for a label set that
+    /// was judged before. A new series gets a place in `latest` before it gets a number. Labels
+    /// with a fault take no memory.
     pub(crate) fn judge(
         &mut self,
         labels: &RawLabels,
@@ -103,7 +103,7 @@ impl LabelSets {
         }
     }
 
-    /// The series of a number.
+    /// Returns the series of a number.
     pub(crate) fn get(&self, number: usize) -> &Arc<LabelSet>
         requires within { number < length self.now.series }
         ensures { slice_get self.now.series number ≡ Some (arc_value result.now) }
@@ -114,7 +114,7 @@ impl LabelSets {
         }
     }
 
-    /// How many series there are.
+    /// Returns how many series there are.
     pub(crate) fn len(&self) -> usize
         ensures { result ≡ length self.now.series }
     {

@@ -1,5 +1,5 @@
-//! Laws of what the entries of a log say of its series, for the crates that keep a cache beside a log. Each function has an empty body: its
-//! contract is the law.
+//! Laws of what the entries of a log say of its series, for the crates that keep a cache beside a
+//! log. Each function has an empty body: its contract is the law.
 
 ghost use Rattle.std.specs.Prelude.{◌≡◌, ◌≢◌, ◌++◌, ◌∷◌, [], ℕ, ℤ, true, false, List, length, take};
 ghost use Rattle.std.specs.Ordering.{nat_cmp};
@@ -27,14 +27,16 @@ pub fn samples_define_nothing()
         → definitions_of (entries ++ Sample reference t word ∷ []) ≡ definitions_of entries }
 {}
 
-/// Law: what is known of a reference after the first `position` entries of a log is what its labels there say.
+/// Law: what is known of a reference after the first `position` entries of a log is what its labels
+/// there say.
 pub fn known_at_a_position()
     ensures { (choice : Choice) (entries : List Entry) (reference position : ℕ)
         → known choice (take position entries) reference
         ≡ standing_of choice (labels_of entries reference position) }
 {}
 
-/// Law: a reference whose label set is kept stands for a numbered series, and a series keeps its number as more entries come.
+/// Law: a reference whose label set is kept stands for a numbered series, and a series keeps its
+/// number as more entries come.
 pub fn numbers_stay()
     ensures numbered { (choice : Choice) (entries : List Entry) (reference : ℕ) (labels : Labels)
         → known choice entries reference ≡ Kept labels
@@ -44,7 +46,8 @@ pub fn numbers_stay()
         → HasNumber (series_of choice (entries ++ more)) labels number }
 {}
 
-/// Law: a sample belongs to the series that its reference stands for, where the rules keep it, and to no other.
+/// Law: a sample belongs to the series that its reference stands for, if the rules keep it, and to
+/// no other.
 pub fn points_entry_by_entry()
     ensures definition { (choice : Choice) (entries : List Entry) (labels other : Labels)
         (reference : ℕ)
@@ -62,14 +65,15 @@ pub fn points_entry_by_entry()
         ≡ kept_points choice entries labels }
 {}
 
-/// Law: the samples of a series below a position are those among the entries below it.
+/// Law: the samples of a series before a position are those among the entries before it.
 pub fn points_below_a_position()
     ensures { (choice : Choice) (entries : List Entry) (labels : Labels) (end : ℕ)
         → kept_points_below choice entries labels end
         ≡ kept_points choice (take end entries) labels }
 {}
 
-/// Law: the timestamps that are noted decide which samples rise, entry by entry: a sample that rises is noted, and nothing else.
+/// Law: the timestamps that are noted decide which samples rise, entry by entry: a sample that
+/// rises is noted, and nothing else.
 pub fn notes_entry_by_entry()
     ensures first { (choice : Choice) → IsNoted choice [] empty }
     ensures definition { (choice : Choice) (entries : List Entry) (reference : ℕ) (labels : Labels)

@@ -25,10 +25,12 @@ pub enum Routed {
     Sample(RoutedSample),
 }
 
-/// Decides what becomes of each entry of a log, in order. A sample is dropped where it has no series, where the labels of its series are not a
-/// label set, or where it is not later than those before it in its series; it is counted where the rules drop its series; each other one is sent.
+/// Decides what becomes of each entry of a log, in order. A sample is dropped if it has no series,
+/// if the labels of its series are not a label set, or if it is not later than those before it in
+/// its series. It is counted if the rules drop its series. Each other sample is sent.
 ///
-/// It keeps no sample. Contracts see what it knows of the series, and how many samples were placed whose series the rules drop.
+/// The router keeps no sample. Contracts see what it knows of the series, and how many samples were
+/// placed whose series the rules drop.
 #[derive(Drop)]
 pub struct Router {
     cache: Cache,
@@ -48,7 +50,8 @@ impl Model for Router {
 }
 
 impl Router {
-    /// A router before the first entry of a log. `choice` says which series are sent. This takes no memory.
+    /// Returns a router before the first entry of a log. `choice` says which series are sent. This
+    /// takes no memory.
     pub fn new(alloc: Global, choice: Choice) -> Router
         ensures cache { result.cache
             ≡ record { choice = choice; definitions = []; noted = map.empty } }
@@ -61,8 +64,9 @@ impl Router {
         }
     }
 
-    /// Places the next entry of the log, which stands at position `pos`, or says what the caller has to do with its sample: to name a dropped one
-    /// in the ledger, or to put one that is sent and then to call `sent`. An `Err` changes nothing.
+    /// Places the next entry of the log, which is at position `pos`, or returns what the caller has
+    /// to do with its sample: list a dropped one in the ledger, or put one that is sent and then
+    /// call `sent`. An `Err` changes nothing.
     pub fn place(&mut self, pos: u64, entry: Entry) -> Result<Routed, AllocError>
         requires few { self.old.filtered < 2 ^ 60 }
         ensures ok { (before : List Entry) → Knows before self.old.cache
@@ -125,8 +129,8 @@ impl Router {
         }
     }
 
-    /// Notes that the sample which `place` returned was put: one of series number `series`, at time `t` in milliseconds since the Unix epoch.
-    /// This takes no memory.
+    /// Notes that the sample that `place` returned was put: one of series number `series`, at time
+    /// `t` in milliseconds since the Unix epoch. This takes no memory.
     pub fn sent(&mut self, series: u64, t: i64)
         requires { IsRising self.old.cache series t }
         ensures noted { self.new
@@ -143,7 +147,8 @@ impl Router {
         self.cache.note(series, t);
     }
 
-    /// The number of the series in which a sample of `reference` at time `t` would be sent next; `None` where it would not be. This takes no memory.
+    /// Returns the number of the series in which a sample of `reference` at time `t` would be sent
+    /// next, or `None` if it would not be sent. This takes no memory.
     pub fn would_send(&self, reference: u64, t: i64) -> Option<u64>
         ensures some { (before : List Entry) → Knows before self.now.cache
             → IfSome result (WouldSend self.now.cache.choice before reference t) }
@@ -156,7 +161,7 @@ impl Router {
         }
     }
 
-    /// How many samples were placed whose series the rules drop.
+    /// Returns how many samples were placed whose series the rules drop.
     pub fn filtered(&self) -> u64
         ensures { result ≡ self.now.filtered }
     {

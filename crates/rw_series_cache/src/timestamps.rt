@@ -6,8 +6,8 @@ ghost use Rattle.std.specs.FinMap as map;
 use std::alloc::{AllocError, Global};
 use std::marker::Model;
 
-/// Of each series, by its number, the latest timestamp that was noted, in milliseconds since the Unix epoch. Contracts see the noted ones,
-/// and for how many series there is a place.
+/// Of each series, by its number, the latest timestamp that was noted, in milliseconds since the
+/// Unix epoch. Contracts see the noted ones, and for how many series there is a place.
 #[derive(Drop)]
 pub(crate) struct Timestamps {
     latest: Vec<Option<i64>>,
@@ -30,7 +30,7 @@ impl Model for Timestamps {
 }
 
 impl Timestamps {
-    /// Without a place. This takes no memory.
+    /// Returns timestamps without a place. This takes no memory.
     pub(crate) fn new(alloc: Global) -> Timestamps
         ensures places { result.places ≡ 0 }
         ensures times { result.times ≡ map.empty }
@@ -40,7 +40,7 @@ impl Timestamps {
         }
     }
 
-    /// Makes one more place, where there are no more than `count`.
+    /// Makes one more place, if there are at most `count`.
     pub(crate) fn make_place(&mut self, count: usize) -> Result<(), AllocError>
         requires { count ≤ self.old.places }
         ensures ok { OnOk result (count < self.new.places) }
@@ -53,7 +53,7 @@ impl Timestamps {
         Ok(())
     }
 
-    /// What is noted at a place.
+    /// Returns what is noted at a place.
     pub(crate) fn get(&self, place: usize) -> Option<i64>
         requires { place < self.now.places }
         ensures { result ≡ map.get self.now.times place }

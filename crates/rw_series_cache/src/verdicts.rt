@@ -12,8 +12,9 @@ const PLACES_FOR_EACH: usize = 4;
 
 const PLACES_BEYOND: usize = 1024;
 
-/// What was found of the last labels of each reference. References that are small for the number of definitions stand in a table,
-/// as those of a server do that counts them up; the others in a map beside it. What the table has counts before what the map has.
+/// What was found of the last labels of each reference. References that are small for the number of
+/// definitions, as those of a server that numbers its series from 1, are in a table; the others are
+/// in a map beside it. If both have a reference, the table counts.
 #[derive(Drop)]
 pub(crate) struct Verdicts {
     table: Vec<Option<Verdict>>,
@@ -22,7 +23,7 @@ pub(crate) struct Verdicts {
 }
 
 impl Verdicts {
-    /// No verdicts yet. This takes no memory.
+    /// Returns an empty list of verdicts. This takes no memory.
     pub(crate) fn new(alloc: Global) -> Verdicts
         ensures empty { (r : ℕ) → verdict_in result r ≡ None }
         ensures within { IsWithin result 0 }
@@ -34,7 +35,7 @@ impl Verdicts {
         }
     }
 
-    /// What was found of a reference. This takes no memory.
+    /// Returns what was found of a reference. This takes no memory.
     pub(crate) fn get(&self, reference: u64) -> Option<Verdict>
         ensures { result ≡ verdict_in self.now reference }
     {
@@ -44,15 +45,16 @@ impl Verdicts {
         }
     }
 
-    /// Makes room for the verdict of a reference. A reference that has a verdict takes no memory. The
-    /// table is extended only for one that is small for the number of definitions: a log may name any
-    /// number.
+    /// Makes room for the verdict of a reference. A reference that has a verdict takes no memory.
+    /// The table is extended only for a reference that is small for the number of definitions,
+    /// since a log may use any number.
     pub(crate) fn make_room(&mut self, reference: u64) -> Result<(), AllocError>
         ensures ok { OnOk result (HasRoom self.new reference) }
         ensures sound { OnErr result (verdict_in self.old reference ≡ None) }
         ensures same { (r : ℕ) → verdict_in self.new r ≡ verdict_in self.old r }
 
-        // However large the reference is, the table reaches no further than the definitions so far allow.
+        // However large the reference is, the table reaches no further than the definitions so far
+        // allow.
         ensures within { (count : ℕ) → IsWithin self.old count → IsWithin self.new count }
     {
         let place = reference as usize;
@@ -83,7 +85,7 @@ impl Verdicts {
         }
     }
 
-    /// How many places the table may have by now.
+    /// Returns how many places the table may have by now.
     fn most_places(&self) -> usize
         ensures { result ≤ 4 * self.now.definitions + 1024 }
     {

@@ -50,7 +50,7 @@ receive_members limits = close (receive_nodes limits)
 abbrev pub rule_members : RuleConfig → Members
 rule_members rule = close (rule_nodes rule)
 
--- the items behind those that are done
+-- the items after those that are done
 abbrev pub with_rules : Items → List RuleConfig → Items
 with_rules done [] = done
 with_rules done (rule ∷ rules) = with_rules (push_item done (table (rule_members rule))) rules

@@ -16,7 +16,7 @@ some_anyway : (b : Bool) (f g : SettingsFault) → cond b (Some g) (Some f) ≡ 
 some_anyway true f g h = cc
 some_anyway false f g h = cc
 
--- no fault is the lesser of two where there is none
+-- without a fault on one side the lesser is that of the other side
 pub lesser_none : (f g : Option SettingsFault) → lesser f g ≡ None → (f ≡ None) × (g ≡ None)
 lesser_none None g h = (refl, h)
 lesser_none (Some f) None h = absurd cc

@@ -14,7 +14,7 @@ use Rattle.rw_settings.specs.Values.{part_or}
 use Rattle.rw_settings.specs.declared.fault.SettingsFault.{SettingsFault}
 use Rattle.rw_settings.specs.declared.fault.SettingsFault.TheVariants.{OutOfMemory, WrongType, BadRule}
 
--- what is wrong with source labels, where there are some
+-- what is wrong with source labels, if there are some
 pub labels_judged : (values : List Value) → ¬ (values ≡ []) → labels_fault (Some (items_view values)) ≡ cond (are_texts (items_view values)) None (Some WrongType)
 labels_judged [] h = absurd (h refl)
 labels_judged (v ∷ vs) h = refl
@@ -45,7 +45,7 @@ built_one_more vs i v built r all h is before same readable =
       readable = All-push (λ rule. HasReadablePattern rule.pattern) built r before.readable readable;
     }
 
--- something stands in the middle of a list
+-- something is in the middle of a list
 any_middle : {X : Type 0} (P : X → Type 0) (front : List X) (x : X) (back : List X) → P x → Any P (front ++ x ∷ back)
 any_middle P [] x back p = (zero, x, omega arith, refl, p)
 any_middle P (y ∷ front) x back p =

@@ -70,14 +70,14 @@ lines_text started [] (l ∷ ls) h = absurd h
 lines_text started (e ∷ es) [] h = absurd h
 lines_text started (e ∷ es) (l ∷ ls) h = (l, concat ls, refl, h.0, lines_text true es ls h.1)
 
--- lines behind lines
+-- lines after lines
 pub lines_more : (es fs : List Expression) (a b : List ℕ) → IsLinesText false true es a → IsLinesText false true fs b → IsLinesText false true (es ++ fs) (a ++ b)
 lines_more [] fs a b h more = rw h more
 lines_more (e ∷ es) fs a b h more =
     let (this, rest, whole, line, others) = h in
     (this, rest ++ b, rw whole (append_assoc this rest b), line, lines_more es fs rest b others more)
 
--- the same at the beginning, where there are some
+-- the same at the beginning, if there are some
 abbrev pub has_lines : List Expression → Bool
 has_lines [] = false
 has_lines (e ∷ es) = true
@@ -100,7 +100,7 @@ number_written started key n bare fits = pair_written started key (decimal n) (n
 text_written : (started : Bool) (key text : List ℕ) → key_text key ≡ key → IsLineText false started ([], key) (key_value (string text)) (pair_line key (string_text text))
 text_written started key text bare = pair_written started key (string_text text) (string text) bare refl
 
--- texts behind the first
+-- texts after the first
 abbrev more_texts : List (List ℕ) → List ℕ
 more_texts ts = flat_map (λ t. codes ", " ++ string_text t) ts
 

@@ -11,12 +11,12 @@ fault_number WrongType = 3
 fault_number OutOfRange = 4
 fault_number BadRule = 5
 
--- the lesser of two faults, where there is any
+-- the lesser of two faults, if there is any
 abbrev pub lesser : Option SettingsFault → Option SettingsFault → Option SettingsFault
 lesser None g = g
 lesser (Some f) None = Some f
 lesser (Some f) (Some g) = if nat_lt (fault_number g) (fault_number f) then Some g else Some f
 
--- the least fault, where there is any
+-- the least fault, if there is any
 unfoldable pub least : List (Option SettingsFault) → Option SettingsFault
 least faults = fold lesser None faults

@@ -8,7 +8,7 @@ use Rattle.rw_settings.specs.declared.notes.SettingsNote.{SettingsNote}
 abbrev pub with_note : Option SettingsFault → SettingsNote → Option SettingsFault
 with_note fault note = lesser fault (Some note.fault)
 
--- the least fault that is noted, where there is any
+-- the least fault that is noted, if there is any
 unfoldable pub noted : List SettingsNote → Option SettingsFault
 noted notes = fold with_note None notes
 

@@ -15,7 +15,7 @@ use Rattle.rw_settings.specs.declared.fault.SettingsFault.TheVariants.{WrongType
 abbrev pub rule_keys : List (List ℕ)
 rule_keys = codes "action" ∷ codes "source_labels" ∷ codes "separator" ∷ codes "regex" ∷ []
 
--- an action is `keep` or `drop`, and has to be there
+-- an action is `keep` or `drop`, and is required
 abbrev pub action_text_fault : Option (List ℕ) → Option SettingsFault
 action_text_fault None = Some WrongType
 action_text_fault (Some text) = if bytes_eq text (codes "keep") || bytes_eq text (codes "drop") then None else Some BadRule
@@ -24,7 +24,7 @@ abbrev pub action_fault : Option Data → Option SettingsFault
 action_fault None = Some BadRule
 action_fault (Some value) = action_text_fault (as_str value)
 
--- source labels are a list of texts that is not empty, and have to be there
+-- source labels are a list of texts that is not empty, and are required
 abbrev pub are_texts : Items → Bool
 are_texts no_items = true
 are_texts (item value rest) = is_some (as_str value) && are_texts rest
@@ -58,7 +58,7 @@ abbrev pub with_rules_fault : Option SettingsFault → Items → Option Settings
 with_rules_fault fault no_items = fault
 with_rules_fault fault (item value rest) = with_rules_fault (lesser fault (rule_fault_of (as_table value))) rest
 
--- the action of a rule, where it has one
+-- the action of a rule, if it has one
 abbrev pub action_of : List ℕ → Action
 action_of text = if bytes_eq text (codes "drop") then Drop else Keep
 
@@ -80,7 +80,7 @@ abbrev pub rules_of : Items → List RuleConfig
 rules_of no_items = []
 rules_of (item value rest) = rule_config (part_or no_members (as_table value)) ∷ rules_of rest
 
--- the rule that is written so
+-- the rule of these written fields
 abbrev pub written_rule : RuleFields → RuleConfig
 written_rule r = record {
   action = r.action;

@@ -48,11 +48,12 @@ settings_if (Some document) = unless_faulty (document_fault document) (settings_
 unfoldable pub settings_in : List ℕ → Result Settings SettingsFault
 settings_in text = if is_utf8 text then settings_if (parse_document text) else Err NotToml
 
--- the crate of regular expressions refuses a rule, or it has no source label
+-- the regex crate refuses a rule, or it has no source label
 abbrev pub IsRefusedRule : RuleConfig → Type 0
 IsRefusedRule rule = IsRefusedPattern rule.pattern ⊎ ((rule.source_labels ≡ []) × HasReadablePattern rule.pattern)
 
--- a fault is want of memory, or the one that was judged, or a rule is refused that was judged to be fine
+-- a fault is out of memory, or the one that was judged, or a rule is refused that was judged to be
+-- valid
 abbrev pub IsFaultOf : Result Settings SettingsFault → SettingsFault → Type 0
 IsFaultOf judged fault =
     (fault ≡ OutOfMemory) ⊎ (judged ≡ Err fault) ⊎ ((fault ≡ BadRule) × IsOkAnd judged (λ s. Any IsRefusedRule s.config.rules))

@@ -1,4 +1,4 @@
--- What stands at a key: nothing, a value of its type and in its range, or a fault.
+-- What is at a key: nothing, a value of its type and in its range, or a fault.
 use Rattle.std.specs.Prelude.{ℕ, ℤ, pos, negsuc, List, Bool, true, ◌&&◌, nat_le, Option, Some, None, Result, Ok, Err, codes, if◌then◌else◌}
 use Rattle.std.specs.List.{list_any}
 use Rattle.std.specs.Str.{bytes_eq}
@@ -42,7 +42,7 @@ text_at test (Some value) = text_if test (as_str value)
 abbrev pub any_text : List ℕ → Bool
 any_text text = true
 
--- the names that a text says: `legacy` or `utf8`
+-- the naming scheme that a text says: `legacy` or `utf8`
 abbrev pub names_in : List ℕ → Result (Option Names) SettingsFault
 names_in text =
     if bytes_eq text (codes "legacy") then Ok (Some Legacy)
@@ -57,12 +57,12 @@ abbrev pub names_at : Option Data → Result (Option Names) SettingsFault
 names_at None = Ok None
 names_at (Some value) = names_if (as_str value)
 
--- what was found, or the default where there is nothing that can be taken
+-- what was found, or the default if there is nothing valid
 abbrev pub found_or : {A : Type 0} → A → Result (Option A) SettingsFault → A
 found_or default (Ok (Some x)) = x
 found_or default _ = default
 
--- the table at a key, which is empty where there is none, unless a value of another type stands there
+-- the table at a key, which is empty if there is no value, unless a value of another type is there
 abbrev pub section : Option Data → Option Members
 section None = Some no_members
 section (Some value) = as_table value
@@ -77,7 +77,7 @@ abbrev pub part_fault : {A : Type 0} → (A → Option SettingsFault) → Option
 part_fault fault None = Some WrongType
 part_fault fault (Some part) = fault part
 
--- a section, or an empty one where there is none that can be taken
+-- a section, or an empty one if there is no valid one
 abbrev pub part_or : {A : Type 0} → A → Option A → A
 part_or empty None = empty
 part_or empty (Some part) = part

@@ -28,7 +28,7 @@ use regex::Regex;
 use std::alloc::{AllocError, Global};
 use toml::{Table, Value};
 
-/// Adds a note on the whole number at a key, where it has a fault.
+/// Adds a note on the whole number at a key, if it has a fault.
 fn note_number<const LOW: u64, const HIGH: u64>(
     alloc: Global,
     notes: &mut Vec<SettingsNote>,
@@ -52,7 +52,7 @@ fn note_number<const LOW: u64, const HIGH: u64>(
     )
 }
 
-/// Adds a note on the path at a key, where it has a fault.
+/// Adds a note on the path at a key, if it has a fault.
 fn note_path(
     alloc: Global,
     notes: &mut Vec<SettingsNote>,
@@ -76,7 +76,7 @@ fn note_path(
     )
 }
 
-/// Adds a note on the names at a key, where they have a fault.
+/// Adds a note on the names at a key, if they have a fault.
 fn note_names(
     alloc: Global,
     notes: &mut Vec<SettingsNote>,
@@ -98,7 +98,7 @@ fn note_names(
     )
 }
 
-/// Adds a note on the text at a key, where it has a fault.
+/// Adds a note on the text at a key, if it has a fault.
 fn note_text(
     alloc: Global,
     notes: &mut Vec<SettingsNote>,
@@ -121,7 +121,7 @@ fn note_text(
     )
 }
 
-/// Adds a note on the host of the table `send`, where it has a fault.
+/// Adds a note on the host of the table `send`, if it has a fault.
 fn note_host(alloc: Global, notes: &mut Vec<SettingsNote>, send: &Table) -> Result<(), AllocError>
     ensures { OnOk result (noted notes.new.items ≡ lesser (noted notes.old.items)
         (result_err (text_at is_host_name (get_member (codes "host") (table_view send.now))))) }
@@ -132,7 +132,7 @@ fn note_host(alloc: Global, notes: &mut Vec<SettingsNote>, send: &Table) -> Resu
     note_value(alloc, notes, "send.", "host", value, fault, takes)
 }
 
-/// Adds a note where shards or backoff are not between their bounds.
+/// Adds a note if shards or backoff are not between their bounds.
 #[tactic(auto, using(crate::proofs::NoteLemmas::lesser_of_none))]
 fn note_order(alloc: Global, notes: &mut Vec<SettingsNote>, send: &Table) -> Result<(), AllocError>
     ensures { OnOk result
@@ -212,7 +212,7 @@ fn note_receive(
     Ok(())
 }
 
-/// Adds a note on the action of a rule, where it has a fault.
+/// Adds a note on the action of a rule, if it has a fault.
 fn note_action(
     alloc: Global,
     notes: &mut Vec<SettingsNote>,
@@ -235,7 +235,7 @@ fn note_action(
     )
 }
 
-/// Adds a note on the source labels of a rule, where they have a fault.
+/// Adds a note on the source labels of a rule, if they have a fault.
 fn note_labels(
     alloc: Global,
     notes: &mut Vec<SettingsNote>,
@@ -323,7 +323,7 @@ fn note_part(
     push_note(notes, SettingsFault::WrongType, place, text)
 }
 
-/// Adds a note on each fault of what stands at `send`.
+/// Adds a note on each fault of what is at `send`.
 fn note_send_part(
     alloc: Global,
     notes: &mut Vec<SettingsNote>,
@@ -340,7 +340,7 @@ fn note_send_part(
     }
 }
 
-/// Adds a note on each fault of what stands at `receive`.
+/// Adds a note on each fault of what is at `receive`.
 fn note_receive_part(
     alloc: Global,
     notes: &mut Vec<SettingsNote>,
@@ -358,7 +358,7 @@ fn note_receive_part(
     }
 }
 
-/// Adds a note on each fault of what stands at `rule`, except that a pattern is refused.
+/// Adds a note on each fault of what is at `rule`, except that a pattern is refused.
 fn note_rules_part(
     alloc: Global,
     notes: &mut Vec<SettingsNote>,
@@ -392,7 +392,7 @@ fn note_document(
     Ok(())
 }
 
-/// Why the crate of regular expressions refuses a pattern.
+/// Returns why the regex crate refuses a pattern.
 fn refusal(alloc: Global, pattern: &str) -> Result<Option<&'static str>, AllocError> {
     match Regex::new(alloc, pattern) {
         Ok(_) => Ok(None),
@@ -402,7 +402,7 @@ fn refusal(alloc: Global, pattern: &str) -> Result<Option<&'static str>, AllocEr
     }
 }
 
-/// Why a pattern is refused, alone or in the form in which it is used.
+/// Returns why a pattern is refused, alone or in the form in which it is used.
 fn refusal_as_used(alloc: Global, pattern: &str) -> Result<Option<&'static str>, AllocError> {
     match refusal(alloc, pattern)? {
         Some(why) => Ok(Some(why)),
@@ -413,7 +413,7 @@ fn refusal_as_used(alloc: Global, pattern: &str) -> Result<Option<&'static str>,
     }
 }
 
-/// The pattern that a rule sets; `None` where it sets none.
+/// Returns the pattern that a rule sets, or `None` if it sets none.
 fn pattern_of(rule: &Value) -> Option<&str> {
     match rule.as_table() {
         None => None,
@@ -424,7 +424,7 @@ fn pattern_of(rule: &Value) -> Option<&str> {
     }
 }
 
-/// Adds a note on the pattern of a rule, where it is refused.
+/// Adds a note on the pattern of a rule, if it is refused.
 fn note_pattern(
     alloc: Global,
     notes: &mut Vec<SettingsNote>,
@@ -458,7 +458,7 @@ fn note_patterns(
     Ok(())
 }
 
-/// Notes on a document.
+/// Returns the notes on a document.
 #[tactic(auto, unfolding(crate::specs::Notes::noted))]
 fn notes_of(alloc: Global, document: &Table) -> Result<Vec<SettingsNote>, AllocError>
     ensures { IfOk result
@@ -471,7 +471,8 @@ fn notes_of(alloc: Global, document: &Table) -> Result<Vec<SettingsNote>, AllocE
     Ok(notes)
 }
 
-/// The line and the column of what follows these bytes, both from 1. A column counts characters.
+/// Returns the line and the column of what follows these bytes, both from 1. A column counts
+/// characters.
 fn position_after(bytes: &[u8]) -> (usize, usize) {
     let mut line = 1usize;
     let mut column = 1usize;
@@ -486,7 +487,7 @@ fn position_after(bytes: &[u8]) -> (usize, usize) {
     (line, column)
 }
 
-/// The note on a text that is no TOML from here on.
+/// Returns the note on a text that is not TOML from here on.
 #[tactic(auto, unfolding(crate::specs::Notes::noted))]
 fn syntax_note(alloc: Global, before: &[u8], message: &str) -> Result<Vec<SettingsNote>, AllocError>
     ensures { IfOk result (λ v. noted v.items ≡ Some NotToml) }
@@ -499,7 +500,7 @@ fn syntax_note(alloc: Global, before: &[u8], message: &str) -> Result<Vec<Settin
     Ok(notes)
 }
 
-/// Notes on a text.
+/// Returns the notes on a text.
 fn notes_of_text(alloc: Global, text: &str) -> Result<Vec<SettingsNote>, AllocError>
     ensures { IfOk result
         (λ v. IsNoted (result_err (settings_if (parse_document text.now))) (noted v.items)) }
@@ -517,9 +518,10 @@ fn notes_of_text(alloc: Global, text: &str) -> Result<Vec<SettingsNote>, AllocEr
     }
 }
 
-/// A note for each fault of a text of settings: those of `send` and `receive` first, key by key, then those of the rules in their order, and at
-/// last the patterns that are refused. By contract the least fault noted is the one that `read_settings` judges, but that a bad pattern may be noted
-/// besides.
+/// Returns a note for each fault of a text of settings: those of `send` and `receive` first, key by
+/// key, then those of the rules in their order, and last the patterns that are refused. By its
+/// contract the least fault noted is the one that `read_settings` returns, except that a bad
+/// pattern may be noted besides.
 #[tactic(auto, unfolding(crate::specs::Settings::settings_in))]
 pub fn explain_settings(alloc: Global, text: &[u8]) -> Result<Vec<SettingsNote>, AllocError>
     ensures { IfOk result (λ v. IsNoted (result_err (settings_in text.now)) (noted v.items)) }

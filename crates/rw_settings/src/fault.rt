@@ -7,20 +7,24 @@ use std::alloc::AllocError;
 use std::error::Error;
 use std::fmt;
 
-/// Why settings are refused: the least of these that holds anywhere in the text. Cast to a number, `OutOfMemory` is 0 and the faults of the text are 1 to 5.
+/// Why settings are refused: the least of these that holds anywhere in the text. Cast to a number,
+/// `OutOfMemory` is 0 and the faults of the text are 1 to 5.
 #[derive(Clone, Copy, Debug, PartialEq, Eq)]
 pub enum SettingsFault {
-    /// Memory ran out, which is no fault of the text.
+    /// Memory ran out, which is not a fault of the text.
     OutOfMemory,
-    /// The text is not TOML: it is not UTF-8, or a whole number does not fit 64 signed bits, or the like.
+    /// The text is not TOML: it is not UTF-8, or a whole number does not fit 64 signed bits, or the
+    /// like.
     NotToml,
-    /// A table has a key that is none of its own.
+    /// A table has an unknown key.
     UnknownKey,
     /// A value has another type than its key takes.
     WrongType,
-    /// A value is not in the range of its key, a number is not between its bounds, or a rule has an empty list of source labels.
+    /// A value is not in the range of its key, a number is not between its bounds, or a rule has an
+    /// empty list of source labels.
     OutOfRange,
-    /// A rule has no action, an unknown one or no source labels, or its regular expression is refused.
+    /// A rule has no action, an unknown one or no source labels, or its regular expression is
+    /// refused.
     BadRule,
 }
 
@@ -51,7 +55,8 @@ impl From<AllocError> for SettingsFault {
 }
 
 impl SettingsFault {
-    /// The number that stands for the fault: 0 for `OutOfMemory`, and 1 to 5 for the faults of the text.
+    /// Returns the number that stands for the fault: 0 for `OutOfMemory`, and 1 to 5 for the faults
+    /// of the text.
     pub fn number(self) -> u8
         ensures { result ≡ fault_number self }
     {
@@ -66,7 +71,7 @@ impl SettingsFault {
     }
 }
 
-/// The lesser of two faults, where there is any.
+/// Returns the lesser of two faults, if there is any.
 pub(crate) fn lesser(
     fault: Option<SettingsFault>,
     other: Option<SettingsFault>,
@@ -86,7 +91,7 @@ pub(crate) fn lesser(
     }
 }
 
-/// The least fault, where there is any.
+/// Returns the least fault, if there is any.
 #[tactic(auto, unfolding(crate::specs::Faults::least))]
 pub(crate) fn least(faults: &[Option<SettingsFault>]) -> Option<SettingsFault>
     ensures { result ≡ least faults.now }

@@ -18,7 +18,8 @@ use toml::{Table, Value};
 pub struct SettingsNote {
     /// Which fault it is.
     pub fault: SettingsFault,
-    /// Where it is: a key as `send.shards`, a part of a rule as `rule 2, regex`, or a line and a column.
+    /// Where it is: a key such as `send.shards`, a part of a rule such as `rule 2, regex`, or a
+    /// line and a column.
     pub place: String,
     /// What is wrong there, and what the key takes.
     pub text: String,
@@ -38,7 +39,7 @@ pub(crate) fn push_note(
     Ok(())
 }
 
-/// What is wrong with a value, which may be missing.
+/// Returns what is wrong with a value, which may be missing.
 fn wrong(alloc: Global, value: Option<&Value>, fault: SettingsFault) -> Result<String, AllocError> {
     match (value, fault) {
         (None, _) => String::from_str(alloc, "is missing"),
@@ -53,7 +54,7 @@ fn wrong(alloc: Global, value: Option<&Value>, fault: SettingsFault) -> Result<S
     }
 }
 
-/// Adds a note on the value at a key, where it has a fault.
+/// Adds a note on the value at a key, if it has a fault.
 #[tactic(auto, using(crate::proofs::NoteLemmas::lesser_of_none))]
 pub(crate) fn note_value(
     alloc: Global,
@@ -76,7 +77,7 @@ pub(crate) fn note_value(
     push_note(notes, fault, place, text)
 }
 
-/// The known key that is nearest to `key`, where one differs in at most two letters.
+/// Returns the known key that is nearest to `key`, if one differs in at most two letters.
 fn nearest<'a>(alloc: Global, known: &[&'a str], key: &str) -> Result<Option<&'a str>, AllocError> {
     let mut found = None;
     let mut least = 3;
@@ -90,7 +91,7 @@ fn nearest<'a>(alloc: Global, known: &[&'a str], key: &str) -> Result<Option<&'a
     Ok(found)
 }
 
-/// Adds a note on a key that is none of these.
+/// Adds a note on a key that is not one of these.
 fn note_key(
     alloc: Global,
     notes: &mut Vec<SettingsNote>,
@@ -109,7 +110,7 @@ fn note_key(
     push_note(notes, SettingsFault::UnknownKey, place, text)
 }
 
-/// Adds a note on each key of the table that is none of these.
+/// Adds a note on each key of the table that is not one of these.
 pub(crate) fn note_keys(
     alloc: Global,
     notes: &mut Vec<SettingsNote>,

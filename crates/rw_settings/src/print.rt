@@ -9,7 +9,7 @@ use crate::tables::{push_receive, push_rules, push_send};
 use crate::{RuleFields, Settings, SettingsFault, read_rules, read_settings};
 use std::alloc::{AllocError, Global};
 
-/// The text of settings whose rules are written so.
+/// Returns the text of settings with these written rules.
 #[tactic(auto, unfolding(crate::specs::SettingsText::settings_text))]
 fn text_of(alloc: Global, settings: &Settings, rules: &[RuleFields]) -> Result<String, AllocError>
     requires { map written_rule rules.now ≡ settings.now.config.rules }
@@ -22,8 +22,8 @@ fn text_of(alloc: Global, settings: &Settings, rules: &[RuleFields]) -> Result<S
     Ok(out)
 }
 
-/// Prints the settings that a TOML text sets: each key with its value, also where the text leaves it out. Read again, the result gives the same
-/// settings. The errors are those of reading `text`.
+/// Prints the settings that a TOML text sets: each key with its value, even if the text leaves it
+/// out. Read again, the result gives the same settings. The errors are those of reading `text`.
 pub fn print_settings(alloc: Global, text: &[u8]) -> Result<String, SettingsFault>
     ensures text { IfOk result
         (λ t. IsOkAnd (settings_in text.now) (λ s. string_bytes t ≡ settings_text s)) }

@@ -11,7 +11,7 @@ use std::alloc::{AllocError, Global};
 use std::fmt::Formatter;
 use toml_writer::write_string;
 
-/// The text as a value, in the first form of TOML that needs no escape.
+/// Returns the text as a value, in the first form of TOML that needs no escape.
 fn quoted(alloc: Global, text: &str) -> Result<String, AllocError>
     ensures { IfOk result (λ t. string_bytes t ≡ string_text text.now) }
 {
@@ -66,7 +66,7 @@ fn push_quoted(alloc: Global, out: &mut String, text: &str) -> Result<(), AllocE
     out.push_str(value.as_str())
 }
 
-/// The texts as values, with commas between them.
+/// Returns the texts as values, with commas between them.
 fn joined(alloc: Global, texts: &[String]) -> Result<String, AllocError>
     ensures { IfOk result (λ t. string_bytes t
         ≡ join_by string_text (codes ", ") (map string_bytes texts.now)) }
@@ -81,7 +81,7 @@ fn joined(alloc: Global, texts: &[String]) -> Result<String, AllocError>
     Ok(joined)
 }
 
-/// The value that is a list of texts.
+/// Returns the value that is a list of texts.
 fn list(alloc: Global, texts: &[String]) -> Result<String, AllocError>
     ensures { IfOk result (λ t. string_bytes t ≡ list_text (map string_bytes texts.now)) }
 {

@@ -22,7 +22,7 @@ use rw_shard_core::Config;
 use std::alloc::{AllocError, Global};
 use toml::Table;
 
-/// The document of a text.
+/// Returns the document of a text.
 fn document_in(alloc: Global, text: &str) -> Result<Table, SettingsFault>
     ensures ok { IfOk result (λ t. parse_document text.now ≡ Some (table_view t)) }
     ensures err { IfErr result
@@ -40,7 +40,7 @@ fn document_in(alloc: Global, text: &str) -> Result<Table, SettingsFault>
     }
 }
 
-/// The least fault of a document, except that a pattern is refused.
+/// Returns the least fault of a document, except that a pattern is refused.
 #[tactic(auto, unfolding(crate::specs::Settings::document_fault))]
 fn document_fault(document: &Table, empty: &Table) -> Option<SettingsFault>
     requires { table_view empty.now ≡ no_members }
@@ -62,7 +62,7 @@ fn document_fault(document: &Table, empty: &Table) -> Option<SettingsFault>
     least(&[keys, send, receive, rules])
 }
 
-/// What a table `send` without a fault sets.
+/// Returns what a table `send` without a fault sets.
 #[tactic(auto, using(crate::proofs::DocumentLemmas::rules_kept))]
 fn config_of(alloc: Global, send: &Table, rules: Rules) -> Result<Config, AllocError>
     requires { order_fault (table_view send.now) ≡ None }
@@ -75,7 +75,7 @@ fn config_of(alloc: Global, send: &Table, rules: Rules) -> Result<Config, AllocE
     }
 }
 
-/// What a document sets, or its least fault.
+/// Returns what a document sets, or its least fault.
 #[tactic(auto, unfolding(crate::specs::Settings::settings_of))]
 fn settings_of(alloc: Global, document: &Table) -> Result<Settings, SettingsFault>
     ensures ok { IfOk result (λ s. settings_if (Some (table_view document.now)) ≡ Ok s) }
@@ -96,7 +96,7 @@ fn settings_of(alloc: Global, document: &Table) -> Result<Settings, SettingsFaul
     })
 }
 
-/// What a text sets, or the least fault of its document.
+/// Returns what a text sets, or the least fault of its document.
 fn settings_of_text(alloc: Global, text: &str) -> Result<Settings, SettingsFault>
     ensures ok { IfOk result (λ s. settings_if (parse_document text.now) ≡ Ok s) }
     ensures readable { IfOk result
@@ -107,7 +107,7 @@ fn settings_of_text(alloc: Global, text: &str) -> Result<Settings, SettingsFault
     settings_of(alloc, &document)
 }
 
-/// The bytes as a text, where they are UTF-8.
+/// Returns the bytes as a text, if they are UTF-8.
 pub(crate) fn text_in(bytes: &[u8]) -> Option<&str>
     ensures text { IfSome result (λ t. t.now ≡ bytes.now) }
     ensures utf8 { is_some result ≡ is_utf8 bytes.now }
@@ -118,8 +118,9 @@ pub(crate) fn text_in(bytes: &[u8]) -> Option<&str>
     }
 }
 
-/// Reads the settings of a TOML text. A key that is missing has its default. The error is the least fault that holds anywhere in the text: a text
-/// that is not TOML has no other fault, and the regular expressions of rules are compiled only where nothing else is wrong.
+/// Reads the settings of a TOML text. A key that is missing has its default. The error is the least
+/// fault that the text has anywhere: a text that is not TOML has no other fault, and the regular
+/// expressions of rules are compiled only if nothing else is wrong.
 #[tactic(auto, unfolding(crate::specs::Settings::settings_in))]
 pub fn read_settings(alloc: Global, text: &[u8]) -> Result<Settings, SettingsFault>
     ensures ok { IfOk result (λ s. settings_in text.now ≡ Ok s) }
@@ -133,8 +134,8 @@ pub fn read_settings(alloc: Global, text: &[u8]) -> Result<Settings, SettingsFau
     }
 }
 
-/// The rules of a text as it writes them, with their defaults, and without compiling their patterns. What a text with a fault other than
-/// `NotToml` gives is not said.
+/// Returns the rules of a text as it writes them, with their defaults, and without compiling their
+/// patterns. For a text with a fault other than `NotToml` no clause says what they are.
 #[tactic(auto, unfolding(crate::specs::Settings::settings_in))]
 pub fn read_rules(alloc: Global, text: &[u8]) -> Result<Vec<RuleFields>, SettingsFault>
     ensures ok { IfOk result

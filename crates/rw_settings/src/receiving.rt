@@ -13,7 +13,8 @@ use rw_types::Bounded;
 use std::alloc::{AllocError, Global};
 use toml::Table;
 
-/// What the table sets, with the default of each key that it does not have. A value that cannot be taken counts as none.
+/// Returns what the table sets, with the default of each key that it does not have. A value that
+/// cannot be taken counts as none.
 #[tactic(auto, unfolding(crate::specs::Receiving::receive_limits))]
 pub(crate) fn receive_limits(alloc: Global, receive: &Table) -> Result<Limits, AllocError>
     ensures { IfOk result (λ l. l ≡ receive_limits (table_view receive.now)) }
@@ -28,7 +29,7 @@ pub(crate) fn receive_limits(alloc: Global, receive: &Table) -> Result<Limits, A
     })
 }
 
-/// The least fault of the table.
+/// Returns the least fault of the table.
 #[tactic(auto, unfolding(crate::specs::Receiving::receive_fault))]
 pub(crate) fn receive_fault(receive: &Table) -> Option<SettingsFault>
     ensures { result ≡ receive_fault (table_view receive.now) }

@@ -14,7 +14,7 @@ use rw_relabel::{Action, DEFAULT_PATTERN, DEFAULT_SEPARATOR, Rule, RuleFault, Ru
 use std::alloc::{AllocError, Global};
 use toml::{Table, Value};
 
-/// What is wrong with the action of a rule.
+/// Returns what is wrong with the action of a rule.
 pub(crate) fn action_fault(rule: &Table) -> Option<SettingsFault>
     ensures { result ≡ action_fault (get_member (codes "action") (table_view rule.now)) }
 {
@@ -33,7 +33,7 @@ pub(crate) fn action_fault(rule: &Table) -> Option<SettingsFault>
     }
 }
 
-/// Whether each of the values is a text.
+/// Returns whether each of the values is a text.
 fn are_texts(values: &[Value]) -> bool
     ensures { result ≡ are_texts (items_view values.now) }
 {
@@ -45,7 +45,7 @@ fn are_texts(values: &[Value]) -> bool
     true
 }
 
-/// What is wrong with the source labels of a rule.
+/// Returns what is wrong with the source labels of a rule.
 pub(crate) fn source_fault(rule: &Table) -> Option<SettingsFault>
     ensures { result ≡ source_fault (get_member (codes "source_labels") (table_view rule.now)) }
 {
@@ -58,7 +58,7 @@ pub(crate) fn source_fault(rule: &Table) -> Option<SettingsFault>
     }
 }
 
-/// What is wrong with a list of source labels.
+/// Returns what is wrong with a list of source labels.
 #[tactic(auto, using(crate::proofs::RuleLemmas::labels_judged))]
 fn labels_fault(labels: &[Value]) -> Option<SettingsFault>
     ensures { result ≡ labels_fault (Some (items_view labels.now)) }
@@ -72,7 +72,7 @@ fn labels_fault(labels: &[Value]) -> Option<SettingsFault>
     }
 }
 
-/// The least fault of a rule, except that its pattern is refused.
+/// Returns the least fault of a rule, except that its pattern is refused.
 #[tactic(auto, unfolding(crate::specs::RuleTables::rule_table_fault))]
 fn rule_fault(rule: &Value) -> Option<SettingsFault>
     ensures { result ≡ rule_fault_of (as_table (view rule.now)) }
@@ -89,7 +89,7 @@ fn rule_fault(rule: &Value) -> Option<SettingsFault>
     }
 }
 
-/// The least fault of rules, except that a pattern is refused.
+/// Returns the least fault of rules, except that a pattern is refused.
 pub(crate) fn rules_fault(rules: &[Value]) -> Option<SettingsFault>
     ensures { result ≡ with_rules_fault None (items_view rules.now) }
 {
@@ -100,7 +100,7 @@ pub(crate) fn rules_fault(rules: &[Value]) -> Option<SettingsFault>
     worst
 }
 
-/// The action of a rule, where it has one.
+/// Returns the action of a rule, if it has one.
 fn action_of(text: &str) -> Action
     ensures { result ≡ action_of text.now }
 {
@@ -111,7 +111,7 @@ fn action_of(text: &str) -> Action
     }
 }
 
-/// The texts of a list.
+/// Returns the texts of a list.
 fn texts_of(alloc: Global, values: &[Value]) -> Result<Vec<String>, AllocError>
     ensures { IfOk result (λ v. map string_bytes v.items ≡ texts_of (items_view values.now)) }
 {
@@ -127,15 +127,15 @@ fn texts_of(alloc: Global, values: &[Value]) -> Result<Vec<String>, AllocError>
 pub struct RuleFields {
     /// What the rule does with a series.
     pub action: Action,
-    /// The names of the labels whose values the pattern is held against.
+    /// The names of the labels whose values the pattern is matched against.
     pub source_labels: Vec<String>,
-    /// What stands between these values.
+    /// What is between these values.
     pub separator: String,
     /// The regular expression (`regex`), as it is written.
     pub pattern: String,
 }
 
-/// The rule of a table that has no fault, as it is written.
+/// Returns the rule of a table that has no fault, as it is written.
 #[tactic(auto, unfolding(crate::specs::RuleTables::rule_config))]
 fn fields_of(alloc: Global, table: &Table) -> Result<RuleFields, AllocError>
     ensures { IfOk result (λ r. written_rule r ≡ rule_config (table_view table.now)) }
@@ -148,7 +148,7 @@ fn fields_of(alloc: Global, table: &Table) -> Result<RuleFields, AllocError>
     })
 }
 
-/// The rule of a table that has no fault but that its pattern may be refused.
+/// Returns the rule of a table that has no fault but that its pattern may be refused.
 fn rule_of(alloc: Global, table: &Table) -> Result<Rule, SettingsFault>
     ensures rule { IfOk result (λ r. r ≡ rule_config (table_view table.now)) }
     ensures readable { IfOk result (λ r. HasReadablePattern r.pattern) }
@@ -176,7 +176,7 @@ fn push_rule(built: &mut Vec<Rule>, rule: Rule) -> Result<(), AllocError>
     Ok(())
 }
 
-/// The rules of tables that have no fault but that a pattern may be refused.
+/// Returns the rules of tables that have no fault but that a pattern may be refused.
 pub(crate) fn rules_of(
     alloc: Global,
     rules: &[Value],
@@ -205,7 +205,7 @@ fn push_fields(written: &mut Vec<RuleFields>, rule: RuleFields) -> Result<(), Al
     Ok(())
 }
 
-/// The rules of tables that have no fault, as they are written.
+/// Returns the rules of tables that have no fault, as they are written.
 pub(crate) fn written_rules(
     alloc: Global,
     rules: &[Value],

@@ -15,7 +15,8 @@ use rw_types::Bounded;
 use std::alloc::{AllocError, Global};
 use toml::Table;
 
-/// What the table sets, with the default of each key that it does not have. A value that cannot be taken counts as none.
+/// Returns what the table sets, with the default of each key that it does not have. A value that
+/// cannot be taken counts as none.
 #[tactic(auto, unfolding(crate::specs::Sending::send_fields))]
 pub(crate) fn send_fields(
     alloc: Global,
@@ -42,7 +43,7 @@ pub(crate) fn send_fields(
     })
 }
 
-/// The fault of a table whose shards or backoff are not between their bounds.
+/// Returns the fault of a table whose shards or backoff are not between their bounds.
 #[tactic(auto, unfolding(crate::specs::Sending::send_fields, crate::specs::Sending::order_fault))]
 pub(crate) fn order_fault(send: &Table) -> Option<SettingsFault>
     ensures { result ≡ order_fault (table_view send.now) }
@@ -59,7 +60,7 @@ pub(crate) fn order_fault(send: &Table) -> Option<SettingsFault>
     }
 }
 
-/// The least fault of the table.
+/// Returns the least fault of the table.
 #[tactic(auto, unfolding(crate::specs::Sending::send_fault))]
 pub(crate) fn send_fault(send: &Table) -> Option<SettingsFault>
     ensures { result ≡ send_fault (table_view send.now) }

@@ -12,7 +12,7 @@ use rw_shard_core::ConfigFields;
 use rw_types::Names;
 use std::alloc::{AllocError, Global};
 
-/// The word of the names that are taken.
+/// Returns the word of a naming scheme.
 fn names_text(names: Names) -> &'static str
     ensures { result.now ≡ names_text names }
 {
@@ -74,7 +74,7 @@ pub(crate) fn push_receive(
     Ok(())
 }
 
-/// The word of an action.
+/// Returns the word of an action.
 fn action_text(action: Action) -> &'static str
     ensures { result.now ≡ action_text action }
 {

@@ -15,7 +15,7 @@ use rw_types::{Bounded, HostName, Names, RequestPath};
 use std::alloc::{AllocError, Global};
 use toml::{Table, Value};
 
-/// Whether the key is one of these.
+/// Returns whether the key is one of these.
 pub(crate) fn is_known(known: &[&str], key: &str) -> bool
     ensures { result ≡ list_any (bytes_eq key.now) (map (λ k. k.now) known.now) }
 {
@@ -27,7 +27,7 @@ pub(crate) fn is_known(known: &[&str], key: &str) -> bool
     false
 }
 
-/// Whether each key of the table is one of these.
+/// Returns whether each key of the table is one of these.
 fn has_only_keys(table: &Table, known: &[&str]) -> bool
     ensures { result ≡ has_only (map (λ k. k.now) known.now) (table_view table.now) }
 {
@@ -39,7 +39,7 @@ fn has_only_keys(table: &Table, known: &[&str]) -> bool
     true
 }
 
-/// The fault of a table that has another key than these.
+/// Returns the fault of a table that has another key than these.
 pub(crate) fn keys_fault(table: &Table, known: &[&str]) -> Option<SettingsFault>
     ensures { result ≡ keys_fault (map (λ k. k.now) known.now) (table_view table.now) }
 {
@@ -50,14 +50,14 @@ pub(crate) fn keys_fault(table: &Table, known: &[&str]) -> Option<SettingsFault>
     }
 }
 
-/// The value at a key.
+/// Returns the value at a key.
 pub(crate) fn value_at<'a>(table: &'a Table, key: &str) -> Option<&'a Value>
     ensures { option_map (λ v. view v.now) result ≡ get_member key.now (table_view table.now) }
 {
     table.get(key)
 }
 
-/// A whole number, where it is in the range.
+/// Returns a whole number, if it is in the range.
 fn number_in<const LOW: u64, const HIGH: u64>(
     number: i64,
 ) -> Result<Option<Bounded<LOW, HIGH>>, SettingsFault>
@@ -72,7 +72,7 @@ fn number_in<const LOW: u64, const HIGH: u64>(
     }
 }
 
-/// The whole number at a key, if there is one.
+/// Returns the whole number at a key, if there is one.
 pub(crate) fn number_at<const LOW: u64, const HIGH: u64>(
     table: &Table,
     key: &str,
@@ -88,7 +88,7 @@ pub(crate) fn number_at<const LOW: u64, const HIGH: u64>(
     }
 }
 
-/// What is wrong with the whole number at a key.
+/// Returns what is wrong with the whole number at a key.
 pub(crate) fn number_fault<const LOW: u64, const HIGH: u64>(
     table: &Table,
     key: &str,
@@ -101,7 +101,7 @@ pub(crate) fn number_fault<const LOW: u64, const HIGH: u64>(
     }
 }
 
-/// The whole number at a key, or the default where none stands there that can be taken.
+/// Returns the whole number at a key, or the default if there is no valid one.
 pub(crate) fn number_or<const LOW: u64, const HIGH: u64>(
     table: &Table,
     key: &str,
@@ -116,7 +116,7 @@ pub(crate) fn number_or<const LOW: u64, const HIGH: u64>(
     }
 }
 
-/// What is wrong with the text at a key that may be any text.
+/// Returns what is wrong with the text at a key that may be any text.
 pub(crate) fn text_fault(table: &Table, key: &str) -> Option<SettingsFault>
     ensures { result ≡ result_err (text_at any_text (get_member key.now (table_view table.now))) }
 {
@@ -129,7 +129,7 @@ pub(crate) fn text_fault(table: &Table, key: &str) -> Option<SettingsFault>
     }
 }
 
-/// The text at a key, or the default where none stands there.
+/// Returns the text at a key, or the default if there is none.
 pub(crate) fn text_or<'a>(table: &'a Table, key: &str, default: &'a str) -> &'a str
     ensures { result.now
         ≡ found_or default.now (text_at any_text (get_member key.now (table_view table.now))) }
@@ -143,7 +143,7 @@ pub(crate) fn text_or<'a>(table: &'a Table, key: &str, default: &'a str) -> &'a 
     }
 }
 
-/// What is wrong with the host at a key.
+/// Returns what is wrong with the host at a key.
 pub(crate) fn host_fault(table: &Table, key: &str) -> Option<SettingsFault>
     ensures { result
         ≡ result_err (text_at is_host_name (get_member key.now (table_view table.now))) }
@@ -163,7 +163,7 @@ pub(crate) fn host_fault(table: &Table, key: &str) -> Option<SettingsFault>
     }
 }
 
-/// The host at a key, or the default where none stands there that can be taken.
+/// Returns the host at a key, or the default if there is no valid one.
 pub(crate) fn host_or_default(
     alloc: Global,
     table: &Table,
@@ -178,7 +178,7 @@ pub(crate) fn host_or_default(
     }
 }
 
-/// What is wrong with the path at a key.
+/// Returns what is wrong with the path at a key.
 pub(crate) fn path_fault(table: &Table, key: &str) -> Option<SettingsFault>
     ensures { result
         ≡ result_err (text_at is_request_path (get_member key.now (table_view table.now))) }
@@ -198,7 +198,7 @@ pub(crate) fn path_fault(table: &Table, key: &str) -> Option<SettingsFault>
     }
 }
 
-/// The path at a key, or the default where none stands there that can be taken.
+/// Returns the path at a key, or the default if there is no valid one.
 pub(crate) fn path_or_default(
     alloc: Global,
     table: &Table,
@@ -213,7 +213,7 @@ pub(crate) fn path_or_default(
     }
 }
 
-/// The names that a text says.
+/// Returns the naming scheme that a text says.
 fn names_in(text: &str) -> Result<Option<Names>, SettingsFault>
     ensures { result ≡ names_in text.now }
 {
@@ -226,7 +226,7 @@ fn names_in(text: &str) -> Result<Option<Names>, SettingsFault>
     }
 }
 
-/// The names that the text at a key says, if there is one.
+/// Returns the naming scheme that the text at a key says, if there is one.
 fn names_at(table: &Table, key: &str) -> Result<Option<Names>, SettingsFault>
     ensures { result ≡ names_at (get_member key.now (table_view table.now)) }
 {
@@ -239,7 +239,7 @@ fn names_at(table: &Table, key: &str) -> Result<Option<Names>, SettingsFault>
     }
 }
 
-/// What is wrong with the names at a key.
+/// Returns what is wrong with the naming scheme at a key.
 pub(crate) fn names_fault(table: &Table, key: &str) -> Option<SettingsFault>
     ensures { result ≡ result_err (names_at (get_member key.now (table_view table.now))) }
 {
@@ -249,7 +249,7 @@ pub(crate) fn names_fault(table: &Table, key: &str) -> Option<SettingsFault>
     }
 }
 
-/// The names at a key, or legacy ones where none stand there that can be taken.
+/// Returns the naming scheme at a key, or the legacy one if there is no valid one.
 pub(crate) fn names_or_legacy(table: &Table, key: &str) -> Names
     ensures { result ≡ found_or Legacy (names_at (get_member key.now (table_view table.now))) }
 {
@@ -259,7 +259,8 @@ pub(crate) fn names_or_legacy(table: &Table, key: &str) -> Names
     }
 }
 
-/// The table at a key, or the empty one where no value stands there; `None` where a value of another type does.
+/// Returns the table at a key, or the empty one if there is no value, or `None` if there is a value
+/// of another type.
 pub(crate) fn section<'a>(document: &'a Table, key: &str, empty: &'a Table) -> Option<&'a Table>
     requires { table_view empty.now ≡ no_members }
     ensures { option_map (λ t. table_view t.now) result
@@ -271,7 +272,8 @@ pub(crate) fn section<'a>(document: &'a Table, key: &str, empty: &'a Table) -> O
     }
 }
 
-/// The items of the list at a key, no items where no value stands there; `None` where a value of another type does.
+/// Returns the items of the list at a key, or no items if there is no value, or `None` if there is
+/// a value of another type.
 pub(crate) fn list_at<'a>(table: &'a Table, key: &str) -> Option<&'a [Value]>
     ensures { option_map (λ v. items_view v.now) result
         ≡ list_at (get_member key.now (table_view table.now)) }
@@ -285,7 +287,7 @@ pub(crate) fn list_at<'a>(table: &'a Table, key: &str) -> Option<&'a [Value]>
     }
 }
 
-/// The table at a key, or the empty one where none stands there.
+/// Returns the table at a key, or the empty one if there is none.
 pub(crate) fn section_or<'a>(document: &'a Table, key: &str, empty: &'a Table) -> &'a Table
     requires { table_view empty.now ≡ no_members }
     ensures { table_view result.now
@@ -297,7 +299,7 @@ pub(crate) fn section_or<'a>(document: &'a Table, key: &str, empty: &'a Table) -
     }
 }
 
-/// The items of the list at a key, none where no list stands there.
+/// Returns the items of the list at a key, or none if there is no list.
 pub(crate) fn list_or_none<'a>(table: &'a Table, key: &str) -> &'a [Value]
     ensures { items_view result.now
         ≡ part_or no_items (list_at (get_member key.now (table_view table.now))) }
@@ -308,7 +310,7 @@ pub(crate) fn list_or_none<'a>(table: &'a Table, key: &str) -> &'a [Value]
     }
 }
 
-/// The table that a value is, or the empty one where it is none.
+/// Returns the table that a value is, or the empty one if it is not a table.
 pub(crate) fn table_or<'a>(value: &'a Value, empty: &'a Table) -> &'a Table
     requires { table_view empty.now ≡ no_members }
     ensures { table_view result.now ≡ part_or no_members (as_table (view value.now)) }

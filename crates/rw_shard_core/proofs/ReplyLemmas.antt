@@ -23,7 +23,7 @@ pub some_bytes : (h : ResponseHead) → 0 < length (print_response h)
 unfolding print_response
 some_bytes h = simp length-append (omega arith)
 
--- a head that is not below 100 stands at the front of each reply
+-- a head that is not below 100 is at the front of each reply
 first_head : (room : ℕ) (text : List ℕ) (heads : List ResponseHead) (status : ℕ) → Follows (Answers status) room text heads →
     (h : ResponseHead) × (rest : List ℕ) × BeginsWith room text h rest × (100 ≤ status_code h)
 first_head room text [] status r = (r.0, r.1, r.2, omega (arith, r.3, r.4))

@@ -4,12 +4,12 @@ use Rattle.rw_types.specs.declared.names.Names.TheVariants.{Legacy}
 use Rattle.rw_relabel.specs.declared.choice.Choice.{Choice}
 use Rattle.rw_shard_core.specs.declared.config.ConfigFields.{ConfigFields}
 
--- the shards at the beginning, and the least and the most backoff, are between their bounds
+-- the shards at the start, and the least and the most backoff, are between their bounds
 abbrev pub is_ordered : ConfigFields → Bool
 is_ordered c =
     (nat_le c.min_shards c.shards && nat_le c.shards c.max_shards) && nat_le c.min_backoff_ms c.max_backoff_ms
 
--- what a sender is told nothing else
+-- the configuration of a sender that is given no other
 abbrev pub standard : ConfigFields
 standard = record {
   target = record { host = codes "localhost:9090"; path = codes "/api/v1/write" };

@@ -1,5 +1,6 @@
 -- How the work of a sender has ended, as an outcome says it: all samples below a position are
--- resolved; the work was stopped, with these samples placed and not resolved; or the log is damaged.
+-- resolved; the work was stopped, with these samples placed and not resolved; or the log is
+-- damaged.
 use Rattle.std.specs.Prelude.{ℕ, List}
 use Rattle.rw_wal_format.specs.declared.tail_fault.TailFault.{TailFault}
 use Rattle.rw_shard_core.specs.declared.outcome.Outcome.{Outcome}

@@ -10,12 +10,12 @@ use Rattle.rw_shard_core.specs.Shard.{AreInRow, last_of, places_of, labelled, bo
 use Rattle.rw_shard_core.specs.declared.config.Target.{Target}
 use Rattle.rw_shard_core.specs.declared.shard.OpenBatch.{OpenBatch}
 
--- the samples that are not resolved are those of the open batch, where there is one
+-- the samples that are not resolved are those of the open batch, if there is one
 abbrev pub batch_part : Option OpenBatch → List Placed → List Placed
 batch_part None pending = []
 batch_part (Some opened) pending = pending
 
--- and else those of the builder
+-- or otherwise those of the builder
 abbrev pub builder_part : Option OpenBatch → List Placed → List Placed
 builder_part None pending = pending
 builder_part (Some opened) pending = []

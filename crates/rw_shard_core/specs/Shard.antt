@@ -1,4 +1,5 @@
--- One shard of a sender behind its queue: what it took, its builder and its open batch (Remote-Write 1.0, "Ordering" and "Retries & backoff").
+-- One shard of a sender behind its queue: what it took, its builder and its open batch
+-- (Remote-Write 1.0, "Ordering" and "Retries & backoff").
 use Rattle.std.specs.Prelude.{◌≡◌, ℕ, ℤ, ◌+◌, ◌-◌, ◌<◌, ◌≤◌, List, [], ◌∷◌, ◌++◌, length, map, Bool, true, false, not, ◌&&◌, ◌||◌, ◌==◌, nat_le, Option, None, Some, Ok, All, IfSome, if◌then◌else◌, ⊤}
 use Rattle.std.specs.Ordering.{nat_cmp}
 use Rattle.std.specs.FinMap.{FinMap, get, insert}
@@ -22,7 +23,7 @@ use Rattle.rw_shard_core.specs.SentRequest.{request_of}
 use Rattle.rw_shard_core.specs.declared.config.Target.{Target}
 use Rattle.rw_shard_core.specs.declared.shard.Attempt.{Attempt}
 
--- No open batch is an empty one.
+-- No open batch is empty.
 pub record Core : Type 0 where
   pub target : Target
   pub epoch : ℕ
@@ -33,7 +34,7 @@ pub record Core : Type 0 where
   pub builder : List Placed
   pub marked : Bool  -- a mark was taken while the builder was not empty
   pub batch : List Placed
-  pub waiting : Bool  -- an attempt of the open batch is under way
+  pub waiting : Bool  -- an attempt to send the open batch is under way
   pub ended : Bool  -- its End was taken
   pub killed : Bool
 
@@ -67,7 +68,7 @@ positions_of ps = map (λ (p : Place). p.pos) ps
 abbrev pub positions : List Placed → List ℕ
 positions xs = positions_of (places_of xs)
 
--- the labels and the sample alone
+-- the sample with its labels
 abbrev pub labelled : Placed → LabelledSample
 labelled x = record { labels = x.labels; sample = (x.word, x.t) }
 
@@ -91,7 +92,7 @@ pending c = c.batch ++ c.builder
 abbrev pub is_due : Core → Bool
 is_due c = nat_le c.full (length c.builder) || c.marked
 
--- Take: the guard, but that something stands in the queue
+-- Take: the guard, but that something is in the queue
 abbrev pub can_take : Core → Bool
 can_take c = not c.killed && (is_empty c.batch && not (is_due c))
 
@@ -159,7 +160,7 @@ request_for c = request_of c.target.host c.target.path (body_of c.batch)
 abbrev pub attempt_for : Core → Attempt
 attempt_for c = record { id = batch_id c.batch; request = request_for c }
 
--- Lost, and a reply but for its id: the guard
+-- Lost, and a reply except for its id: the guard
 abbrev pub awaits : Core → Bool
 awaits c = not c.killed && (not (is_empty c.batch) && c.waiting)
 
@@ -182,7 +183,7 @@ same_id a b = (a.epoch == b.epoch && a.shard == b.shard) && a.seq == b.seq
 abbrev pub is_answer : BatchId → Core → Bool
 is_answer id c = awaits c && same_id id (batch_id c.batch)
 
--- a batch that is done or refused is resolved, another is sent again
+-- a batch that is done or refused is resolved, any other is sent again
 abbrev pub settle : Judgement → Core → Core
 settle Done c = resolve c
 settle Refused c = resolve c
@@ -197,7 +198,8 @@ abbrev pub name_all : ℕ → List ℕ → FinMap nat_cmp Reason → FinMap nat_
 name_all status [] names = names
 name_all status (p ∷ ps) names = name_all status ps (insert names p (Why.Status status))
 
--- a batch that is done gives its room back, and one that is refused uses it for the names of its samples
+-- a batch that is done gives its room back, and one that is refused uses it for the names of its
+-- samples
 abbrev pub settle_names : Judgement → ℕ → List Placed → Named → Named
 settle_names Done status batch l = record l { room = l.room - length batch }
 settle_names Refused status batch l = record { names = name_all status (positions batch) l.names; room = l.room - length batch }
@@ -216,13 +218,14 @@ pub record HasRoomFor (c : Core) (l : Named) : Type 0 where
 abbrev pub kill : Core → Core
 kill c = record c { killed = true }
 
--- each sample is the next one of that before it
+-- each sample is the one after the sample before it
 abbrev pub AreInRow : List Placed → Type 0
 AreInRow [] = ⊤
 AreInRow (x ∷ []) = ⊤
 AreInRow (x ∷ y ∷ ys) = IsNext x y × AreInRow (y ∷ ys)
 
--- What holds of each core: what was taken is what was resolved, and then the open batch or the builder.
+-- What is true of each core: what was taken is what was resolved, and then the open batch or the
+-- builder.
 pub record IsCore (c : Core) : Type 0 where
   pub whole : c.taken ≡ c.resolved ++ pending c
   pub one : (is_empty c.batch || is_empty c.builder) ≡ true

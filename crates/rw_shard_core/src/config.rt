@@ -18,7 +18,7 @@ pub struct Target {
 }
 
 impl Target {
-    /// `localhost:9090` and `/api/v1/write`: the receiver of a Prometheus on this machine.
+    /// Returns `localhost:9090` and `/api/v1/write`: the receiver of a Prometheus on this machine.
     pub fn standard(alloc: Global) -> Result<Target, AllocError>
         ensures { IfOk result (λ t. t
             ≡ record { host = codes "localhost:9090"; path = codes "/api/v1/write" }) }
@@ -35,7 +35,7 @@ impl Target {
 pub struct ConfigFields {
     /// The host and the path that requests name.
     pub target: Target,
-    /// How many shards there are at the beginning.
+    /// How many shards there are at the start.
     pub shards: Bounded<1, 1_000>,
     /// The fewest shards that resharding picks.
     pub min_shards: Bounded<1, 1_000>,
@@ -49,7 +49,8 @@ pub struct ConfigFields {
     pub min_backoff_ms: Bounded<1, 3_600_000>,
     /// The longest pause before a retry of a batch, in milliseconds.
     pub max_backoff_ms: Bounded<1, 3_600_000>,
-    /// How long an attempt may take, in milliseconds: to connect, to write the request and to read the reply, together.
+    /// How long an attempt may take, in milliseconds: to connect, to write the request and to read
+    /// the reply, together.
     pub timeout_ms: Bounded<1, 3_600_000>,
     /// Which label names are accepted from the log.
     pub names: Names,
@@ -57,7 +58,8 @@ pub struct ConfigFields {
     pub rules: Rules,
 }
 
-/// A configuration: `min_shards <= shards <= max_shards` and `min_backoff_ms <= max_backoff_ms`. Contracts see the fields.
+/// A configuration: `min_shards <= shards <= max_shards` and `min_backoff_ms <= max_backoff_ms`.
+/// Contracts see the fields.
 #[derive(Debug, Drop)]
 pub struct Config {
     fields: ConfigFields,
@@ -76,7 +78,8 @@ impl Model for Config {
 }
 
 impl ConfigFields {
-    /// The defaults: one shard at first and at most 50, queues of 10,000 items, batches of 2,000 samples, legacy names, and no rules.
+    /// Returns the defaults: one shard at first and at most 50, queues of 10,000 items, batches of
+    /// 2,000 samples, legacy names, and no rules.
     pub fn standard(alloc: Global) -> Result<ConfigFields, AllocError>
         ensures { IfOk result (λ c. c ≡ standard) }
     {
@@ -95,7 +98,7 @@ impl ConfigFields {
         })
     }
 
-    /// Which series are sent, by their names and by the rules.
+    /// Returns which series are sent, by their names and by the rules.
     pub fn into_choice(self) -> Choice
         ensures { result ≡ choice_of self }
     {
@@ -105,7 +108,7 @@ impl ConfigFields {
         }
     }
 
-    /// Whether `min_shards <= shards <= max_shards` and `min_backoff_ms <= max_backoff_ms`.
+    /// Returns whether `min_shards <= shards <= max_shards` and `min_backoff_ms <= max_backoff_ms`.
     pub fn is_ordered(&self) -> bool
         ensures { result ≡ is_ordered self.now }
     {
@@ -116,7 +119,8 @@ impl ConfigFields {
 }
 
 impl Config {
-    /// The configuration with these fields; `None` where `is_ordered` does not hold. This takes no memory.
+    /// Returns the configuration with these fields, or `None` if `is_ordered` does not hold. This
+    /// takes no memory.
     pub fn new(fields: ConfigFields) -> Option<Config>
         ensures { result ≡ (if is_ordered fields then Some fields else None) }
     {
@@ -127,7 +131,7 @@ impl Config {
         }
     }
 
-    /// The configuration with the default fields.
+    /// Returns the configuration with the default fields.
     pub fn standard(alloc: Global) -> Result<Config, AllocError>
         ensures { IfOk result (λ c. c ≡ standard) }
     {
@@ -136,7 +140,7 @@ impl Config {
         })
     }
 
-    /// The fields of the configuration.
+    /// Returns the fields of the configuration.
     pub fn fields(&self) -> &ConfigFields
         ensures fields { result.now ≡ self.now }
         ensures min_shards { self.now.min_shards ≤ self.now.shards }
@@ -146,7 +150,7 @@ impl Config {
         &self.fields
     }
 
-    /// The fields of the configuration, by value.
+    /// Returns the fields of the configuration, by value.
     pub fn into_fields(self) -> ConfigFields
         ensures { result ≡ self }
     {

@@ -1,4 +1,5 @@
-//! The sender of messages: its configuration, the state of one shard, and the bytes of its requests and of the replies to them.
+//! The sender of messages: its configuration, the state of one shard, and the bytes of its requests
+//! and of the replies to them.
 #![tactic(auto)]
 
 mod config;

@@ -19,19 +19,20 @@ pub enum ReplyRead {
     Partial,
     /// The status of the first head that is not informational, from 200 to 999.
     Status(u16),
-    /// No bytes that follow can make a reply of them: they are no head, pass a limit, or have a status below 100.
+    /// No bytes that follow can make a reply of them: they are not a head, pass a limit, or have a
+    /// status below 100.
     Bad,
 }
 
-/// What stands at the front of a reply.
+/// What comes at the front of a reply.
 enum Front {
     /// An informational head, and how many bytes it takes.
     Informational(usize),
-    /// What decides.
+    /// What decides what the reply says.
     Decided(ReplyRead),
 }
 
-/// What stands at the front of a text whose heads may take `room` bytes.
+/// Returns what comes at the front of a text whose heads may take `room` bytes.
 fn front_of(text: &[u8], room: usize) -> Front
     ensures { Found room text.now result }
 {
@@ -59,7 +60,7 @@ fn front_of(text: &[u8], room: usize) -> Front
     }
 }
 
-/// The text behind its first `len` bytes.
+/// Returns the text after its first `len` bytes.
 fn without(text: &[u8], len: usize) -> &[u8]
     requires { len ≤ length text.now }
     ensures { result.now ≡ drop len text.now }
@@ -67,9 +68,11 @@ fn without(text: &[u8], len: usize) -> &[u8]
     &text[len..]
 }
 
-/// What the bytes of a reply say (RFC 9112). Informational heads (status 100 to 199) are passed over, and what follows the head with the status is ignored.
+/// Returns what the bytes of a reply say (RFC 9112). Informational heads (status 100 to 199) are
+/// skipped, and what follows the head with the status is ignored.
 ///
-/// A head is what `httparse` reads as one: empty lines may come first and count among its bytes, and LF alone ends a line. This takes no memory.
+/// A head is what `httparse` reads as one: empty lines may come first and count among its bytes,
+/// and LF alone ends a line. This takes no memory.
 pub fn read_reply(text: &[u8]) -> ReplyRead
     ensures { Reads 8192 text.now result }
 {

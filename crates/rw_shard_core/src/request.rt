@@ -44,7 +44,8 @@ fn put_head(bytes: &mut Vec<u8>, host: &[u8], path: &[u8], digits: &[u8]) -> Res
     Ok(())
 }
 
-/// The head of a request to the target whose body has `len` bytes, and room for that body behind it.
+/// Returns the head of a request to the target whose body has `len` bytes, and room for that body
+/// after it.
 fn head_for(alloc: Global, target: &Target, len: usize) -> Result<Vec<u8>, AllocError>
     ensures head { IfOk result
         (λ v. v.items ≡ request_head target.now.host target.now.path (decimal len)) }
@@ -65,7 +66,8 @@ fn head_for(alloc: Global, target: &Target, len: usize) -> Result<Vec<u8>, Alloc
     Ok(bytes)
 }
 
-/// The HTTP/1.1 request that carries `body` to the target (Remote-Write 1.0, "Protocol"), in one buffer that is reserved once.
+/// Returns the HTTP/1.1 request that carries `body` to the target (Remote-Write 1.0, "Protocol"),
+/// in one buffer that is reserved once.
 pub fn request_bytes(alloc: Global, target: &Target, body: &[u8]) -> Result<Vec<u8>, AllocError>
     ensures { IfOk result (λ v. v.items ≡ request_of target.now.host target.now.path body.now) }
 {
@@ -81,7 +83,8 @@ pub(crate) struct Carrying {
     pub(crate) body: Bytes,
 }
 
-/// The request that carries the samples of a builder, whole, in one buffer that is written once.
+/// Returns the whole request that carries the samples of a builder, in one buffer that is written
+/// once.
 pub(crate) fn request_with(
     alloc: Global,
     target: &Target,

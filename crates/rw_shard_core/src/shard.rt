@@ -1,4 +1,4 @@
-//! The state of one shard of a sender, behind its queue.
+//! The state of one shard of a sender behind its queue.
 
 ghost use Rattle.std.specs.Prelude.{◌≡◌, ◌↔◌, IsTrue, ◌+◌, ◌<◌, ◌≤◌, [], true, false, All, ◌&&◌, Some, None, if◌then◌else◌, IfOk, IfSome, OnOk, OnErr, length};
 ghost use Rattle.rw_retry.specs.Judgements.{judgement_of};
@@ -34,7 +34,7 @@ pub(crate) struct OpenBatch {
 /// An attempt to send the open batch of a shard.
 #[derive(Debug, Drop)]
 pub struct Attempt {
-    /// The id of the batch, with which a reply to the attempt is handed to `ShardCore::reply`.
+    /// The id of the batch, which goes to `ShardCore::reply` with the reply to the attempt.
     pub id: BatchId,
     /// The bytes of the request, the same at each attempt.
     pub request: Bytes,
@@ -53,7 +53,7 @@ fn name_all(ledger: &mut Ledger, places: &[Place], status: u16)
     }
 }
 
-/// Whether none of these samples is named.
+/// Returns whether none of these samples is named.
 fn are_unnamed(ledger: &Ledger, places: &[Place]) -> bool
     ensures { IsTrue result ↔ All (λ p. get ledger.now.names p ≡ None) (positions_of places.now) }
 {
@@ -66,10 +66,11 @@ fn are_unnamed(ledger: &Ledger, places: &[Place]) -> bool
     true
 }
 
-/// The state of one shard behind its queue: the samples that it has taken and not yet sent, and the batch that is being sent.
+/// The state of one shard behind its queue: the samples that it has taken and not yet sent, and the
+/// batch that is being sent.
 ///
-/// Samples are taken one after the other into a builder. When that is due it is frozen into a batch, which stays open and is sent as often as it
-/// takes, until a reply resolves it.
+/// Samples are taken one after the other into a builder. When that is due it is frozen into a
+/// batch, which stays open and is sent as often as needed, until a reply resolves it.
 #[derive(Drop)]
 pub struct ShardCore {
     alloc: Global,
@@ -116,7 +117,8 @@ impl Model for ShardCore {
         (samples_in s.taken) (samples_in s.resolved) (samples_in s.pending) };
 }
 
-/// Whether a place has the next number and a later position than the one before it, if there is one.
+/// Returns whether a place has the next number and a later position than the one before it, or
+/// there is none before it.
 fn follows(last: Option<Place>, place: Place) -> bool
     ensures { IsTrue result ↔ IfSome last (λ l. (place.seq ≡ l.seq + 1) × (l.pos < place.pos)) }
 {
@@ -126,7 +128,7 @@ fn follows(last: Option<Place>, place: Place) -> bool
     }
 }
 
-/// A copy of a target.
+/// Returns a copy of a target.
 fn copy_of(alloc: Global, target: &Target) -> Result<Target, AllocError>
     ensures { IfOk result (λ t. t ≡ target.now) }
 {
@@ -139,7 +141,7 @@ fn copy_of(alloc: Global, target: &Target) -> Result<Target, AllocError>
 }
 
 impl ShardCore {
-    /// A shard that has taken nothing. Its builder is full at `batch` samples.
+    /// Returns a shard that has taken nothing. Its builder is full at `batch` samples.
     pub fn new(
         alloc: Global,
         target: &Target,
@@ -169,14 +171,16 @@ impl ShardCore {
         })
     }
 
-    /// Whether the builder is to be frozen: it is full, or a mark was taken while it was not empty.
+    /// Returns whether the builder is to be frozen: it is full, or a mark was taken while it was
+    /// not empty.
     pub fn due(&self) -> bool
         ensures { result ≡ is_due self.now }
     {
         self.builder.is_full() || self.marked
     }
 
-    /// Whether the next item may be taken: no batch is open, the builder is not due, and the shard was not killed.
+    /// Returns whether the next item may be taken: no batch is open, the builder is not due, and
+    /// the shard was not killed.
     pub fn can_take(&self) -> bool
         ensures can { result ≡ can_take self.now }
         ensures core { IsCore self.now }
@@ -184,21 +188,22 @@ impl ShardCore {
         !self.killed && self.current.is_none() && !self.due()
     }
 
-    /// Whether all samples that were taken are resolved: the builder is empty, and no batch is open.
+    /// Returns whether all samples that were taken are resolved: the builder is empty, and no batch
+    /// is open.
     pub fn is_empty(&self) -> bool
         ensures { result ≡ is_empty (pending self.now) }
     {
         self.current.is_none() && self.builder.is_empty()
     }
 
-    /// Whether the End of the queue was taken.
+    /// Returns whether the End of the queue was taken.
     pub fn has_ended(&self) -> bool
         ensures { result ≡ self.now.ended }
     {
         self.ended
     }
 
-    /// The id of the open batch; `None` where no batch is open.
+    /// Returns the id of the open batch, or `None` if no batch is open.
     pub fn batch_id(&self) -> Option<BatchId>
         ensures { result
             ≡ (if is_empty self.now.batch then None else Some (batch_id self.now.batch)) }
@@ -209,7 +214,8 @@ impl ShardCore {
         }
     }
 
-    /// Whether the item is a mark, or a sample of this shard of this epoch with the next number and a later position than the sample before it.
+    /// Returns whether the item is a mark, or a sample of this shard of this epoch with the next
+    /// number and a later position than the sample before it.
     pub fn may_take(&self, item: &Item) -> bool
         ensures { IsTrue result ↔ MayTake item.now self.now }
     {
@@ -221,7 +227,7 @@ impl ShardCore {
         }
     }
 
-    /// The samples of the open batch, which only contracts see.
+    /// Returns the samples of the open batch, which only contracts see.
     pub fn open_samples(&self) -> History<Item>
         ensures { samples_in result ≡ self.now.batch }
     {
@@ -231,7 +237,7 @@ impl ShardCore {
         }
     }
 
-    /// The places of the samples that were taken and are not resolved, in order.
+    /// Returns the places of the samples that were taken and are not resolved, in order.
     pub fn pending_places(&self) -> &[Place]
         ensures { result.now ≡ places_of (pending self.now) }
     {
@@ -241,7 +247,8 @@ impl ShardCore {
         }
     }
 
-    /// Whether the ledger has room for each sample of the open batch, and names none of them.
+    /// Returns whether the ledger has room for each sample of the open batch, and names none of
+    /// them.
     pub fn has_room_in(&self, ledger: &Ledger) -> bool
         ensures { IsTrue result ↔ HasRoomFor self.now ledger.now }
     {
@@ -261,7 +268,8 @@ impl ShardCore {
         self.marked = !self.builder.is_empty();
     }
 
-    /// Takes the next item of the queue. A sample goes into the builder; a mark makes a builder due that is not empty.
+    /// Takes the next item of the queue. A sample goes into the builder; a mark makes a builder due
+    /// that is not empty.
     pub fn take(&mut self, item: Item)
         requires guard { can_take self.old ≡ true }
         requires item { MayTake item self.old }
@@ -282,8 +290,9 @@ impl ShardCore {
         }
     }
 
-    /// Makes the builder the open batch, with its request, and makes room in the ledger for its samples. `Ok(false)`, and nothing changes, where
-    /// a batch is open, the builder is empty or the shard was killed. An `Err` changes nothing.
+    /// Makes the builder the open batch, with its request, and reserves room in the ledger for its
+    /// samples. Returns `Ok(false)`, and changes nothing, if a batch is open, the builder is empty
+    /// or the shard was killed. An `Err` changes nothing.
     pub fn freeze(&mut self, ledger: &mut Ledger) -> Result<bool, AllocError>
         ensures done { IfOk result (λ done. done ≡ can_freeze self.old) }
         ensures core { OnOk result (self.new ≡ freeze self.old) }
@@ -313,7 +322,7 @@ impl ShardCore {
         }
     }
 
-    /// A clone of the open batch's request.
+    /// Returns a clone of the open batch's request.
     fn request(&self) -> Result<Bytes, AllocError>
         requires { is_empty self.now.batch ≡ false }
         ensures { IfOk result (λ b. b ≡ request_for self.now) }
@@ -324,8 +333,9 @@ impl ShardCore {
         }
     }
 
-    /// Begins an attempt to send the open batch, with the request that was made when it was frozen. `None` where no batch is open, an attempt is
-    /// under way, or the shard was killed. An `Err` changes nothing.
+    /// Begins an attempt to send the open batch, with the request that was made when it was frozen.
+    /// Returns `None` if no batch is open, an attempt is under way, or the shard was killed. An
+    /// `Err` changes nothing.
     pub fn attempt(&mut self) -> Result<Option<Attempt>, AllocError>
         ensures attempt { IfOk result
             (λ a. a ≡ (if can_send self.old then Some (attempt_for self.old) else None)) }
@@ -345,7 +355,7 @@ impl ShardCore {
         Ok(Some(Attempt { id, request }))
     }
 
-    /// Whether an attempt to send the open batch is under way.
+    /// Returns whether an attempt to send the open batch is under way.
     pub fn is_waiting(&self) -> bool
         ensures { result ≡ self.now.waiting }
     {
@@ -365,7 +375,8 @@ impl ShardCore {
         }
     }
 
-    /// Gives up the attempt that is under way; the batch stays open. `false`, and nothing changes, where there is none or the shard was killed.
+    /// Gives up the attempt that is under way; the batch stays open. Returns `false`, and changes
+    /// nothing, if there is none or the shard was killed.
     pub fn lost(&mut self) -> bool
         ensures lost { result ≡ awaits self.old }
         ensures core { self.new ≡ lose self.old }
@@ -399,7 +410,7 @@ impl ShardCore {
         }
     }
 
-    /// Whether this is the id of the open batch, of which an attempt is under way.
+    /// Returns whether this is the id of the open batch and an attempt to send it is under way.
     fn is_answer(&self, id: BatchId) -> bool
         ensures { result ≡ is_answer id self.now }
     {
@@ -412,11 +423,11 @@ impl ShardCore {
         }
     }
 
-    /// What a reply of this status to the batch `id` means. `None`, and nothing changes, where that is not the open batch, no attempt is under
-    /// way, or the shard was killed.
+    /// Returns what a reply of this status to the batch `id` means. Returns `None`, and changes
+    /// nothing, if that is not the open batch, no attempt is under way, or the shard was killed.
     ///
-    /// A batch that is done gives its room in the ledger back; one that is refused uses it, as each of its samples is named with the status. Any
-    /// other batch stays open, to be sent again.
+    /// A batch that is done gives its room in the ledger back; one that is refused uses it, as each
+    /// of its samples is named with the status. Any other batch stays open, to be sent again.
     pub fn reply(
         &mut self,
         id: BatchId,

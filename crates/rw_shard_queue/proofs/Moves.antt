@@ -226,11 +226,11 @@ next epoch shard all taken rest now x history split is =
 pub next-open : (taken now : List Item) (x : Item) → IsOpen taken → now ≡ taken ++ x ∷ [] → is_end x ≡ false → IsOpen now
 next-open taken now x still is other = subst IsOpen (sym is) (open-push taken x still other)
 
--- what was taken is a beginning of what was handed over
+-- what was taken is a prefix of what was handed over
 pub split-handed : (put all taken block joined : List Item) → put ≡ all ++ joined → all ≡ taken ++ block → put ≡ taken ++ (block ++ joined)
 split-handed put all taken block joined e f = e ∙ ap (λ xs. xs ++ joined) f ∙ append_assoc taken block joined
 
--- what was taken is a beginning of what was put
+-- what was taken is a prefix of what was put
 pub split-on : (put all taken held block joined : List Item) → put ≡ all ++ joined → all ≡ taken ++ block → put ++ held ≡ taken ++ ((block ++ joined) ++ held)
 split-on put all taken held block joined e f = ap (λ xs. xs ++ held) (e ∙ ap (λ xs. xs ++ joined) f ∙ append_assoc taken block joined) ∙ append_assoc taken (block ++ joined) held
 

@@ -8,7 +8,9 @@ use Rattle.rw_plain_queue.specs.declared.item.Item.{Item}
 use Rattle.rw_shard_queue.specs.Rule.{Filled}
 use Rattle.rw_shard_queue.specs.declared.rule.Log.{Log}
 
--- which queue it is: the shard and its epoch, how many items it holds at most, how many blocks the channel holds, how many items a block has at most, and what no other channel shares with it
+-- which queue it is: the shard and its epoch, how many items it holds at most, how many blocks the
+-- channel holds, how many items a block has at most, and what distinguishes its channel from all
+-- others
 pub record QueueId : Type 0 where
   pub epoch : ℕ
   pub shard : ℕ
@@ -25,7 +27,8 @@ log_of p = view p
 abbrev pub queue_of : Pass Filled Log → QueueId
 queue_of p = record { epoch = (log_of p).name.epoch; shard = (log_of p).name.shard; capacity = (log_of p).name.capacity; slots = (log_of p).name.slots; most = (log_of p).name.most; table = p.table_id; key = p.me.0.of }
 
--- the end that puts: its queue, how many items the queue holds at most, what was put, and how much of it was handed over to the channel; the rest waits in the block of this end
+-- the end that puts: its queue, how many items the queue holds at most, what was put, and how much
+-- of it was handed over to the channel; the rest waits in the block of this end
 pub record Feeding : Type 0 where
   pub queue : QueueId
   pub capacity : ℕ

@@ -1,4 +1,5 @@
--- What the two ends of a queue know. One pass at most feeds, and it has the list of what was handed over; one at most drains.
+-- What the two ends of a queue know. At most one pass feeds, and it has the list of what was handed
+-- over; at most one drains.
 use Rattle.std.specs.Prelude.{◌≡◌, ℕ, ◌≤◌, ◌<◌, ◌+◌, ◌*◌, true, false, List, [], ◌∷◌, ◌++◌, length, ⊤}
 use mathlib.Core.Option.{some}
 use lib.ListN.{get_elem?}
@@ -17,7 +18,7 @@ abbrev pub joined : List Filled → List Item
 joined [] = []
 joined (b ∷ bs) = b.items ++ joined bs
 
--- each block has an item, and room for so many
+-- each block has an item, and room for this many
 abbrev pub AreBlocks : ℕ → List Filled → Type 0
 AreBlocks most [] = ⊤
 AreBlocks most (b ∷ bs) = (0 < length b.items) × (length b.items ≤ most) × (b.most ≡ most) × AreBlocks most bs
@@ -66,15 +67,17 @@ pub record IsRelayed (blocks : List Filled) (views : List Log) : Type 0 where
   pub history : IsHistory name.epoch name.shard put
   pub fits : (port : ℕ) (v : Log) → get_elem? views port ≡ some v → Fits writer reader name put taken port v
 
--- the items of the block join what was handed over, and an empty block stands in its place
+-- the items of the block join what was handed over, and an empty block is in its place
 abbrev pub HandsOver : Log → Log → List Item → List Item → Type 0
 HandsOver v w held left = (w ≡ feeder v.name (v.put ++ held)) × (left ≡ [])
 
--- the items of the block join what was taken, which still is a history of the queue; there is one, and no more than a block may have, which the block has room for
+-- the items of the block join what was taken, which still is a history of the queue; there is at
+-- least one, and no more than a block may have, and the block has room for these
 abbrev pub Took : Log → Filled → Log → Type 0
 Took v x w = (w ≡ drainer v.name (v.taken ++ x.items)) × IsHistory v.name.epoch v.name.shard (v.taken ++ x.items) × (0 < length x.items) × (length x.items ≤ v.name.most) × (x.most ≡ v.name.most)
 
--- what was put is what was taken and then these, no more than the channel holds, and an End was put last
+-- what was put is what was taken and then these, no more than the channel holds, and an End was put
+-- last
 abbrev pub Remains : Log → List Filled → Type 0
 Remains v blocks = (v.put ≡ v.taken ++ joined blocks) × EndIsLast v.put × (length (joined blocks) ≤ v.name.slots * v.name.most)
 

@@ -5,7 +5,7 @@ use lib.ListN.{get_elem?}
 use Rattle.crossbeam_channel.specs.Claims.{Pass, view}
 use Rattle.rw_shard_queue.specs.Rule.{Filled}
 
--- a block without items that has room for so many
+-- a block without items that has room for this many
 abbrev pub empty_block : ℕ → Filled
 empty_block most = record { items = []; most = most }
 
@@ -16,7 +16,8 @@ AreEmpty most blocks = All (λ b. b ≡ empty_block most) blocks
 abbrev pub most_of : Pass Filled ℕ → ℕ
 most_of p = view p
 
--- each block of the channel is empty, and has the room that both ends know of. Before they know it there is one pass, and no block
+-- each block of the channel is empty, and has the room that both ends know of. Before they know it
+-- there is one pass, and no block
 pub record AreSpare (blocks : List Filled) (views : List ℕ) : Type 0 where
   pub most : ℕ
   pub empty : AreEmpty most blocks

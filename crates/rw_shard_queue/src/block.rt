@@ -8,7 +8,8 @@ use std::alloc::{AllocError, Global};
 use std::collections::VecDeque;
 use std::marker::Model;
 
-/// Items that go through the channel in one step, and how many there may be at most. Contracts see both, the front first.
+/// Items that go through the channel in one step, and how many there may be at most. Contracts see
+/// both, the front first.
 #[derive(Drop)]
 pub struct Block {
     items: VecDeque<Item>,
@@ -56,7 +57,7 @@ impl Block {
         self.items.push_back_reserved(item);
     }
 
-    /// Takes the item at the back.
+    /// Removes the item at the back, or returns `None` if there is none.
     pub(crate) fn undo(&mut self) -> Option<Item>
         ensures item { MatchOption result (self.old.items ≡ [])
             (λ x. self.old.items ≡ self.new.items ++ x ∷ []) }
@@ -66,7 +67,7 @@ impl Block {
         self.items.pop_back()
     }
 
-    /// Takes the item at the front.
+    /// Removes the item at the front, or returns `None` if there is none.
     pub(crate) fn pop(&mut self) -> Option<Item>
         ensures item { MatchOption result (self.old.items ≡ [])
             (λ x. self.old.items ≡ x ∷ self.new.items) }

@@ -21,7 +21,7 @@ use std::marker::{Brand, Model, PhantomData};
 use std::sync::Wait;
 use std::{fmt, mem};
 
-/// The error of a call that found nobody at the other end of the queue. Nothing is claimed of the cause.
+/// The error of a call that found nobody at the other end of the queue. No clause says why.
 #[derive(Clone, Copy, Debug, PartialEq, Eq)]
 pub struct Gone;
 
@@ -33,8 +33,8 @@ impl fmt::Display for Gone {
 
 impl Error for Gone {}
 
-/// The end of a queue that puts. Contracts see its queue, how many items that holds at most, what was
-/// put, and how much of it was handed over to the channel.
+/// The end of a queue that puts. Contracts see its queue, the greatest number of items that it
+/// holds, what was put, and how much of it was handed over to the channel.
 #[derive(Drop)]
 pub struct Feed<S: Stage> {
     pub(crate) sender: RuledSender<Block, Log, InOrder>,
@@ -80,7 +80,7 @@ pub struct Drain<S: Stage> {
     pub(crate) pass: Pass<Block, Log>,
     /// What was received and is not taken yet.
     pub(crate) block: Block,
-    /// None once the end was given up, as `receiver` is.
+    /// `None` once the end was given up, as `receiver` is.
     pub(crate) returns: Option<Returns>,
     pub(crate) taken: History<Item>,
     pub(crate) stage: PhantomData<S>,
@@ -108,7 +108,7 @@ impl<S: Stage> Model for Drain<S> {
         × MatchOption d.returns S.let_go (λ r. r ≡ (log_of d.pass).name.most) };
 }
 
-/// What `Drain::take` gives, with the end as it then is.
+/// What `Drain::take` returns, with the end as it then is.
 #[derive(Drop)]
 pub enum Taken {
     /// A sample or a Flush.
@@ -119,8 +119,8 @@ pub enum Taken {
     Gone(Drain<Deserted>),
 }
 
-/// Hands a block over, and puts an empty one in its place. If nobody is at the other end, what was
-/// put does not change.
+/// Hands over a block, and replaces it by an empty one. If nobody is at the other end, what was put
+/// does not change.
 fn send<R: Wait>(
     rt: &R,
     sender: &RuledSender<Block, Log, InOrder>,
@@ -155,7 +155,8 @@ fn send<R: Wait>(
 }
 
 impl Feed<Open> {
-    /// Puts a sample or a Flush at the back. It may wait for room. Where nobody is at the other end the item comes back, and what was put stays as it was.
+    /// Puts a sample or a Flush at the back. It may wait for room. If nobody is at the other end,
+    /// the item comes back, and what was put stays as it was.
     pub fn put<R: Wait>(&mut self, rt: &R, item: Item) -> Result<(), (Item, Gone)>
         requires { MayFollow self.old.queue.epoch self.old.queue.shard self.old.put item }
         ensures queue { (self.new.queue ≡ self.old.queue)
@@ -187,7 +188,8 @@ impl Feed<Open> {
         Ok(())
     }
 
-    /// Hands over the items that are held back, so that the other end can take them. It may wait for room.
+    /// Hands over the items that are held back, so that the other end can take them. It may wait
+    /// for room.
     pub fn hand_over<R: Wait>(&mut self, rt: &R) -> Result<(), Gone>
         ensures queue { (self.new.queue ≡ self.old.queue)
             × (self.new.capacity ≡ self.old.capacity) }
@@ -207,7 +209,8 @@ impl Feed<Open> {
         )
     }
 
-    /// Puts an End, the last item, of this kind. It may wait for room. Where nobody is at the other end, this end comes back as it was.
+    /// Puts an End, the last item, of this kind. It may wait for room. If nobody is at the other
+    /// end, this end comes back as it was.
     pub fn end<R: Wait>(self, rt: &R, kind: Kind) -> Result<Feed<Ended>, (Feed<Open>, Gone)>
         ensures put { MatchResult result (λ f. (f.queue ≡ self.queue) × (f.capacity ≡ self.capacity)
             × (f.put ≡ self.put ++ Item.End kind ∷ [])) (λ e. e.0 ≡ self) }
@@ -245,7 +248,7 @@ impl Feed<Open> {
     }
 }
 
-/// The item at the front was taken out of the block.
+/// Returns the item that was taken out of the block, with the end.
 fn given(
     item: Item,
     receiver: RuledReceiver<Block, Log, InOrder>,
@@ -394,7 +397,8 @@ fn open_named<Q: Naming>(
 /// The most items of a block.
 const LONGEST: usize = 64;
 
-/// The two ends of a new queue, for shard `shard` of epoch `epoch`. It holds at most `capacity` items, marks included.
+/// Returns the two ends of a new queue, for shard `shard` of epoch `epoch`. It holds at most
+/// `capacity` items, marks included.
 pub fn open(
     alloc: Global,
     epoch: u64,

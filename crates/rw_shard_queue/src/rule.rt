@@ -1,4 +1,5 @@
-//! The rule of a queue in blocks: what was handed over is what was received and then what the blocks of the channel hold.
+//! The rule of a queue in blocks: what was handed over is what was received and then what the
+//! blocks of the channel hold.
 
 use crate::block::Block;
 use crossbeam_channel::protocol::{Join, Lesson, Outcome, Protocol, Split};
@@ -6,7 +7,8 @@ use rw_plain_queue::Item;
 use std::collections::LinkedList;
 use std::marker::{Brand, PhantomData};
 
-/// What names a queue: its epoch, shard and capacity, how many blocks the channel holds, and how many items a block has at most. No value of it is made.
+/// What identifies a queue: its epoch, shard and capacity, how many blocks the channel holds, and
+/// how many items a block has at most. No value of it is made.
 pub struct Name {
     pub epoch: u64,
     pub shard: u32,
@@ -15,7 +17,8 @@ pub struct Name {
     pub most: usize,
 }
 
-/// What the holder of an end knows: its queue, and what went through the end. No value of it is made.
+/// What the holder of an end knows: its queue, and what went through the end. No value of it is
+/// made.
 pub struct Log {
     pub feeds: bool,
     pub drains: bool,
@@ -37,7 +40,8 @@ impl Naming for Brand {
     ghost name = { no_name };
 }
 
-/// The rule that what was handed over is what was received, and then what the blocks of the channel hold.
+/// The rule that what was handed over is what was received, and then what the blocks of the channel
+/// hold.
 pub struct InOrder;
 
 impl Protocol<Block, Log> for InOrder {
@@ -48,7 +52,7 @@ impl Protocol<Block, Log> for InOrder {
     ghost first = { unnamed };
 }
 
-/// Gives the ends of a new queue to two hands.
+/// Gives the ends of a new queue to two owners.
 pub struct Opens<Q: Naming> {
     of: PhantomData<Q>,
 }
@@ -62,7 +66,7 @@ impl<Q: Naming> Split<Log> for Opens<Q> {
     ghost right = { λ v. drainer Q.name [] };
 }
 
-/// Gives the ends of a queue in use to two hands.
+/// Gives the ends of a queue in use to two owners.
 pub struct Parts;
 
 impl Split<Log> for Parts {
@@ -73,7 +77,7 @@ impl Split<Log> for Parts {
     ghost right = { λ v. drainer v.name v.taken };
 }
 
-/// Brings both ends into one hand.
+/// Brings both ends to one owner.
 pub struct Meets;
 
 impl Join<Log> for Meets {

@@ -12,7 +12,7 @@ use std::alloc::{AllocError, Global};
 use std::marker::{Model, PhantomData};
 use std::sync::Wait;
 
-/// The rule that each block which is given back is empty, with the room that both ends know of.
+/// The rule that each block that is given back is empty, with the room that both ends know of.
 pub struct Empties;
 
 impl Protocol<Block, usize> for Empties {
@@ -89,7 +89,7 @@ impl Model for Spares {
         × AreEmpty (most_of s.pass) s.unused.items };
 }
 
-/// The way back for the end that takes. Contracts see how many items a block has at most.
+/// The way back, for the end that takes. Contracts see how many items a block has at most.
 #[derive(Drop)]
 pub struct Returns {
     sender: RuledSender<Block, usize, Empties>,
@@ -142,7 +142,8 @@ pub(crate) fn spare_blocks<Q: Naming>(
 }
 
 impl Spares {
-    /// Takes an empty block. It may wait for one, and finds none once nobody is at the other end.
+    /// Takes an empty block. It may wait for one, and returns an error once nobody is at the other
+    /// end.
     pub(crate) fn take<R: Wait>(&mut self, rt: &R) -> Option<Block>
         ensures block { IfSome result (λ b. b ≡ empty_block self.old) }
         ensures most { self.new ≡ self.old }
@@ -158,8 +159,8 @@ impl Spares {
 }
 
 impl Returns {
-    /// Gives an empty block back. It waits for nobody: there is room for all blocks but the two that
-    /// the ends of the queue have.
+    /// Gives an empty block back. It never waits: there is room for all blocks but the two that the
+    /// ends of the queue have.
     pub(crate) fn give_back<R: Wait>(&mut self, rt: &R, block: Block)
         requires { block ≡ empty_block self.old }
         ensures { self.new ≡ self.old }

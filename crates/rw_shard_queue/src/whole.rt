@@ -1,4 +1,4 @@
-//! What the two ends of a queue tell of each other.
+//! What the two ends of a queue know of each other.
 
 ghost use Rattle.std.specs.Prelude.{◌≡◌, ◌+◌, ◌≤◌, length};
 ghost use Rattle.rw_plain_queue.specs.History.{IsHistory, IsEnded};
@@ -11,7 +11,8 @@ use crate::stage::{Ended, Stage};
 use crossbeam_channel::{Pass, RuledReceiver, RuledSender};
 use std::marker::{Model, PhantomData};
 
-/// Both ends of a queue from which all was taken that was put. Contracts see the queue and its items.
+/// Both ends of a queue from which everything was taken that was put. Contracts see the queue and
+/// its items.
 #[derive(Drop)]
 pub struct Whole {
     sender: RuledSender<Block, Log, InOrder>,
@@ -32,7 +33,8 @@ impl Model for Whole {
         ≡ both (log_of w.pass).name (log_of w.pass).put (log_of w.pass).put };
 }
 
-/// Keeps the two ends of an ended queue together: by its contract, what was put is what was taken. It waits for nobody.
+/// Keeps the two ends of an ended queue together. By its contract, what was put is what was taken.
+/// It never waits.
 pub fn compare<R>(_rt: &R, feed: Feed<Ended>, drain: Drain<Ended>) -> Whole
     requires { feed.queue ≡ drain.queue }
     ensures queue { result.queue ≡ feed.queue }
@@ -60,8 +62,8 @@ pub fn compare<R>(_rt: &R, feed: Feed<Ended>, drain: Drain<Ended>) -> Whole
     }
 }
 
-/// Returns both ends of a queue as they were. By its contract, what was taken is a beginning of what was put, and no more is left than the queue
-/// may hold. It waits for nobody.
+/// Returns both ends of a queue as they were. By its contract, what was taken is a prefix of what
+/// was put, and no more is left than the queue may hold. It never waits.
 pub fn begins<S: Stage, T: Stage>(feed: Feed<S>, drain: Drain<T>) -> (Feed<S>, Drain<T>)
     requires { feed.queue ≡ drain.queue }
     ensures same { (result.0 ≡ feed) × (result.1 ≡ drain) }

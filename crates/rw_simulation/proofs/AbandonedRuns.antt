@@ -130,7 +130,7 @@ none_long [] e = refl
 none_long (x ∷ xs) e = absurd (no_less (length xs) (sym e))
 
 module _ {T : Type 0} where
-  -- a position is pending where the shards left it
+  -- a position is pending if the shards left it
   list_any-pending : (p : ℕ) (ms : List Shard) (js : List (StoppedShard T)) → length ms ≡ length js → ((k : ℕ) (m : Shard) (j : StoppedShard T) → slice_get ms k ≡ Some m → slice_get js k ≡ Some j → positions (pending m) ≡ j.abandoned.items)
       → list_any (λ (m : Shard). list_any (λ (x : Placed). x.place.pos == p) (pending m)) ms ≡ is_in (abandoned_in js) p
   list_any-pending p [] [] same each = refl

@@ -26,7 +26,7 @@ use Rattle.rw_simulation.proofs.OwnRuns.{OwnRun, own-run, run-both}
 abbrev pub is_of : ℕ → ℕ → Request → Bool
 is_of epoch k r = (r.id.epoch == epoch) && (r.id.shard == k)
 
--- one stays where it is, whatever comes behind
+-- a request stays at its place, whatever comes after
 pub still-at : (epoch k i : ℕ) (rs more : List Request) (r : Request) → slice_get (requests_of epoch k rs) i ≡ Some r → slice_get (requests_of epoch k (rs ++ more)) i ≡ Some r
 still-at epoch k i rs more r at = ap (λ (xs : List Request). slice_get xs i) (filter-append (is_of epoch k) rs more) ∙ get-first (requests_of epoch k rs) (filter (is_of epoch k) more) i r at
 

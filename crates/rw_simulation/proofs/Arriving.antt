@@ -54,7 +54,8 @@ module _ (c : Setup) (exs : ℕ → ℕ → List Exchange) (arrivals : List Arri
     IsLast None sent own s = Unit {0}
     IsLast (Some e) sent own s = (before : List Exchange) × (sent ≡ before ++ e ∷ []) × (earlier : List Request) × (own ≡ earlier ++ request_by s ∷ [])
 
-    -- Shard k has sent these requests of its own, with the one that is held out, and its worker will yet make these steps.
+    -- Shard k has sent these requests of its own, with the one that is held out, and its worker
+    -- will yet make these steps.
     pub record AtWork (k : ℕ) (held : Option Exchange) (steps : List Step) (sent : List Exchange) (own : List Request) (part : Names) (s : Shard) : Type 0 where
       pub rest : Shard
       pub ledger : Named
@@ -89,7 +90,7 @@ module _ (c : Setup) (exs : ℕ → ℕ → List Exchange) (arrivals : List Arri
       pub read : (k : ℕ) → k < n → AreRead (requests_of epoch k w.requests)
       pub earlier : (e k i : ℕ) (x : Exchange) → e < epoch → slice_get (exs e k) i ≡ Some x → IsSentAs (requests_of e k w.requests) i x
 
-    -- and shard k stands so
+    -- and shard k is so
     pub record Stands (j m k : ℕ) (held : Option Exchange) (steps : List Step) (sent : List Exchange) (w : World) : Type 0 where
       pub all : AtWorks j m w
       pub s : Shard

@@ -1,4 +1,5 @@
--- At the end of an epoch each shard is put its End, and its worker makes all the steps that are left.
+-- At the end of an epoch each shard is put its End, and its worker makes all the steps that are
+-- left.
 use Rattle.std.proofs.Common.{◌≡◌, ℕ, zero, suc, ◌+◌, ◌<◌, ◌≤◌, ◌==◌, ◌&&◌, Bool, true, false, not, cond, List, [], ◌∷◌, ◌++◌, map, length, Some, slice_get, refl, sym, ap, ◌∙◌, subst, append-nil, length-append, arith, ◌⊎◌, inl, inr}
 use Rattle.std.specs.List.{AllByRecursion, list_all}
 use Rattle.std.proofs.lemmas.Bool.{lt-ltb, eq-eqb, both_ways}
@@ -76,7 +77,7 @@ pub all-drained : (ss : List Shard) → ((k : ℕ) (s : Shard) → slice_get ss 
 all-drained [] each = refl
 all-drained (s ∷ ss) each = and_both (is_drained s) (list_all is_drained ss) (each 0 s refl) (all-drained ss (λ k t e. each (suc k) t e))
 
--- where one item at most stands, an End is the last
+-- if one item at most is, an End is the last
 no_items : (xs : List Item) → length xs ≡ 0 → xs ≡ []
 no_items [] e = refl
 no_items (x ∷ xs) e = absurd (omega arith)
@@ -116,7 +117,8 @@ not_above : (m : ℕ) → suc m ≤ m → ⊥
 not_above m le = omega arith
 
 module _ (c : Setup) (past : Past) (epoch n : ℕ) (fates : ℕ → ShardFate) (placed : List Entry) (kind : Kind) (ends : (k : ℕ) → k < n → (fates k).end ≡ Some kind) (u : World) (alive : u.killed ≡ false) (asks : (s : Shard) → mark u s ≡ shard_end kind s) (some : 1 ≤ c.capacity) where
-  -- The first m shards have come to their fates, and the others have been put all but their Ends. Else nothing has changed since u.
+  -- The first m shards have come to their fates, and the others have been put all but their Ends.
+  -- Else nothing has changed since u.
   record ClosedBelow (m : ℕ) (w : World) : Type 0 where
     same : w ≡ record u { shards = w.shards; names = w.names; requests = w.requests; replies = w.replies; head = w.head }
     count : length w.shards ≡ n
@@ -261,7 +263,7 @@ module _ (c : Setup) (past : Past) (epoch n : ℕ) (fates : ℕ → ShardFate) (
   none_below : (k : ℕ) → k < 0 → ⊥
   none_below k lt = omega arith
 
-  -- all of them, where each has been put all but its End
+  -- all of them, if each has been put all but its End
   pub end-all : length u.shards ≡ n → (parts : ℕ → Names) → IsTallied c past epoch n placed parts u → ((k : ℕ) (s : Shard) → slice_get u.shards k ≡ Some s → IsPut c epoch k u.requests (parts k) s (fates k)) → Reaches (AreUnsent fates) c u (IsOver c past epoch n fates placed u)
   end-all count parts tallied put = go-on c u (ClosedBelow n) (IsOver c past epoch n fates placed u)
       (end-from n 0 u (zero_plus n) (record { same = refl; count = count; parts = parts; tallied = tallied; done = λ k s e lt. absurd (none_below k lt); still = λ k s e le. put k s e }))
@@ -275,6 +277,6 @@ pub tallies-at : (epoch n : ℕ) (fates : ℕ → ShardFate) (requests : List Re
     → (k : ℕ) → k < n → ((fates k).worker.ledger.names ≡ parts k) × (map sent_bytes (requests_of epoch k requests) ≡ (fates k).requests)
 tallies-at epoch n fates requests parts ss count come k lt = let found = get_some ss k (subst (λ (m : ℕ). k < m) (sym count) lt) in let h = come k found.0 found.1 in (h.part_is, h.requests_are)
 
--- where each has come to its fate, and all is resolved, they are drained
+-- if each has come to its fate, and all is resolved, they are drained
 pub drained-all : (c : Setup) (epoch n : ℕ) (fates : ℕ → ShardFate) (requests : List Request) (parts : ℕ → Names) (ss : List Shard) → length ss ≡ n → ((k : ℕ) (s : Shard) → slice_get ss k ≡ Some s → Lists c s) → ((k : ℕ) (s : Shard) → slice_get ss k ≡ Some s → HasCome epoch k requests (parts k) s (fates k)) → ((k : ℕ) → k < n → IsResolvedFate (fates k)) → list_all is_drained ss ≡ true
 drained-all c epoch n fates requests parts ss count kept come resolved = all-drained ss (λ k s e. let lt = subst (λ (m : ℕ). k < m) count (slice_get_within ss k s e) in drained c epoch k requests (parts k) s (fates k) (kept k s e) (come k s e) (resolved k lt))

@@ -1,4 +1,5 @@
--- An epoch whose shards are put all that they will be put before their workers begin, so that requests may come in whatever order.
+-- An epoch whose shards are put all that they will be put before their workers begin, so that
+-- requests may come in whatever order.
 use Rattle.std.proofs.Common.{◌≡◌, ℕ, ◌<◌, ◌≤◌, ◌+◌, ◌++◌, ◌∷◌, false, List, [], map, length, Option, None, Some, slice_get, refl, sym, ap, ◌∙◌, subst, arith, append_assoc, length-append}
 use Rattle.std.specs.FinMap.{empty}
 use Rattle.std.specs.List.{AllByRecursion}
@@ -53,7 +54,7 @@ unsent lanes k = by_lane (slice_get lanes k)
     by_lane None = refl
     by_lane (Some l) = refl
 
--- where nothing is sent, all that is sent is read again
+-- if nothing is sent, all that is sent is read again
 none-sent : (rs : List Request) → map sent_bytes rs ≡ [] → AreRead rs
 none-sent [] e = none-read
 none-sent (r ∷ rs) e = let no : ⊥ = cc in absurd no

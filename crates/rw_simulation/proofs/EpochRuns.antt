@@ -50,7 +50,7 @@ go-on c w P Q r f = let q = f r.world r.holds in record {
   own = λ h. AllByRecursion-append IsOwn r.events q.events (r.own h) (q.own h);
 }
 
--- where nothing is sent on the way, nothing is sent by the steps that are to come
+-- if nothing is sent on the way, nothing is sent by the steps that are to come
 second_none : (xs ys : List (List ℕ)) → xs ++ ys ≡ [] → ys ≡ []
 second_none [] ys e = e
 second_none (x ∷ xs) ys e = let no : ⊥ = cc in absurd no
@@ -243,7 +243,7 @@ module _ (c : Setup) (past : Past) (pieces : List Piece) (epoch n : ℕ) (fates 
         shards = moved-shards c epoch k w.requests g.more g.coming.ledger.names under.parts g.shard w.shards (λ j. Todo before es j) fates ids (λ j t e _. under.shards j t e) way_later refl;
       }
 
-  -- the entry stands next in the log
+  -- the entry is next in the log
   before-it : (before es : List Entry) (e : Entry) (v : World) → IsUnderWay c past pieces epoch n fates before (e ∷ es) v → IsBefore c v before e
   before-it before es e v under = record {
     going = under.going;

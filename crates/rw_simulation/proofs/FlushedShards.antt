@@ -1,4 +1,4 @@
--- A shard that is put a Flush where it was put an End does the same, but that it has not ended.
+-- A shard that is put a Flush if it was put an End does the same, but that it has not ended.
 use Rattle.std.proofs.Common.{◌≡◌, ℕ, ◌≤◌, ◌^◌, false, List, [], ◌∷◌, ◌++◌, map, length, None, Result, Ok, Err, refl, sym, ap, ◌∙◌, subst}
 use Rattle.std.proofs.lemmas.List.{length-map, map-append}
 use Rattle.std.specs.Ordering.{nat_cmp}

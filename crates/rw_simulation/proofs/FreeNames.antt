@@ -69,7 +69,7 @@ then-named c (Of e ∷ hs) w p s at h = by_place (then-named c hs (happens c w e
     by_place rest (inr k) = rest k
 then-named c (Answered k status ∷ hs) w p s at h = then-named c hs (turned_away w status (slice_get w.requests k)) p s (unnamed_answer w status (slice_get w.requests k) at) h
 
--- a status is named exactly where a reply refused a batch with it
+-- a status is named exactly if a reply refused a batch with it
 pub names-refused : (c : Setup) (hs : List Happening) → NamesExactly (world_of c hs).names (refused_freely c hs (start c))
 names-refused c hs p s = (λ h. at_start (named-then c hs (start c) p s h), λ h. then-named c hs (start c) p s (unnamed_begins c) h)
   where

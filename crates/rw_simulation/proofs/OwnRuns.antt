@@ -11,7 +11,7 @@ use Rattle.rw_machine.proofs.Steps.{either, unless}
 use Rattle.rw_machine.proofs.Frames.{place_frame, reply_frame, restart_frame}
 use Rattle.rw_simulation.specs.Freely.{Happening, Of, Answered, IsOwn, run_freely}
 
--- no reply is made and the head stays; requests may come behind those that there are
+-- no reply is made and the head stays; requests may come after those that there are
 pub record Grows (w v : World) : Type 0 where
   pub replies : v.replies ≡ w.replies
   pub head : v.head ≡ w.head

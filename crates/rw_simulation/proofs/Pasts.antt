@@ -24,7 +24,7 @@ use Rattle.rw_simulation.specs.EpochRuns.{ShardFate}
 use Rattle.rw_simulation.specs.StoppedRuns.{IsNamedIn, NamesAll, IsOfOne, SendsAll}
 use Rattle.rw_simulation.proofs.Tallies.{Names, Passes}
 
--- ---- what stands in two lists
+-- ---- what is in two lists
 pub get-first : {X : Type 0} (xs ys : List X) (i : ℕ) (x : X) → slice_get xs i ≡ Some x → slice_get (xs ++ ys) i ≡ Some x
 get-first [] ys i x e = absurd (none-some x e)
 get-first (z ∷ zs) ys zero x e = e
@@ -55,7 +55,7 @@ module _ {T : Type 0} (tells : T → Type 0) (seen : T → List Exchange) where
     pub epoch_is : j.worker.value.queue.epoch ≡ e
     pub shard_is : j.worker.value.queue.shard ≡ k
 
-  -- their names, what their transports tell, and which they are
+  -- their names, what their transports recorded, and which they are
   abbrev pub past_of : List (StoppedShard T) → Past
   past_of js = record {
     named = λ p reason. (i : ℕ) × (j : StoppedShard T) × (slice_get js i ≡ Some j) × (get j.part.names p ≡ Some reason);
@@ -109,7 +109,7 @@ module _ {T : Type 0} (tells : T → Type 0) (seen : T → List Exchange) where
       has_so k lt = let g = found k lt in let r = reports k g.0 g.1 in let at = get-second done js k g.0 g.1 in (g.0, record { i = at.0; at = at.1; epoch_is = r.epoch_is; shard_is = r.shard_is })
 
   module _ (is_for : ℕ → ℕ → T → Type 0) where
-    -- what a worker's transport tells are the exchanges of its steps
+    -- what a worker's transport recorded are the exchanges of its steps
     pub seen-is : (j : StoppedShard T) (h : IsWorked tells seen is_for j) → tells j.finished.transport → seen j.finished.transport ≡ exchanges_of h.report.steps
     seen-is j h t = (h.report.made.adds t).1 ∙ ap (λ (es : List Exchange). es ++ exchanges_of h.report.steps) h.none
 

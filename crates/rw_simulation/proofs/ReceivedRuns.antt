@@ -1,4 +1,5 @@
--- What one receiver holds, by a run of the machine in which the requests come in the order in which they came.
+-- What one receiver holds, by a run of the machine in which the requests come in the order in which
+-- they came.
 use Rattle.std.proofs.Common.{◌≡◌, ℕ, zero, suc, ◌+◌, ◌<◌, ◌≤◌, ◌==◌, ◌||◌, true, false, cond, List, [], ◌∷◌, ◌++◌, map, length, take, Option, None, Some, is_some, slice_get, refl, sym, ap, ◌∙◌, subst, append-nil, append_assoc, length-append, arith, ◌⊎◌, inl, inr}
 use Rattle.std.specs.List.{AllByRecursion, list_all, list_any}
 use Rattle.std.specs.FinMap.{empty}
@@ -296,7 +297,7 @@ module _ {T : Type 0} (tells : T → Type 0) (seen : T → List Exchange) (is_fo
         later-at = on-own gone-next.made (suc epoch) gone-next.world later-world (Of event.Restart ∷ []) gone-next.now (tt, tt)
             (restarts c past (past_of tells seen (done ++ js)) pieces epoch (length lanes) next_number (first_at lanes) goals (before ++ es) resolved put.world put.holds (pass done) gone-next.world gone-next.over)
 
-      -- ---- the last one, where the shards are ended in order
+      -- ---- the last one, if the shards are ended in order
       module _ (is_orderly : kd ≡ kind.Orderly) (none_rest : rest ≡ []) where
         abbrev pub closed : World
         closed = record put.world { closed = Some (length (log put.world)) }
@@ -561,7 +562,7 @@ all-of : (c : Setup) (events : List Event) (w : World) → run c events (start c
 all-of c events w is None n reported placed l = subst (λ (v : World). report v ≡ Some (Complete n) → HoldsAll c v n l) is (λ h. all_when_complete c events n h l) reported
 all-of c events w is (Some f) n reported placed l = subst (λ (m : ℕ). HoldsAll c w m l) placed (subst (λ (v : World). report v ≡ Some (Damaged f) → HoldsAll c v v.placed l) is (λ h. all_when_damaged c events f h l) reported)
 
--- where all is drained nothing is pending
+-- if all is drained nothing is pending
 no_rest : (xs ys zs : List Placed) → xs ≡ ys ++ zs → length ys ≡ length xs → zs ≡ []
 no_rest xs ys [] e same = refl
 no_rest xs ys (z ∷ zs) e same = absurd (never (length ys) (length zs) (same ∙ ap length e ∙ length-append ys (z ∷ zs)))
@@ -712,7 +713,7 @@ module _ {T : Type 0} (tells : T → Type 0) (seen : T → List Exchange) (is_fo
     whole-log : entries s.log.pieces ≡ at-last.now ++ (at-last.later ++ rest)
     whole-log = read ∙ ap (λ (xs : List Entry). xs ++ rest) at-last.are ∙ append_assoc at-last.now at-last.later rest
 
-    -- nothing comes of an epoch behind the last one
+    -- nothing comes of an epoch after the last one
     no_later : (m : ℕ) (a : Arrival) → slice_get arrivals m ≡ Some a → at-last.epoch < a.epoch → ⊥
     no_later m a at lt =
         let d = after-it at-last.epoch a.epoch lt in
@@ -728,7 +729,7 @@ module _ {T : Type 0} (tells : T → Type 0) (seen : T → List Exchange) (is_fo
         (subst (λ (js : List (StoppedShard T)). IsTallied setup (past_of tells seen js) (suc at-last.epoch) 0 s.log.placed (λ k. empty) v) (sym alls.1)
         (subst (λ (es : List Entry). IsTallied setup (past_of tells seen (was.ended ++ last)) (suc at-last.epoch) 0 es (λ k. empty) v) (sym at-last.are) t))
 
-    -- ---- where samples were left
+    -- ---- if samples were left
     module _ (left : IsAbandoned r.outcome) where
       some-last : 1 ≤ length last
       some-last = subst (λ (i : ℕ). 1 ≤ i) (length-map last lane_of) some_lanes
@@ -756,7 +757,7 @@ module _ {T : Type 0} (tells : T → Type 0) (seen : T → List Exchange) (is_fo
           (λ whole. absurd (whole left))
           rest read (soft-placed tells seen is_for c0 s.fleet.config set work wide room exs arrivals heads one-so at-last.epoch last known-last some-last at-last.now at-last.later at-last.dealt within-left was.ended s.log.pieces rest at-last.m at-last.world begins-left at-last.at whole-log ∙ ap length (sym at-last.are)) (λ p not_left. soft-pending tells seen is_for c0 s.fleet.config set work wide room exs arrivals heads one-so at-last.epoch last known-last some-last at-last.now at-last.later at-last.dealt within-left was.ended s.log.pieces rest at-last.m at-last.world begins-left at-last.at whole-log p ∙ pending-by r.outcome h.ends left p not_left)
 
-    -- ---- where nothing was left
+    -- ---- if nothing was left
     module _ (resolved_all : AreResolved h.joined) (by : AreEndedBy kind.Orderly (map put_into (map lane_of last))) (none : rest ≡ []) where
       sound-last : AllByRecursion IsSoundHere last
       sound-last = AllByRecursion-right IsSoundHere was.ended last (subst (AllByRecursion IsSoundHere) alls.1 (sound-all tells seen is_for c0 s.fleet.config set work AskedHere h.joined known-joined resolved_all))

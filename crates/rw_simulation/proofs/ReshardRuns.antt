@@ -1,4 +1,5 @@
--- The number of shards changes: those at hand are ended once all is resolved, and the next ones begin.
+-- The number of shards changes: the current ones are ended once all is resolved, and the next ones
+-- begin.
 use Rattle.std.proofs.Common.{◌≡◌, ℕ, suc, ◌<◌, ◌≤◌, ◌&&◌, Bool, true, false, not, cond, nat_le, List, [], ◌∷◌, ◌++◌, length, None, Some, is_some, refl, ap, ◌∙◌}
 use Rattle.std.specs.FinMap.{empty}
 use Rattle.std.proofs.lemmas.Bool.{le-leb}
@@ -20,7 +21,8 @@ use Rattle.rw_simulation.proofs.EntryRuns.{over_not}
 use Rattle.rw_simulation.proofs.Tallies.{Passes, later-requests, lists-at, tallied-still, tallied-next}
 use Rattle.rw_simulation.proofs.EndRuns.{IsResolvedFate, IsOver, end-all, tallies-at, drained-all}
 
--- the machine at the beginning of an epoch of so many shards, with these entries placed; nothing was sent in it
+-- the machine at the start of an epoch of this many shards, with these entries placed; nothing was
+-- sent in it
 pub record BeginsEpoch (c : Setup) (past : Past) (pieces : List Piece) (epoch m : ℕ) (placed : List Entry) (w : World) : Type 0 where
   pub going : (w.killed ≡ false) × (w.closed ≡ None) × (w.draining ≡ None)
   pub pieces_are : w.pieces ≡ pieces

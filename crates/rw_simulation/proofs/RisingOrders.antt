@@ -1,4 +1,4 @@
--- The numbers below a bound that a list has are that list in rising order, where it has none twice.
+-- The numbers below a bound that a list has are that list in rising order, if it has none twice.
 use Rattle.std.proofs.Common.{◌≡◌, ℕ, zero, suc, ◌<◌, ◌==◌, ◌||◌, Bool, false, cond, List, [], ◌∷◌, ◌++◌, filter, IsPermutation, refl, sym, ap, ◌∙◌, subst, append-nil, arith, ◌⊎◌, inl, inr}
 use Rattle.std.specs.List.{AllByRecursion, list_any}
 use Rattle.std.proofs.lemmas.Bool.{eq-eqb, ne_eqb, cases_eq}
@@ -86,7 +86,7 @@ up_to-rises : (n : ℕ) → Rises (λ x y. x < y) (up_to n)
 up_to-rises zero = tt
 up_to-rises (suc n) = Rises-push (λ x y. x < y) (up_to n) n (up_to-rises n) (up_to-below n)
 
--- what passes a test that tells of a list is that list in another order, and rises
+-- what passes a test for the elements of a list is that list in another order, and rises
 pub passing-permutes : (n : ℕ) (xs : List ℕ) (test : ℕ → Bool) → ((p : ℕ) → test p ≡ is_in xs p) → Rises Differ xs → AllByRecursion (λ x. x < n) xs → IsPermutation xs (filter test (up_to n))
 passing-permutes n xs test h r b = subst (IsPermutation xs) (filter-below n (is_in xs) test (λ p lt. sym (h p))) (permutes n xs r b)
 

@@ -82,7 +82,7 @@ module _ (c : Setup) (opening : State) (before : List Question) (request : List 
   not-taken : (q : Question) → (status == 204) ≡ false → taken_of status q.body ≡ []
   not-taken q e = ap (λ (b : Bool). cond b (q.body ∷ []) []) e
 
-  -- the store behind a message that was judged
+  -- the store after a message that was judged
   judged-next : (q : Question) (m : WriteRequest) → q.status ≡ status → read q.body ≡ Ok m → status ≡ status_of (apply opening.limits head.store m).verdict → (next (Some q)).store ≡ (apply opening.limits head.store m).store
   judged-next q m own reads is = ap (store_after opening) (one_more q own) ∙ by_status (eqb_tells status 204)
     where

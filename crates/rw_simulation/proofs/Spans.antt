@@ -106,7 +106,7 @@ module _ {X Y : Type 0} (Made : X → List Y → Type 0) where
         among = h.among;
       }
 
-  -- the part that was made for an element stands in the list
+  -- the part that was made for an element is in the list
   pub record HasPart (ns : List ℕ) (ys : List Y) (i : ℕ) (x : X) : Type 0 where
     pub mine : List Y
     pub made : Made x mine

@@ -98,7 +98,7 @@ no_end : (front : List Item) (k : Kind) → front ++ End k ∷ [] ≡ [] → ⊥
 no_end [] k e = cc
 no_end (x ∷ xs) k e = cc
 
--- where it is the last item, it is the one that stands there
+-- if it is the last item, it is the one that is there
 end_in_last : (front : List Item) (k : Kind) → EndIsLast (front ++ End k ∷ []) → end_in (front ++ End k ∷ []) ≡ Some k
 end_in_last [] k last = refl
 end_in_last (Sample place t word labels ∷ xs) k last = end_in_last xs k (last_tail (Sample place t word labels) (xs ++ End k ∷ []) last)
@@ -142,7 +142,7 @@ place_count (End k ∷ xs) = place_count xs
 none_behind : (all resolved left : ℕ) → left ≡ all - resolved → left ≡ 0 → all ≤ resolved
 none_behind all resolved left e h = omega arith
 
--- the list behind a map is two lists, where its image is
+-- the list after a map is two lists, if its image is
 pub record Split {X Y : Type 0} (f : X → Y) (all : List X) (xs ys : List Y) : Type 0 where
   pub first : List X
   pub later : List X
@@ -166,7 +166,7 @@ split_map f (a ∷ all) (x ∷ xs) ys e =
     let h = split_map f all xs ys (tail_of (f a) x (map f all) (xs ++ ys) e) in
     record { first = a ∷ h.first; later = h.later; are = ap (λ zs. a ∷ zs) h.are; first_is = λ j. head_of (f a) x (map f all) (xs ++ ys) e j ∷ h.first_is j; later_is = h.later_is }
 
--- the entries are in two parts, where the samples that they give are
+-- the entries are in two parts, if the samples that they give are
 pub record Parted (choice : Choice) (before es : List Entry) (first rest : List Sent) : Type 0 where
   pub now : List Entry
   pub later : List Entry
@@ -199,7 +199,8 @@ part choice before (y ∷ ys) (x ∷ xs) rest e = by_entry (λ zs given. part ch
         given : z ∷ gather_from (sent_of choice) (before ++ y ∷ []) ys ≡ x ∷ (xs ++ rest)
         given = ap (λ ss. ss ++ gather_from (sent_of choice) (before ++ y ∷ []) ys) (sym one) ∙ e
 
--- ---- the epochs before the last one: each was ended because the number of shards changed, to that of the next one
+-- ---- the epochs before the last one: each was ended because the number of shards changed, to that
+-- of the next one
 abbrev pub AreBefore : List (List ShardHistory) → List ShardHistory → Type 0
 AreBefore [] last = Unit {0}
 AreBefore (lanes ∷ turned) last = (1 ≤ length lanes) × AreEndedBy kind.Reshard (map put_into lanes) × IsShardCount (first_number turned last) × AreBefore turned last

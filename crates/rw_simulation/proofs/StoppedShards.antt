@@ -83,7 +83,7 @@ module _ {T : Type 0} (tells : T → Type 0) (seen : T → List Exchange) (is_fo
         (ap length is ∙ length-append (taken_of j.finished.ends) rest) h.within own.capacity;
   }
 
-  -- nothing is left where the ends were compared
+  -- nothing is left if the ends were compared
   pub compared-is-run : is_compared j.finished.ends ≡ true → IsShardRun c epoch k (lane_of j) h.report.steps []
   compared-is-run compared = with_rest [] (same_items j.finished.ends compared ∙ sym (append-nil (taken_of j.finished.ends)))
 

@@ -230,7 +230,7 @@ module _ (c : Setup) (past : Past) (epoch n : ℕ) where
     owned = subst (AllByRecursion (IsOwned past epoch n)) (sym requests) t.owned;
   }
 
-  -- an entry was placed, and named where it is dropped
+  -- an entry was placed, and named if it is dropped
   module _ (before : List Entry) (e : Entry) (parts : ℕ → Names) (w v : World) (hs : List Happening) (t : IsTallied c past epoch n before parts w) (is : run_freely c hs w ≡ v) (requests : v.requests ≡ w.requests)
       (names : v.names ≡ fold with_name w.names (dropped_of c.choice before e)) where
     abbrev Later : ℕ → Reason → Type 0

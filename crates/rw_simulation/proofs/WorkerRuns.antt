@@ -47,7 +47,7 @@ end_of st ss s l rest = record s { queue = rest; core = (after (next_of st s l) 
 abbrev mid_of : List Step → List Queued → List Queued
 mid_of ss rest = map queued (items_of ss) ++ rest
 
--- steps behind a step
+-- steps after a step
 behind : (w : World) (i : ℕ) (s : Shard) (l : Named) (st : Step) (ss : List Step) (mid rest : List Queued) (u v : World) → (first : IsAfter w i s l (st ∷ []) mid u)
     → IsAfter u i (record s { queue = mid; core = (after_step st (working s.core l)).core }) (after_step st (working s.core l)).ledger ss rest v
     → (after_step st (working s.core l)).core.epoch ≡ s.core.epoch

@@ -1,4 +1,4 @@
--- What a run of the machine says of a report, in the report's own words.
+-- What a run of the machine says about a report, in the terms of the report.
 use Rattle.std.specs.Prelude.{◌≡◌, ℕ, ◌<◌, List, length, take, Option, Some, None, slice_get}
 use Rattle.rw_types.specs.declared.entry.Entry.{Entry}
 use Rattle.rw_types.specs.declared.entry.Entry.TheVariants.{Def, Sample}
@@ -19,7 +19,8 @@ abbrev pub IsNamedAs : List Named → ℕ → Option Reason → Type 0
 IsNamedAs parts p None = (reason : Reason) → IsNamedIn parts p reason → ⊥
 IsNamedAs parts p (Some reason) = IsNamedIn parts p reason × ((other : Reason) → IsNamedIn parts p other → other ≡ reason)
 
--- an entry that is so named is accounted for by what is known of its reference there: a sample is named for its true reason, or it is filtered, or owed
+-- an entry that is so named is accounted for by what is known of its reference there: a sample is
+-- named for its true reason, or it is filtered, or owed
 abbrev pub AccountedAs : Choice → List Entry → ℕ → Option Reason → Option Entry → Type 0
 AccountedAs choice placed p named None = named ≡ None
 AccountedAs choice placed p named (Some (Def r l)) = named ≡ None
@@ -30,6 +31,6 @@ pub record AccountsForAll {T : Type 0} (s : Shipping T) (r : Report T) : Type 0 
   pub each : (p : ℕ) → p < length s.log.placed → (named : Option Reason) × IsNamedAs r.parts.items p named × AccountedAs s.log.choice s.log.placed p named (slice_get s.log.placed p)
   pub no_other : (p : ℕ) → (p < length s.log.placed → ⊥) → IsNamedAs r.parts.items p None
 
--- so does the report of each shipper that is a run of the machine
+-- the same for the report of each shipper that is a run of the machine
 abbrev pub RunAccounts : {T : Type 0} → (T → Type 0) → (T → List Exchange) → (ℕ → ℕ → T → Type 0) → Shipping T → Report T → Type 0
 RunAccounts tells seen is_for s r = (c : Setup) → HasStopped tells seen is_for s r → IsMachineOf c s → IsRun tells seen c s r → AccountsForAll s r

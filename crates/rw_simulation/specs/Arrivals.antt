@@ -11,7 +11,8 @@ use Rattle.rw_machine.specs.Steps.{endpoint_answer}
 use Rattle.rw_machine.specs.declared.event.How.{How}
 use Rattle.rw_machine.specs.declared.event.How.TheVariants.{Plain, Busy, OutOfMemory}
 
--- A request that has come: of which exchange of which worker it was, whether the receiver judged it, and the status that it answered.
+-- A request that has come: of which exchange of which worker it was, whether the receiver judged
+-- it, and the status that it answered.
 pub record Arrival : Type 0 where
   pub epoch : ℕ
   pub shard : ℕ
@@ -19,8 +20,9 @@ pub record Arrival : Type 0 where
   pub how : How
   pub status : ℕ
 
--- The receiver answers these bytes so, from one head to the next one: without a look at them, or as its endpoint
--- answers the batch that they carry, of which the body reads again as its message.
+-- The receiver answers these bytes in this way, from one head to the next one: without a look at
+-- them, or as its endpoint answers the batch that they carry, whose body reads again as its
+-- message.
 abbrev pub Receives : Setup → How → List ℕ → State → ℕ → State → Type 0
 Receives c Plain bytes head status next =
     (batch : List Placed) → IsReadAgain batch → bytes ≡ batch_request c.target batch
@@ -28,11 +30,12 @@ Receives c Plain bytes head status next =
 Receives c Busy bytes head status next = (status ≡ 429) × (next ≡ head)
 Receives c OutOfMemory bytes head status next = (status ≡ 503) × (next ≡ head)
 
--- the exchange was over before that of the arrival began: it is an earlier one of the same worker, or one of an earlier epoch
+-- the exchange was over before that of the arrival began: it is an earlier one of the same worker,
+-- or one of an earlier epoch
 abbrev pub IsBefore : ℕ → ℕ → ℕ → Arrival → Type 0
 IsBefore epoch shard number a = (epoch < a.epoch) ⊎ ((epoch ≡ a.epoch) × (shard ≡ a.shard) × (number < a.number))
 
--- among the first n arrivals stands one of this exchange with this status
+-- among the first n arrivals is one of this exchange with this status
 pub record IsAnsweredBy (arrivals : List Arrival) (n epoch shard number status : ℕ) : Type 0 where
   pub at : ℕ
   pub early : at < n
@@ -43,13 +46,15 @@ pub record IsAnsweredBy (arrivals : List Arrival) (n epoch shard number status :
   pub number_is : a.number ≡ number
   pub status_is : a.status ≡ status
 
--- The premises of the network: nothing comes before its exchange began, and a status that a worker was answered is one that the receiver has answered to that exchange.
+-- The premises of the network: nothing comes before its exchange began, and a status that a worker
+-- was answered is one that the receiver has answered to that exchange.
 pub record AreTold (exchanges : ℕ → ℕ → List Exchange) (arrivals : List Arrival) : Type 0 where
   pub later : (n : ℕ) (a : Arrival) (e k i : ℕ) (x : Exchange) (r : Reply) → slice_get arrivals n ≡ Some a → slice_get (exchanges e k) i ≡ Some x → x.answer ≡ Ok r → IsBefore e k i a → IsAnsweredBy arrivals n e k i r.status
   pub all : (e k i : ℕ) (x : Exchange) (r : Reply) → slice_get (exchanges e k) i ≡ Some x → x.answer ≡ Ok r → IsAnsweredBy arrivals (length arrivals) e k i r.status
 
--- The premises of the network and of one receiver, for workers with these exchanges: the requests that have come are theirs, each once, often or never, and the receiver
--- answers them one after the other, from a head that is empty.
+-- The premises of the network and of one receiver, for workers with these exchanges: the requests
+-- that have come are theirs, each once, often or never, and the receiver answers them one after the
+-- other, from a head that is empty.
 pub record IsOneReceiver (c : Setup) (exchanges : ℕ → ℕ → List Exchange) (arrivals : List Arrival) (heads : ℕ → State) : Type 0 where
   pub begins : heads 0 ≡ record { store = empty; limits = c.limits; busy = c.busy }
   pub receives : (n : ℕ) (a : Arrival) → slice_get arrivals n ≡ Some a → (x : Exchange) × (slice_get (exchanges a.epoch a.shard) a.number ≡ Some x) × Receives c a.how x.request (heads n) a.status (heads (suc n))

@@ -22,7 +22,8 @@ use Rattle.rw_simulation.specs.Freely.{Happening, IsOwn, run_freely}
 use Rattle.rw_simulation.specs.WorkerRuns.{queued, IsShardNumbered, sent_bytes, request_in}
 use Rattle.rw_simulation.specs.Tallies.{Past, IsTallied, requests_of}
 
--- its part of the ledger so far, the items that it will yet be put, the steps that its worker will yet make, and what it never takes
+-- its part of the ledger so far, the items that it will yet be put, the steps that its worker will
+-- yet make, and what it never takes
 pub record Coming : Type 0 where
   pub ledger : Named
   pub puts : List Item
@@ -36,7 +37,8 @@ StartsByTaking (Freezes ∷ ss) = ⊥
 StartsByTaking (Sends e ∷ ss) = ⊥
 StartsByTaking (Waits ∷ ss) = ⊥
 
--- the samples among these items have this epoch and shard, and the next numbers; an End is the last item
+-- the samples among these items have this epoch and shard, and the next numbers; an End is the last
+-- item
 abbrev pub AreNext : ℕ → ℕ → ℕ → List Item → Type 0
 AreNext epoch k n [] = ⊤
 AreNext epoch k n (Sample place t word labels ∷ xs) = (place.epoch ≡ epoch) × (place.shard ≡ k) × (place.seq ≡ n) × AreNext epoch k (suc n) xs
@@ -50,7 +52,8 @@ end_in (Sample place t word labels ∷ xs) = end_in xs
 end_in (Flush ∷ xs) = end_in xs
 end_in (End kind ∷ xs) = Some kind
 
--- The shard's worker has taken all that it will take of what was put: its queue is empty, or it makes no step more.
+-- The shard's worker has taken all that it will take of what was put: its queue is empty, or it
+-- makes no more steps.
 pub record IsReady (c : Setup) (k : ℕ) (s : Shard) (d : Coming) : Type 0 where
   pub numbered : IsShardNumbered k s.core
   pub allowed : AreSteps (working s.core d.ledger) d.steps
@@ -61,7 +64,8 @@ pub record IsReady (c : Setup) (k : ℕ) (s : Shard) (d : Coming) : Type 0 where
   pub unended : s.end_put ≡ false
   pub running : s.core.ended ≡ false
 
--- what a shard comes to in its epoch: what it was put, by which End it was ended, the state of its worker, what it did not take, and the requests that it sent
+-- what a shard comes to in its epoch: what it was put, by which End it was ended, the state of its
+-- worker, what it did not take, and the requests that it sent
 pub record ShardFate : Type 0 where
   pub put : List Placed
   pub end : Option Kind
@@ -69,7 +73,7 @@ pub record ShardFate : Type 0 where
   pub left : List Queued
   pub requests : List (List ℕ)
 
--- on the way there, where these requests were sent in all, with these samples to come
+-- on the way there, if these requests were sent in all, with these samples to come
 pub record IsOnTheWay (c : Setup) (epoch k : ℕ) (requests : List Request) (s : Shard) (todo : List Sent) (f : ShardFate) : Type 0 where
   pub coming : Coming
   pub ready : IsReady c k s coming
@@ -87,7 +91,8 @@ pub record IsOnTheWayWith (c : Setup) (epoch k : ℕ) (requests : List Request) 
   pub way : IsOnTheWay c epoch k requests s todo f
   pub part_is : way.coming.ledger.names ≡ part
 
--- The machine is in this epoch, of n shards: it has placed the entries `before`, those in `es` come next, and each shard is on its way to its fate.
+-- The machine is in this epoch, of n shards: it has placed the entries `before`, those in `es` come
+-- next, and each shard is on its way to its fate.
 pub record IsUnderWay (c : Setup) (past : Past) (pieces : List Piece) (epoch n : ℕ) (fates : ℕ → ShardFate) (before es : List Entry) (w : World) : Type 0 where
   pub going : (w.killed ≡ false) × (w.closed ≡ None) × (w.draining ≡ None)
   pub pieces_are : w.pieces ≡ pieces
@@ -106,7 +111,8 @@ pub record IsUnderWay (c : Setup) (past : Past) (pieces : List Piece) (epoch n :
 abbrev pub AreUnsent : (ℕ → ShardFate) → Type 0
 AreUnsent fates = (k : ℕ) → (fates k).requests ≡ []
 
--- A free schedule leads from this world to one of which this holds. Where it is quiet nobody answers in it.
+-- A free schedule leads from this world to one with this property. If it is quiet, nobody answers
+-- in it.
 pub record Reaches (quiet : Type 0) (c : Setup) (w : World) (P : World → Type 0) : Type 0 where
   pub events : List Happening
   pub world : World

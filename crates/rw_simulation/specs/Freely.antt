@@ -1,4 +1,4 @@
--- The machine of events with a free receiver: somebody may answer a request by any status.
+-- The machine of events with a free receiver: any party may answer a request with any status.
 use Rattle.std.specs.Prelude.{ℕ, List, [], ◌∷◌, slice_get, ⊤}
 use Rattle.rw_machine.specs.Worlds.{Setup, World}
 use Rattle.rw_machine.specs.Steps.{happens, turned_away}

@@ -35,12 +35,12 @@ use Rattle.rw_machine.specs.Promises.{CanWork, Point, owed, pair_of}
 use Rattle.rw_simulation.specs.Arrivals.{Arrival, IsOneReceiver}
 use Rattle.rw_simulation.specs.StoppedRuns.{IsMachineOf, NamesAll, first_number}
 
--- these are the exchanges of each worker, by its epoch and shard: those of the steps that its report tells of
+-- these are the exchanges of each worker, by its epoch and shard: those of the steps in its report
 abbrev pub AreOfSteps : {T : Type 0} (tells : T → Type 0) (seen : T → List Exchange) (is_for : ℕ → ℕ → T → Type 0) → (ℕ → ℕ → List Exchange) → (js : List (StoppedShard T)) → AreWorked tells seen is_for js → Type 0
 AreOfSteps tells seen is_for exchanges [] h = ⊤
 AreOfSteps tells seen is_for exchanges (j ∷ js) h = (exchanges j.worker.value.queue.epoch j.worker.value.queue.shard ≡ exchanges_of h.0.report.steps) × AreOfSteps tells seen is_for exchanges js h.1
 
--- and there are no others. What a transport tells is the same, where it tells.
+-- and there are no others. What a transport recorded is the same, if it records.
 pub record AreExchangesOf {T : Type 0} (tells : T → Type 0) (seen : T → List Exchange) (is_for : ℕ → ℕ → T → Type 0) (js : List (StoppedShard T)) (worked : AreWorked tells seen is_for js) (exchanges : ℕ → ℕ → List Exchange) : Type 0 where
   pub each : AreOfSteps tells seen is_for exchanges js worked
   pub owned : (e k i : ℕ) (x : Exchange) → slice_get (exchanges e k) i ≡ Some x → (n : ℕ) × (j : StoppedShard T) × (slice_get js n ≡ Some j) × (j.worker.value.queue.epoch ≡ e) × (j.worker.value.queue.shard ≡ k)
@@ -55,13 +55,13 @@ is_left (Damaged f) p = false
 abbrev pub owed_of_placed : {T : Type 0} → Shipping T → FinMap nat_cmp Reason → Labels → List Point
 owed_of_placed s names l = owed names (kept_points_below s.log.choice (entries s.log.pieces) l (length s.log.placed))
 
--- Of each label set the store holds a prefix of its samples in the log that was fed, in log order, each
--- once, less exactly those that the report names (`in_order`), and of these only samples that were
--- placed (`of_placed`). What the report does not name of the placed ones rises strictly in time
--- (`owed_rises`), and so does what the store holds (`rises`). Of a label set that the rules do not keep
--- it holds none. Where the shipper left nothing, the store holds all of the samples that were placed
--- (`whole`); and else each that was placed and of which the report neither says that it was left nor
--- names it (`settled`).
+-- Of each label set the store holds a prefix of its samples in the log that was fed, in log order,
+-- each once, less exactly those that the report names (`in_order`), and of these only samples that
+-- were placed (`of_placed`). What the report does not name of the placed ones rises strictly in
+-- time (`owed_rises`), and so does what the store holds (`rises`). Of a label set that the rules do
+-- not keep it holds nothing. If the shipper left nothing, the store holds all of the samples that
+-- were placed (`whole`); otherwise it holds each that was placed and that the report neither lists
+-- as left nor names (`settled`).
 pub record IsHeld {T : Type 0} (s : Shipping T) (r : Report T) (store : Store) : Type 0 where
   pub names : FinMap nat_cmp Reason
   pub named : NamesAll names r.parts.items
@@ -72,14 +72,16 @@ pub record IsHeld {T : Type 0} (s : Shipping T) (r : Report T) (store : Store) :
   pub whole : (IsAbandoned r.outcome → ⊥) → (l : Labels) → list_of store l ≡ map pair_of (owed_of_placed s names l)
   pub settled : (p ref : ℕ) (t : ℤ) (word : ℕ) (l : Labels) → slice_get s.log.placed p ≡ Some (Sample ref t word) → known s.log.choice (take p s.log.placed) ref ≡ Kept l → is_left r.outcome p ≡ false → get names p ≡ None → holds (t, word) (list_of store l) ≡ true
 
--- So one receiver holds the samples of every shipper that was stopped in order with nothing left, whatever the network lost, repeated, delayed or put in another order.
+-- One receiver holds the samples of every shipper that was stopped in order with nothing left,
+-- whatever the network lost, repeated, delayed or reordered.
 abbrev pub ReceivesInOrder : {T : Type 0} → (T → Type 0) → (T → List Exchange) → (ℕ → ℕ → T → Type 0) → Shipping T → Report T → Type 0
 ReceivesInOrder tells seen is_for s r =
     (c : Setup) (fed : List Piece) (h : HasStopped tells seen is_for s r) (p : PlacesAll s.log s.fleet) → IsMachineOf c s → CanWork c → s.log.pieces ≡ map piece_of fed → IsShardCount (length s.fleet.current) → first_number p.epochs s.fleet.current ≡ c.shards
     → EndBy Orderly s.fleet r.workers.items → (IsAbandoned r.outcome → ⊥)
     → (exchanges : ℕ → ℕ → List Exchange) (arrivals : List Arrival) (heads : ℕ → State) → AreExchangesOf tells seen is_for h.joined h.worked exchanges → IsOneReceiver c exchanges arrivals heads → IsHeld s r (heads (length arrivals)).store
 
--- and of every shipper that abandoned what was left, however it was stopped: a beginning of them. `before` is the fleet as for the run of the machine.
+-- and of every shipper that abandoned what was left, however it was stopped: a prefix of them.
+-- `before` is the fleet as for the run of the machine.
 abbrev pub ReceivesAbandoned : {T : Type 0} → (T → Type 0) → (T → List Exchange) → (ℕ → ℕ → T → Type 0) → Shipping T → Report T → Type 0
 ReceivesAbandoned {T} tells seen is_for s r =
     (c : Setup) (fed : List Piece) (h : HasStopped tells seen is_for s r) (before : Shards T) (p : PlacesAll s.log before) → IsMachineOf c s → CanWork c → s.log.pieces ≡ map piece_of fed

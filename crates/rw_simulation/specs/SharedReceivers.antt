@@ -13,7 +13,8 @@ use Rattle.rw_machine.specs.declared.event.How.{How}
 use Rattle.rw_machine.specs.declared.event.How.TheVariants.{Plain, Busy, OutOfMemory}
 use Rattle.rw_simulation.specs.Arrivals.{Arrival, AreTold, IsOneReceiver}
 
--- A request that has come: of which exchange of which worker it was, the status that was answered, and what a seat was asked for it, if one was.
+-- A request that has come: of which exchange of which worker it was, the status that was answered,
+-- and what a seat was asked for it, if one was.
 pub record Coming : Type 0 where
   pub epoch : ℕ
   pub shard : ℕ
@@ -34,15 +35,15 @@ questions_in (a ∷ later) = questions_of a.question ++ questions_in later
 abbrev pub Carries : Setup → List ℕ → List Placed → Type 0
 Carries c body batch = (body ≡ body_of batch) × (length body ≤ c.max_body)
 
--- A head that was `opening` and was asked `before` answers this question so.
+-- A head that was `opening` and was asked `before` answers this question in this way.
 pub record IsAnsweredAt (opening : State) (before : List Question) (q : Question) : Type 0 where
   pub old : Seated
   pub new : Seated
   pub asked : HasAsked opening old q.body q.status new
   pub before_is : asked.before ≡ before
 
--- A request is answered so by a head that had been asked `before`: a seat was asked for the body that it carries; or none was, for the body
--- is too long, or there was no memory for it.
+-- A request is answered in this way by a head that had been asked `before`: a seat was asked for
+-- the body that it carries; or none was, because the body is too long, or memory for it ran out.
 abbrev pub IsAnswered : Setup → State → List Question → List ℕ → ℕ → Option Question → Type 0
 IsAnswered c opening before request status (Some q) =
     IsAnsweredAt opening before q × (q.status ≡ status) × ((batch : List Placed) → request ≡ batch_request c.target batch → Carries c q.body batch)
@@ -56,7 +57,8 @@ how_of status = if status == 503 then OutOfMemory else (if status == 429 then Bu
 abbrev pub arrival_of : Coming → Arrival
 arrival_of a = record { epoch = a.epoch; shard = a.shard; number = a.number; how = how_of a.status; status = a.status }
 
--- The requests that have come to a head, as its lock let them in: it was empty when it was shared, each is of an exchange of a worker, and nothing else was asked.
+-- The requests that have come to a head, as its lock let them in: it was empty when it was shared,
+-- each is of an exchange of a worker, and nothing else was asked.
 pub record IsSharedReceiver (c : Setup) (exchanges : ℕ → ℕ → List Exchange) (opening : State) (comings : List Coming) : Type 0 where
   pub empty_is : opening.store ≡ empty
   pub limits_are : opening.limits ≡ c.limits
@@ -64,11 +66,12 @@ pub record IsSharedReceiver (c : Setup) (exchanges : ℕ → ℕ → List Exchan
       × IsAnswered c opening (questions_in (take n comings)) x.request a.status a.question
   pub told : AreTold exchanges (map arrival_of comings)
 
--- the head behind the first n of them
+-- the head after the first n of them
 abbrev pub head_behind : State → List Coming → ℕ → State
 head_behind opening comings n = head_after opening (bodies_of (questions_in (take n comings))) 0
 
--- It is one receiver, of a machine whose receiver is not busy by itself; and what it holds, once all seats are back, is what that holds behind the last request.
+-- A shared head behaves as one receiver that is never busy by itself; and once all seats were
+-- returned, it holds what that receiver holds after the last request.
 abbrev pub SharesAsOne : Setup → (ℕ → ℕ → List Exchange) → State → List Coming → Type 0
 SharesAsOne c exchanges opening comings =
     c.busy ≡ 0 → IsSharedReceiver c exchanges opening comings

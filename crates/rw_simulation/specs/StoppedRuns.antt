@@ -1,4 +1,5 @@
--- A shipper that was stopped is a run of the machine of events, whether it left nothing or abandoned what was left.
+-- A shipper that was stopped is a run of the machine of events, whether it left nothing or
+-- abandoned what was left.
 use Rattle.std.specs.Prelude.{◌≡◌, ℕ, ◌<◌, List, [], ◌∷◌, ◌++◌, length, map, Option, Some, slice_get, IsPermutation, ⊤}
 use Rattle.std.specs.List.{AllByRecursion}
 use Rattle.std.specs.Ordering.{nat_cmp}
@@ -47,18 +48,20 @@ abbrev pub AreNumbers : List (List ShardHistory) → Type 0
 AreNumbers [] = ⊤
 AreNumbers (lanes ∷ later) = IsShardCount (length lanes) × AreNumbers later
 
--- the first epoch has as many as the machine begins with
+-- the first epoch has as many shards as the machine starts with
 abbrev pub HasNumbers : Setup → List (List ShardHistory) → Type 0
 HasNumbers c [] = ⊥
 HasNumbers c (lanes ∷ later) = (length lanes ≡ c.shards) × AreNumbers later
 
--- the shards of each epoch were ended because their number changed, and those of the last one in order
+-- the shards of each epoch were ended because their number changed, and those of the last one in
+-- order
 abbrev pub EndInTurn : List (List ShardHistory) → Type 0
 EndInTurn [] = ⊤
 EndInTurn (lanes ∷ []) = AreEndedBy Orderly (map put_into lanes)
 EndInTurn (lanes ∷ next ∷ later) = AreEndedBy Reshard (map put_into lanes) × EndInTurn (next ∷ later)
 
--- the machine's shard was put what the worker's queue was put, has taken the same, and has resolved as many samples
+-- the machine's shard was put what the worker's queue was put, has taken the same, and has resolved
+-- as many samples
 pub record IsAlike {T : Type 0} (f : Finished T) (m : Shard) : Type 0 where
   pub put : m.put ≡ samples_in (put_of f.ends)
   pub taken : m.core.taken ≡ samples_in (taken_of f.ends)
@@ -81,18 +84,21 @@ NamesAll names parts = (p : ℕ) (reason : Reason) → (get names p ≡ Some rea
 abbrev pub IsOfOne : {T : Type 0} → List (Finished T) → Request → Type 0
 IsOfOne {T} fs q = (k : ℕ) × (f : Finished T) × (slice_get fs k ≡ Some f) × (q.id.epoch ≡ (queue_of f.ends).epoch) × (q.id.shard ≡ (queue_of f.ends).shard)
 
--- of each worker that tells its exchanges the requests are those of its shard, byte by byte and in order; and there are no others
+-- of each worker that records its exchanges the requests are those of its shard, byte by byte and
+-- in order; and there are no others
 pub record SendsAll {T : Type 0} (tells : T → Type 0) (seen : T → List Exchange) (requests : List Request) (fs : List (Finished T)) : Type 0 where
   pub each : (k : ℕ) (f : Finished T) → slice_get fs k ≡ Some f → tells f.transport → map sent_bytes (requests_of (queue_of f.ends).epoch (queue_of f.ends).shard requests) ≡ map request_in (seen f.transport)
   pub owned : AllByRecursion (IsOfOne fs) requests
 
--- the machine's report is the outcome; the samples that are left it tells in rising order, where the shipper has them shard by shard
+-- the machine's report is the outcome; the samples that are left are in rising order, if the
+-- shipper has them shard by shard
 abbrev pub Tells : Outcome → Option Ending → Type 0
 Tells (outcome.Complete end) found = found ≡ Some (Complete end)
 Tells (outcome.Abandoned placed samples) found = (left : List ℕ) × (found ≡ Some (Abandoned placed left)) × IsRisingOrderOf samples.items left
 Tells (outcome.Damaged f) found = found ≡ Some (Damaged f)
 
--- The machine comes to what the shipper reports: its shards are those of the last epoch, its names and requests those of all.
+-- The machine comes to what the shipper reports: its shards are those of the last epoch, its names
+-- and requests those of all.
 pub record ComesTo {T : Type 0} (tells : T → Type 0) (seen : T → List Exchange) (c : Setup) (s : Shipping T) (r : Report T) (w : World) : Type 0 where
   pub log : w.pieces ≡ s.log.pieces
   pub placed : w.placed ≡ length s.log.placed
@@ -106,11 +112,12 @@ pub record ComesTo {T : Type 0} (tells : T → Type 0) (seen : T → List Exchan
   pub requests : SendsAll tells seen w.requests r.workers.items
   pub outcome_is : Tells r.outcome (report w)
 
--- some free schedule of the machine leads there, and what the machine's laws say holds of it
+-- some free schedule of the machine leads there, and the machine's laws are true of it
 abbrev pub IsRun : {T : Type 0} → (T → Type 0) → (T → List Exchange) → Setup → Shipping T → Report T → Type 0
 IsRun tells seen c s r = (hs : List Happening) × ComesTo tells seen c s r (world_of c hs) × KeepsLaws c hs
 
--- So it is of every shipper that left nothing, over whichever epochs its samples were placed, where these had such numbers of shards and ended in turn;
+-- The same for every shipper that left nothing, over whichever epochs its samples were placed, if
+-- these had such numbers of shards and ended in turn,
 abbrev pub StopsAsRun : {T : Type 0} → (T → Type 0) → (T → List Exchange) → (ℕ → ℕ → T → Type 0) → Shipping T → Report T → Type 0
 StopsAsRun tells seen is_for s r =
     (c : Setup) (fed : List Piece) (h : HasStopped tells seen is_for s r) (epochs : List (List ShardHistory)) → IsMachineOf c s → CanWork c → s.log.pieces ≡ map piece_of fed
@@ -121,13 +128,17 @@ abbrev pub first_number : List (List ShardHistory) → List ShardHistory → ℕ
 first_number [] current = length current
 first_number (lanes ∷ later) current = length lanes
 
--- however often the number of shards was changed: the machine begins with as many as the first epoch had
+-- however often the number of shards was changed: the machine starts with as many as the first
+-- epoch had
 abbrev pub StopsInOrder : {T : Type 0} → (T → Type 0) → (T → List Exchange) → (ℕ → ℕ → T → Type 0) → Shipping T → Report T → Type 0
 StopsInOrder tells seen is_for s r =
     (c : Setup) (fed : List Piece) (h : HasStopped tells seen is_for s r) (p : PlacesAll s.log s.fleet) → IsMachineOf c s → CanWork c → s.log.pieces ≡ map piece_of fed → IsShardCount (length s.fleet.current) → first_number p.epochs s.fleet.current ≡ c.shards
     → EndBy Orderly s.fleet r.workers.items → (IsAbandoned r.outcome → ⊥) → IsRun tells seen c s r
 
--- So it is of every shipper that abandoned what was left, however it was stopped. `before` is the fleet as it stood before its last shards were ended: that of the shipper, with the shards that a failed reshard had begun; or where that had begun none, the fleet before it. The shards of the epochs before had resolved all.
+-- The same for every shipper that abandoned what was left, however it was stopped. `before` is the
+-- fleet as it was before its last shards were ended: that of the shipper, with the shards that a
+-- failed reshard had begun; or if that had begun none, the fleet before it. The shards of the
+-- epochs before had resolved everything.
 abbrev pub StopsAbandoned : {T : Type 0} → (T → Type 0) → (T → List Exchange) → (ℕ → ℕ → T → Type 0) → Shipping T → Report T → Type 0
 StopsAbandoned {T} tells seen is_for s r =
     (c : Setup) (fed : List Piece) (h : HasStopped tells seen is_for s r) (before : Shards T) (p : PlacesAll s.log before) → IsMachineOf c s → CanWork c → s.log.pieces ≡ map piece_of fed

@@ -17,14 +17,14 @@ pub record IsShardOf {T : Type 0} (c : Setup) (epoch k : ℕ) (j : StoppedShard 
   pub epoch_is : j.worker.value.queue.epoch ≡ epoch
   pub shard_is : j.worker.value.queue.shard ≡ k
 
--- It is that shard: its worker took what it was put, but for what was left in its queue, in steps that the machine's shard may make; and its part of
--- the ledger is what they make of it.
+-- It is that shard: its worker took what it was put, but for what was left in its queue, in steps
+-- that the machine's shard may make; and its part of the ledger is what they make of it.
 pub record IsRunOf {T : Type 0} (c : Setup) (epoch k : ℕ) (j : StoppedShard T) : Type 0 where
   pub steps : List Step
   pub rest : List Item
   pub run : IsShardRun c epoch k (lane_of j) steps rest
   pub part : j.part.names ≡ (after (start_of j.worker.value) steps).ledger.names
 
--- so it is of each shard that did what its worker reports
+-- the same for each shard that did what its worker reports
 abbrev pub StopsAsShard : {T : Type 0} → (T → Type 0) → (T → List Exchange) → (ℕ → ℕ → T → Type 0) → StoppedShard T → Type 0
 StopsAsShard tells seen is_for j = (c : Setup) (epoch k : ℕ) → IsWorked tells seen is_for j → IsShardOf c epoch k j → IsRunOf c epoch k j

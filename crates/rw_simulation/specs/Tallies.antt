@@ -15,13 +15,15 @@ use Rattle.rw_simulation.specs.WorkerRuns.{sent_bytes}
 abbrev pub requests_of : ℕ → ℕ → List Request → List Request
 requests_of epoch k rs = filter (λ (r : Request). (r.id.epoch == epoch) && (r.id.shard == k)) rs
 
--- What is known of the epochs that are over: what their workers named, what each of their shards sent, and which shards there were.
+-- What is known of the epochs that are over: what their workers named, what each of their shards
+-- sent, and which shards there were.
 pub record Past : Type 1 where
   pub named : ℕ → Reason → Type 0
   pub sent : ℕ → ℕ → List (List ℕ) → Type 0
   pub has : ℕ → ℕ → Type 0
 
--- the same, in lists and functions: the names of each worker, what a shard sent, and whether there was such a shard
+-- the same, in lists and functions: the names of each worker, what a shard sent, and whether there
+-- was such a shard
 pub record Earlier : Type 0 where
   pub parts : List (FinMap nat_cmp Reason)
   pub sent : ℕ → ℕ → Option (List (List ℕ))
@@ -34,7 +36,8 @@ past_by earlier = record {
   has = λ e k. earlier.had e k ≡ true;
 }
 
--- a position is named by the feeder, by a worker of an epoch that is over, or by one of the n that work
+-- a position is named by the feeder, by a worker of an epoch that is over, or by one of the n that
+-- work
 abbrev pub IsNamedSo : Setup → Past → ℕ → List Entry → (ℕ → FinMap nat_cmp Reason) → ℕ → Reason → Type 0
 IsNamedSo c past n before parts p reason = (get (named (dropped c.choice before)) p ≡ Some reason) ⊎ (past.named p reason ⊎ ((k : ℕ) × (k < n) × (get (parts k) p ≡ Some reason)))
 
@@ -46,8 +49,8 @@ IsOwned past epoch n r = ((r.id.epoch < epoch) × past.has r.id.epoch r.id.shard
 abbrev pub IsReached : Setup → World → Type 0
 IsReached c w = (hs : List Happening) × (world_of c hs ≡ w)
 
--- What the world names is what the feeder and the workers name, with the same reasons, and each request is one of a shard's. Of the epochs that are over
--- the requests are those known.
+-- What the world names is what the feeder and the workers name, with the same reasons, and each
+-- request is one of a shard's. Of the epochs that are over the requests are those known.
 pub record IsTallied (c : Setup) (past : Past) (epoch n : ℕ) (before : List Entry) (parts : ℕ → FinMap nat_cmp Reason) (w : World) : Type 0 where
   pub reached : IsReached c w
   pub named : (p : ℕ) (reason : Reason) → get w.names p ≡ Some reason → IsNamedSo c past n before parts p reason

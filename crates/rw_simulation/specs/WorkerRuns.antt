@@ -79,8 +79,9 @@ request_in e = e.request
 abbrev pub IsIdOf : ℕ → ℕ → Request → Type 0
 IsIdOf epoch i r = (r.id.epoch ≡ epoch) × (r.id.shard ≡ i)
 
--- The machine's shard i is as the worker's after its steps, what it did not take still waits, and its names are those that the worker's part of the ledger got.
--- The requests are those of its exchanges, byte by byte, and have its ids. Nothing else has changed.
+-- The machine's shard i is as the worker's after its steps, what it did not take still waits, and
+-- its names are those that the worker's part of the ledger got. The requests are those of its
+-- exchanges, byte by byte, and have its ids. Nothing else has changed.
 pub record IsAfter (w : World) (i : ℕ) (s : Shard) (ledger : Named) (steps : List Step) (rest : List Queued) (v : World) : Type 0 where
   pub requests : List Request
   pub replies : List worlds.Reply
@@ -94,13 +95,15 @@ pub record IsAfter (w : World) (i : ℕ) (s : Shard) (ledger : Named) (steps : L
   pub sent : map sent_bytes requests ≡ map request_in (exchanges_of steps)
   pub ids : AllByRecursion (IsIdOf s.core.epoch i) requests
 
--- The shard's lists are whole, and nothing waits behind an End: so it is not drained before the last step.
+-- The shard's lists are whole, and nothing waits after an End: so it is not drained before the
+-- last step.
 pub record CanEnd (s : Shard) (steps : List Step) : Type 0 where
   pub kept : length s.put ≡ length s.core.resolved + (length s.core.batch + (length s.core.builder + length (samples_in s.queue)))
   pub ended : s.core.ended ≡ true → items_of steps ≡ []
   pub last : EndIsLast (items_of steps)
 
--- While nothing is killed, the steps that a worker may make, of what waits in its queue, are events; so they are once the log is closed.
+-- While nothing is killed, the steps that a worker may make with what waits in its queue are
+-- events, also once the log is closed.
 abbrev pub IsWorkerRun : Setup → World → ℕ → Type 0
 IsWorkerRun c w i =
     (s : Shard) (ledger : Named) (steps : List Step) (rest : List Queued)

@@ -1,4 +1,4 @@
-//! The running shipper is a run of the machine of events.
+//! Proves that the running shipper is a run of the machine of events.
 #![tactic(auto)]
 
 mod laws;

@@ -5,17 +5,17 @@ ghost use Rattle.std.specs.Duration.{as_nanos};
 
 use std::time::{Clock, Duration, Instant};
 
-/// A point in time by the clock, after which nothing is waited for.
+/// A point in time by the clock, after which no call waits.
 #[derive(Clone, Copy, Drop)]
 pub struct Deadline<C> {
     clock: C,
-    /// When the deadline was set; `None` where the clock could not be read.
+    /// When the deadline was set, or `None` if the clock could not be read.
     begun: Option<Instant>,
     after: Duration,
 }
 
 impl<C: Clock> Deadline<C> {
-    /// The deadline `after` from now.
+    /// Returns the deadline `after` from now.
     pub fn new(clock: C, after: Duration) -> Deadline<C> {
         let begun = Instant::now(&clock).ok();
         Deadline {
@@ -25,7 +25,8 @@ impl<C: Clock> Deadline<C> {
         }
     }
 
-    /// The time that is left; `None` once the deadline has passed, and where the clock cannot be read.
+    /// Returns the time that is left, or `None` once the deadline has passed, and if the clock
+    /// cannot be read.
     pub fn left(&self) -> Option<Duration>
         ensures { IfSome result (λ left. 0 < as_nanos left) }
     {

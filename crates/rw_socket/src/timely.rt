@@ -5,8 +5,9 @@ use std::io::{self, ErrorKind, Read, Write};
 use std::net::TcpStream;
 use std::time::{Clock, Duration};
 
-/// A connection whose reads and writes fail once a deadline has passed, however many of them there are: a peer that moves a byte now and then
-/// cannot draw them out. Nothing is claimed of the bytes.
+/// A connection whose reads and writes fail once a deadline has passed, however many of them there
+/// are: a peer that sends a byte now and then cannot prolong them. No clause says anything about
+/// the bytes.
 #[derive(Clone, Copy, Drop)]
 pub struct Timely<'s, C> {
     stream: &'s TcpStream,
@@ -14,12 +15,12 @@ pub struct Timely<'s, C> {
 }
 
 impl<'s, C: Clock> Timely<'s, C> {
-    /// The connection, to be read and written up to `deadline`.
+    /// Returns the connection, to be read and written up to `deadline`.
     pub fn new(stream: &'s TcpStream, deadline: Deadline<C>) -> Timely<'s, C> {
         Timely { stream, deadline }
     }
 
-    /// The time that is left, or the error `TimedOut`.
+    /// Returns the time that is left, or the error `TimedOut`.
     fn left(&self) -> io::Result<Duration> {
         self.deadline
             .left()

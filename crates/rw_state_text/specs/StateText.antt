@@ -15,7 +15,7 @@ use Rattle.rw_shard_core.specs.Endings.{Ending, Complete, Abandoned, Damaged}
 abbrev pub point_text : Point → List ℕ
 point_text p = 32 ∷ signed_decimal p.0 ++ 61 ∷ value_text p.1
 
--- `received LABELS` and the samples; no line where there is none
+-- `received LABELS` and the samples, or no line without samples
 abbrev pub received_text : Labels → List Point → List ℕ
 received_text l [] = []
 received_text l (p ∷ ps) = codes "received " ++ labels_text l ++ flat_map point_text (p ∷ ps) ++ 10 ∷ []
@@ -40,13 +40,14 @@ filtered_text count = codes "filtered " ++ decimal count ++ 10 ∷ []
 abbrev pub abandoned_text : ℕ → List ℕ
 abandoned_text pos = codes "abandoned " ++ decimal pos ++ 10 ∷ []
 
--- what is said of the end: an `abandoned` line for each sample that was put and not resolved, and the report
+-- the end: an `abandoned` line for each sample that was put and not resolved, and the report
 abbrev pub ending_text : Option Ending → List ℕ
 ending_text None = codes "report running\n"
 ending_text (Some (Complete end)) = codes "report complete " ++ decimal end ++ 10 ∷ []
 ending_text (Some (Abandoned placed samples)) = flat_map abandoned_text samples ++ codes "report abandoned " ++ decimal placed ++ 10 ∷ []
 ending_text (Some (Damaged fault)) = codes "report damaged " ++ decimal (log_fault_number fault) ++ 10 ∷ []
 
--- what a sender tells of its work: the dropped samples by position, how many the rules have filtered, and its end
+-- what a sender reports of its work: the dropped samples by position, how many the rules have
+-- filtered, and its end
 abbrev pub work_text : List (ℕ × Reason) → ℕ → Option Ending → List ℕ
 work_text names filtered ending = flat_map dropped_text names ++ filtered_text filtered ++ ending_text ending

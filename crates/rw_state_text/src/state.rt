@@ -36,8 +36,8 @@ fn push_points(out: &mut Vec<u8>, points: &[(i64, Word)]) -> Result<(), AllocErr
     Ok(())
 }
 
-/// Appends the line of a label set with these samples: `received LABELS T=VALUE ..`; no line where there is no sample. After an `Err` a part of
-/// it may stand in `out`.
+/// Appends the line of a label set with these samples: `received LABELS T=VALUE ..`, or no line if
+/// there is no sample. After an `Err` a part of it may be in `out`.
 pub fn push_received(
     out: &mut Vec<u8>,
     labels: &LabelSet,
@@ -56,8 +56,8 @@ pub fn push_received(
     out.extend_from_slice(b"\n")
 }
 
-/// Appends a `received` line for each label set that has samples, by byte order of their lists of (name, value). After an `Err` a part of them
-/// may stand in `out`.
+/// Appends a `received` line for each label set that has samples, by byte order of their lists of
+/// (name, value). After an `Err` a part of them may be in `out`.
 pub fn push_store(out: &mut Vec<u8>, head: &Head) -> Result<(), AllocError>
     ensures ok { OnOk result (out.new.items ≡ out.old.items ++ store_text head.now.store) }
     ensures err { OnErr result (Begins out.old.items out.new.items) }
@@ -90,8 +90,8 @@ fn push_reason(out: &mut Vec<u8>, reason: Reason) -> Result<(), AllocError>
     }
 }
 
-/// Appends the line of a dropped sample: `dropped POS status S`, `dropped POS labels N`, `dropped POS noseries` or `dropped POS notrising`. After
-/// an `Err` a part of it may stand in `out`.
+/// Appends the line of a dropped sample: `dropped POS status S`, `dropped POS labels N`, `dropped
+/// POS noseries` or `dropped POS notrising`. After an `Err` a part of it may be in `out`.
 pub fn push_dropped(out: &mut Vec<u8>, name: &(u64, Reason)) -> Result<(), AllocError>
     ensures ok { OnOk result (out.new.items ≡ out.old.items ++ dropped_text name.now) }
     ensures err { OnErr result (Begins out.old.items out.new.items) }
@@ -114,7 +114,8 @@ fn push_all_dropped(out: &mut Vec<u8>, names: &[(u64, Reason)]) -> Result<(), Al
     Ok(())
 }
 
-/// Appends the line that tells how many samples the rules have filtered: `filtered COUNT`. After an `Err` a part of it may stand in `out`.
+/// Appends the line with the number of samples that the rules have filtered: `filtered COUNT`.
+/// After an `Err` a part of it may be in `out`.
 pub fn push_filtered(out: &mut Vec<u8>, count: u64) -> Result<(), AllocError>
     ensures ok { OnOk result (out.new.items ≡ out.old.items ++ filtered_text count) }
     ensures err { OnErr result (Begins out.old.items out.new.items) }
@@ -157,8 +158,9 @@ fn push_report(out: &mut Vec<u8>, report: &[u8], number: u64) -> Result<(), Allo
     out.extend_from_slice(b"\n")
 }
 
-/// Appends an `abandoned` line for each sample that was put and not resolved, by position, and then the report, which is `report running` where
-/// there is no outcome. After an `Err` a part of it may stand in `out`.
+/// Appends an `abandoned` line for each sample that was put and not resolved, by position, and then
+/// the report, which is `report running` if there is no outcome. After an `Err` a part of it may be
+/// in `out`.
 pub fn push_ending(out: &mut Vec<u8>, outcome: Option<&Outcome>) -> Result<(), AllocError>
     ensures ok { OnOk result (out.new.items
         ≡ out.old.items ++ ending_text (option_map (λ o. ending_of o.now) outcome.entry)) }
@@ -177,8 +179,8 @@ pub fn push_ending(out: &mut Vec<u8>, outcome: Option<&Outcome>) -> Result<(), A
     }
 }
 
-/// Appends what a sender tells of its work: the dropped samples by position, how many the rules have filtered, and its end. After an `Err` a part
-/// of it may stand in `out`.
+/// Appends what a sender reports of its work: the dropped samples by position, how many the rules
+/// have filtered, and its end. After an `Err` a part of it may be in `out`.
 pub fn push_work(
     out: &mut Vec<u8>,
     ledger: &Ledger,

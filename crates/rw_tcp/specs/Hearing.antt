@@ -1,4 +1,4 @@
--- What a reader tells of the reply to a request.
+-- What a reader says about the reply to a request.
 use Rattle.std.specs.Prelude.{ℕ, List, Option}
 use Rattle.std.specs.Io.KnownBytes.{Consumes}
 use Rattle.rw_types.specs.declared.transfer.ReadFault.{ReadFault}

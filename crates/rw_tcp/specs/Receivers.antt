@@ -1,4 +1,4 @@
--- Where a transport sends, and what it tells of that.
+-- Where a transport sends, and what it records of that.
 use Rattle.std.specs.Prelude.{ℕ, List}
 use Rattle.std.specs.declared.net.socket_addr.SocketAddr.{SocketAddr}
 use Rattle.rw_worker.specs.Transcript.{Exchange}

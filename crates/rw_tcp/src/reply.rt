@@ -17,7 +17,8 @@ use std::marker::Model;
 /// How many bytes one read asks for.
 const CHUNK: usize = 1024;
 
-/// A status that a reply brought, and that counts for its request. Nothing outside this module makes one. Contracts see the status.
+/// A status that a reply brought, and that counts for its request. Nothing outside this module
+/// makes one. Contracts see the status.
 #[derive(Drop)]
 pub(crate) struct Heard {
     status: StatusCode,
@@ -32,7 +33,7 @@ impl Model for Heard {
 }
 
 impl Heard {
-    /// The reply with this status.
+    /// Returns the reply with this status.
     pub(crate) fn into_reply(self) -> Reply
         ensures { result.status ≡ self }
     {
@@ -80,7 +81,7 @@ impl From<ReadFault> for NoReply {
     }
 }
 
-/// Appends what one read gives, and returns how many bytes came.
+/// Appends what one read returns, and returns how many bytes came.
 fn read_more<R: Source>(reader: &mut R, text: &mut Vec<u8>) -> Result<usize, ReadFault>
     ensures onto { IfOk result
         (λ _. ReadsOnto (R.remaining reader.old)
@@ -119,7 +120,7 @@ fn hear<R: Source>(reader: &mut R, text: &mut Vec<u8>) -> Result<ReplyRead, Read
     }
 }
 
-/// What this status says to a request, of which not all bytes may have been written.
+/// Returns what this status means for a request that may not have been written whole.
 fn answer_of(status: StatusCode, sent: bool) -> Result<Heard, NoReply>
     ensures reply { IfOk result (λ h. h ≡ status) }
     ensures sent { IfOk result (λ h. judgement_of h ≡ Judgement.Done → sent ≡ true) }
@@ -131,14 +132,14 @@ fn answer_of(status: StatusCode, sent: bool) -> Result<Heard, NoReply>
     }
 }
 
-/// Why a reply has no status.
+/// Returns why a reply has no status.
 fn no_status(fault: NoReply, sent: bool) -> NoReply
     ensures { result ≡ (if sent then fault else NoReply.Device) }
 {
     if sent { fault } else { NoReply::Device }
 }
 
-/// As `ask`. Nothing outside this module can make up its answer.
+/// Does what `ask` does. Nothing outside this module can make up its answer.
 pub(crate) fn hear_answer<R: Source, W: Sink>(
     alloc: Global,
     reader: &mut R,
@@ -172,8 +173,9 @@ pub(crate) fn hear_answer<R: Source, W: Sink>(
 
 /// Writes a request, and reads until the status of its reply has come.
 ///
-/// A receiver may answer by the head of a request, and close the connection before the body has come. So the reply is read also where the writer
-/// failed; a status that takes the request counts only where the request was written whole.
+/// A receiver may answer after the head of a request, and close the connection before the body has
+/// come. So the reply is read even if the writer failed; a status that takes the request counts
+/// only if the request was written whole.
 pub fn ask<R: Source, W: Sink>(
     alloc: Global,
     reader: &mut R,

@@ -11,7 +11,7 @@ pub struct Sleep<C> {
 }
 
 impl<C> Sleep<C> {
-    /// A pause by this clock.
+    /// Returns a pause by this clock.
     pub fn new(clock: C) -> Sleep<C> {
         Sleep { clock }
     }

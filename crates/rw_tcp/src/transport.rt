@@ -8,6 +8,7 @@ ghost use Rattle.rw_retry.specs.declared.judgement.Judgement.TheVariants as judg
 ghost use Rattle.rw_tcp.specs.Hearing.{Hears};
 
 use crate::reply::{Heard, NoReply, hear_answer};
+use http::StatusCode;
 use rw_history::History;
 use rw_metrics::{Cause, SendCounters};
 use rw_retry::{Judgement, judge};
@@ -24,8 +25,8 @@ use std::time::{Clock, Duration};
 /// The most addresses that are tried.
 const MOST_ADDRESSES: usize = 1_000;
 
-/// Looks up the addresses of a host; there is at least one. An error of the kind `OutOfMemory` means that memory ran out, one of another kind
-/// that the look-up failed.
+/// Looks up the addresses of a host; there is at least one. An error of the kind `OutOfMemory`
+/// means that memory ran out, any other that the look-up failed.
 pub fn look_up<N: Net>(net: &N, alloc: Global, host: &str, port: u16) -> io::Result<Vec<SocketAddr>>
     ensures { IfOk result (λ v. 0 < vec_len v) }
 {
@@ -39,7 +40,7 @@ pub fn look_up<N: Net>(net: &N, alloc: Global, host: &str, port: u16) -> io::Res
     Ok(addresses)
 }
 
-/// Sends each request over a connection of its own, to the first of the addresses that answers.
+/// Sends each request over its own connection, to the first of the addresses that answers.
 ///
 /// Whatever fails is `Lost`: a connect, a write or a read, whatever is not done when the timeout
 /// has passed since the attempt began, and bytes that are not a reply. Contracts see the addresses,
@@ -68,8 +69,9 @@ impl<N> Model for TcpTransport<N> {
 }
 
 impl<N: Net<Stream = TcpStream> + Clock + Copy> TcpTransport<N> {
-    /// A transport to these addresses of one receiver, which are tried in turn. The timeout is in milliseconds, for a whole attempt: the
-    /// connects, all writes and all reads together. `counters` are told of each attempt, and why it failed.
+    /// Returns a transport to these addresses of one receiver, which are tried in turn. The timeout
+    /// is in milliseconds, for a whole attempt: the connects, all writes and all reads together.
+    /// `counters` count each attempt, and why it failed.
     pub fn new(
         alloc: Global,
         net: N,
@@ -91,7 +93,8 @@ impl<N: Net<Stream = TcpStream> + Clock + Copy> TcpTransport<N> {
         }
     }
 
-    /// A connection to the first address that answers. Those that were not tried yet share the time that is left.
+    /// Returns a connection to the first address that answers. Those that were not tried yet share
+    /// the time that is left.
     fn connect(&self, deadline: &Deadline<N>) -> Option<TcpStream> {
         let mut untried = self.addresses.len().min(MOST_ADDRESSES) as u32;
         for address in &self.addresses {
@@ -104,17 +107,17 @@ impl<N: Net<Stream = TcpStream> + Clock + Copy> TcpTransport<N> {
         None
     }
 
-    /// Sends a request over a connection of its own, and counts the attempt and its outcome.
+    /// Sends a request over its own connection, and counts the attempt and its outcome.
     fn attempt(&self, request: &[u8]) -> Result<Reply, Lost> {
         self.counters.attempt();
         let deadline = Deadline::new(self.net, self.timeout);
         let stream = self.connect(&deadline);
         let answer = exchange_through(self.alloc, stream, deadline, request);
-        counted(&self.counters, &deadline, answer)
+        counted(&self.counters, &deadline, request, answer)
     }
 }
 
-/// Why an attempt without a reply failed.
+/// Returns why an attempt without a reply failed.
 fn cause_of(fault: NoReply) -> Cause {
     match fault {
         NoReply::OutOfMemory => Cause::Memory,
@@ -124,7 +127,7 @@ fn cause_of(fault: NoReply) -> Cause {
     }
 }
 
-/// This cause; or `Timeout`, where the deadline has passed.
+/// Returns this cause, or `Timeout` if the deadline has passed.
 fn cause_at<C: Clock>(cause: Cause, deadline: &Deadline<C>) -> Cause {
     match deadline.left() {
         Some(_) => cause,
@@ -150,7 +153,7 @@ fn exchange_over<R: Source, W: Sink>(
     }
 }
 
-/// Sends a request over a connection, where there is one, before the deadline.
+/// Sends a request over a connection, if there is one, before the deadline.
 fn exchange_through<C: Clock + Copy>(
     alloc: Global,
     stream: Option<TcpStream>,
@@ -170,11 +173,21 @@ fn exchange_through<C: Clock + Copy>(
     )
 }
 
-/// The reply that was heard. Counts an attempt that succeeded, and one that failed: it has no answer,
-/// or a status that does not take the batch.
+/// Counts an attempt to send a request that was answered with this status: the samples of the request
+/// if they are acknowledged or refused, and else a failure.
+fn count_status(counters: &SendCounters, request: &[u8], status: StatusCode) {
+    match judge(status) {
+        Judgement::Done => counters.acknowledge(request),
+        Judgement::Refused => counters.refuse(status.as_u16(), request),
+        Judgement::Again => counters.fail(Cause::Status(status.as_u16())),
+    }
+}
+
+/// Returns the reply that was heard, and counts the attempt with its samples.
 fn counted<C: Clock>(
     counters: &SendCounters,
     deadline: &Deadline<C>,
+    request: &[u8],
     answer: Result<Heard, Cause>,
 ) -> Result<Reply, Lost>
     ensures { IfOk result (λ reply. answer ≡ Ok reply.status) }
@@ -182,11 +195,7 @@ fn counted<C: Clock>(
     match answer {
         Ok(heard) => {
             let reply = heard.into_reply();
-            if judge(reply.status) == Judgement::Done {
-                counters.succeed();
-            } else {
-                counters.fail(Cause::Status(reply.status.as_u16()));
-            }
+            count_status(counters, request, reply.status);
             Ok(reply)
         }
         Err(cause) => {

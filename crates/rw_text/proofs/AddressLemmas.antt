@@ -7,14 +7,14 @@ use Rattle.std.proofs.lemmas.Str.Parse.{digit_at}
 use Rattle.std.proofs.lemmas.Str.Pattern.{NoCharPasses-char, drop_at_char}
 use Rattle.rw_text.specs.Addresses.{IsPort, IsAddress}
 
--- the byte does not stand here
+-- the byte is not here
 abbrev pub HasNo : ℕ → List ℕ → Type 0
 HasNo c xs = (i : ℕ) → i < length xs → get_or xs i 0 ≢ c
 
 stands_at_length : (c : ℕ) (p s : List ℕ) → HasNo c (p ++ c ∷ s) → ⊥
 stands_at_length c p s none = none (length p) (rw (length-append p (c ∷ s)) (omega arith)) (get_or_at p c s 0 (length p) refl)
 
--- where the byte is not behind it, it is the last one
+-- if the byte is not after it, it is the last one
 pub behind_is_one : (c : ℕ) (p q s t : List ℕ) → HasNo c s → HasNo c t → p ++ c ∷ s ≡ q ++ c ∷ t → s ≡ t
 behind_is_one c [] [] s t in_s in_t e = ap (drop 1) e
 behind_is_one c [] (y ∷ q) s t in_s in_t e = absurd (stands_at_length c q t (subst (HasNo c) (ap (drop 1) e) in_s))
@@ -41,7 +41,7 @@ split_parts text front back h =
 pub back_has_no_colon : (text front back : List ℕ) → SplitsLast text front back → HasNo 58 back
 back_has_no_colon text front back h = subst (HasNo 58) (sym h.4) (λ i within. NoCharPasses-char 58 (drop h.1 text) i h.2.0 (lit< tt) within)
 
--- what stands behind the last colon is no port
+-- what follows the last colon is no port
 pub no_address : (text front back : List ℕ) → SplitsLast text front back → ((port : ℕ) → IsPort back port → ⊥) → (host : List ℕ) (port : ℕ) → IsAddress text host port → ⊥
 no_address text front back h none host port a =
     let same : a.digits ≡ back = behind_is_one 58 host front a.digits back (digits_have_no_colon a.digits a.is_port.is_number.digits.1)

@@ -1,10 +1,10 @@
--- Texts in quotes are told apart.
+-- Texts in quotes differ if their contents do.
 use Rattle.std.proofs.Common.{◌≡◌, ◌<◌, ◌≤◌, ◌==◌, ℕ, List, [], ◌∷◌, ◌++◌, length, Option, Some, None, if◌then◌else◌, ne_eqb, flat_map, sym, ◌∙◌, ap, arith, refl, inl, inr, append_assoc}
 use Rattle.std.proofs.lemmas.Bool.{cases_eq}
 use Rattle.std.proofs.lemmas.List.{length-append, append-nil}
 use Rattle.rw_text.specs.LabelText.{escaped, quoted}
 
--- the byte behind a backslash, and what follows it
+-- the byte after a backslash, and what follows it
 abbrev pub behind_backslash : List ℕ → Option (ℕ × List ℕ)
 behind_backslash [] = None
 behind_backslash (c ∷ cs) = if c == 110 then Some (10, cs) else if c == 92 then Some (92, cs) else if c == 34 then Some (34, cs) else None
@@ -124,7 +124,7 @@ inside_unique (a ∷ value) (b ∷ other) rest more e =
     let q = inside_unique value other rest more p.1 in
     (cc (p.0, q.0), q.1)
 
--- what stands between quotes tells where it ends
+-- what is between quotes determines where it ends
 pub quoted_unique : (value other rest more : List ℕ) → quoted value ++ rest ≡ quoted other ++ more → (value ≡ other) × (rest ≡ more)
 quoted_unique value other rest more e =
     let f : 34 ∷ inside value rest ≡ 34 ∷ inside other more = sym (quoted-append value rest) ∙ e ∙ quoted-append other more in

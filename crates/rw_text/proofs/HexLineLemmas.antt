@@ -13,7 +13,7 @@ unfolding read_text
 foreign_at text i lt at before =
     rw (list_any_at is_foreign text i 0 lt at, position_or_len_is is_foreign text i 0 (omega arith) before (λ _. at)) refl
 
--- where there is none, the digits decide
+-- without a foreign character the digits decide
 pub no_foreign : (text : List ℕ) → EachIndex text (λ k. is_foreign (get_or text k 0) ≡ false) → read_text text ≡ bytes_or_line (bytes_of (values text)) (line_after (before_last is_digit text))
 unfolding read_text
 no_foreign text each =
@@ -23,7 +23,7 @@ no_foreign text each =
 add-sub : (i : ℕ) → i + 1 - 1 ≡ i
 add-sub i = omega arith
 
--- what stands before the last digit
+-- what is before the last digit
 pub last_at : (text : List ℕ) (r : Option ℕ)
     → MatchOption r (EachIndex text (λ k. is_digit (get_or text k 0) ≡ false))
     (λ i. (i < length text) × (is_digit (get_or text i 0) ≡ true) × ((k : ℕ) → i < k → k < length text → is_digit (get_or text k 0) ≡ false))

@@ -1,4 +1,4 @@
--- Labels are told apart by their text.
+-- Labels with one text are the same.
 use Rattle.std.proofs.Common.{◌≡◌, ◌<◌, ◌≤◌, ◌==◌, ℕ, List, [], ◌∷◌, ◌++◌, length, Bool, true, false, All, map, Result, Ok, Err, IfOk, Bor, ne_eqb, sym, ◌∙◌, ap, arith, refl, inl, inr, append_assoc}
 use Rattle.std.proofs.Math.ListN.{get_or}
 use Rattle.std.specs.List.{join_with_byte, list_all}

@@ -1,4 +1,4 @@
--- The parts of a line are told apart by single spaces.
+-- The parts of a line are separated by single spaces.
 use Rattle.std.proofs.Common.{◌≡◌, ◌<◌, ◌^◌, ◌==◌, ℕ, ℤ, List, [], ◌∷◌, ◌++◌, drop, All, false, codes, refl, sym, ap, ◌∙◌, subst, inl, inr, arith, ne_eqb, FitsSigned, w64, append_assoc}
 use Rattle.std.proofs.Math.ListN.{get_or}
 use Rattle.std.proofs.lemmas.List.Elements.{All-nil, All-cons}

@@ -28,7 +28,7 @@ value_more text i number within range e =
 pub digits_are_more : (text : List ℕ) (i : ℕ) → i < length text → IsInRange 48 57 (get_or text i 0) → AllDigits 10 (take i text) → AllDigits 10 (take (i + 1) text)
 digits_are_more text i within range h = digits_more 10 text i within h (omega (arith, digit_value_digit (get_or text i 0) range))
 
--- where a beginning is too great, the whole is
+-- if a beginning is too great, the whole is
 pub too_great : (text : List ℕ) (n i number : ℕ) → i < length text → IsInRange 48 57 (get_or text i 0) → number ≡ digits_value 10 (take i text)
     → 2 ^ 64 ≤ number * 10 + (get_or text i 0 - 48) → n < 2 ^ 64 → IsNumber text n → ⊥
 too_great text n i number within range e great small h =

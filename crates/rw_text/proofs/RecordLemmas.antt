@@ -42,7 +42,7 @@ nothing_left text =
 pub record_one : (line rec other : List ℕ) → IsRecordOf line rec → IsRecordOf line other → rec ≡ other
 record_one line rec other h i = h.is ∙ ap record_of (line_one line h.said i.said h.is_line i.is_line) ∙ sym i.is
 
--- so none where it is too long
+-- so none if it is too long
 pub too_long : (line : List ℕ) (said : Line) (rec : List ℕ) → IsLine line said → rec ≡ record_of said → 16 * 1024 * 1024 < length rec → (other : List ℕ) → IsRecordOf line other → ⊥
 too_long line said rec is e long other h =
     let same : rec ≡ other = e ∙ ap record_of (line_one line said h.said is h.is_line) ∙ sym h.is in

@@ -1,4 +1,4 @@
--- A text before and behind a byte.
+-- A text before and after a byte.
 use Rattle.std.proofs.Common.{◌≡◌, ◌<◌, ◌==◌, ℕ, List, [], ◌∷◌, ◌++◌, length, All, false, sym, arith, eq-eqb, refl}
 use Rattle.std.proofs.Math.Seq.{get_or-append_seam}
 use Rattle.std.proofs.Math.ListN.{get_or}
@@ -12,7 +12,7 @@ not_without byte text front rest none e =
     let at : get_or text (length front) 0 ≡ byte = rw e (get_or-append_seam front byte rest 0) in
     both_ways (get_or text (length front) 0 == byte) (none (length front) 0 within) (eq-eqb (get_or text (length front) 0) byte at)
 
--- the texts before and behind the first of these bytes are just these
+-- the texts before and after the first of these bytes are just these
 pub split_unique : (byte : ℕ) (front other rest more : List ℕ) → All (λ b. (b == byte) ≡ false) front → All (λ b. (b == byte) ≡ false) other
     → front ++ byte ∷ rest ≡ other ++ byte ∷ more → (front ≡ other) × (rest ≡ more)
 split_unique byte [] [] rest more f g e = (refl, cc)

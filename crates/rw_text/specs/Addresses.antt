@@ -1,4 +1,4 @@
--- HOST:PORT, as a word of the command line.
+-- HOST:PORT, as a command-line argument.
 use Rattle.std.specs.Prelude.{◌≡◌, ◌≢◌, ◌⊎◌, ℕ, ◌<◌, ◌≤◌, List, [], ◌∷◌, ◌++◌}
 use Rattle.rw_text.specs.Numbers.{IsNumber}
 
@@ -14,6 +14,6 @@ pub record IsAddress (text host : List ℕ) (port : ℕ) : Type 0 where
   pub parts : text ≡ host ++ 58 ∷ digits
   pub is_port : IsPort digits port
 
--- what stands between the brackets of a host, or a host that has none around it
+-- what is between the brackets of a host, or a host that has no brackets around it
 abbrev pub IsName : List ℕ → List ℕ → Type 0
 IsName host name = (host ≡ 91 ∷ name ++ 93 ∷ []) ⊎ ((host ≡ name) × ((inner : List ℕ) → host ≢ 91 ∷ inner ++ 93 ∷ []))

@@ -22,7 +22,7 @@ is_digit c = is_some (digit_value c)
 abbrev pub is_white_space : ℕ → Bool
 is_white_space c = c == 32 || c == 9 || c == 13 || c == 10
 
--- no digit and no white space
+-- neither a digit nor white space
 abbrev pub is_foreign : ℕ → Bool
 is_foreign c = not (is_digit c || is_white_space c)
 
@@ -30,23 +30,24 @@ is_foreign c = not (is_digit c || is_white_space c)
 abbrev pub values : List ℕ → List ℕ
 values text = filter_map digit_value text
 
--- the bytes of pairs of digits, where no digit is left over
+-- the bytes of pairs of digits, if no digit is left over
 unfoldable pub bytes_of : List ℕ → Option (List ℕ)
 bytes_of [] = Some []
 bytes_of (digit ∷ []) = None
 bytes_of (high ∷ low ∷ rest) = option_map (λ bytes. (high * 16 + low) ∷ bytes) (bytes_of rest)
 
--- the line on which stands what follows a text, counted from 1; LF ends a line, and nothing else does
+-- the line in which the text after this one begins, counted from 1; LF ends a line, and nothing
+-- else does
 abbrev pub line_after : List ℕ → ℕ
 line_after text = 1 + count_by (λ c. c == 10) text
 
--- the bytes, or else the line at fault
+-- the bytes, or the line at fault
 abbrev pub bytes_or_line : Option (List ℕ) → ℕ → Result (List ℕ) ℕ
 bytes_or_line (Some bytes) line = Ok bytes
 bytes_or_line None line = Err line
 
--- What a text with white space anywhere stands for. The line at fault is that of the first foreign character, and else, where
--- the digits are odd in number, that of the last digit.
+-- What a text with white space anywhere stands for. The line at fault is that of the first foreign
+-- character, or, if the digits are odd in number, that of the last digit.
 unfoldable pub read_text : List ℕ → Result (List ℕ) ℕ
 read_text text =
     if list_any is_foreign text then Err (line_after (before_first is_foreign text))

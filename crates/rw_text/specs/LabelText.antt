@@ -3,7 +3,7 @@ use Rattle.std.specs.Prelude.{ℕ, List, [], ◌∷◌, ◌++◌, map, flat_map,
 use Rattle.std.specs.List.{join_with_byte}
 use Rattle.rw_types.specs.Labels.{Label, Labels, is_metric_name}
 
--- a byte in quotes: backslash, quote and newline stand as `\\`, `\"` and `\n`
+-- a byte in quotes: backslash, quote and newline are written `\\`, `\"` and `\n`
 abbrev pub escaped : ℕ → List ℕ
 escaped b =
     if b == 92 then 92 ∷ 92 ∷ []
@@ -15,7 +15,7 @@ escaped b =
 unfoldable pub quoted : List ℕ → List ℕ
 quoted text = 34 ∷ flat_map escaped text ++ 34 ∷ []
 
--- the name of a label: bare where it is `[a-zA-Z_:][a-zA-Z0-9_:]*`, and else in quotes
+-- the name of a label: bare if it is `[a-zA-Z_:][a-zA-Z0-9_:]*`, and otherwise in quotes
 unfoldable pub name_text : List ℕ → List ℕ
 name_text name = if is_metric_name name then name else quoted name
 

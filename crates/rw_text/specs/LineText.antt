@@ -10,7 +10,8 @@ use Rattle.rw_text.specs.ValueText.{IsValue}
 use Rattle.rw_text.specs.declared.line.LogLine.{LogLine}
 use Rattle.rw_text.specs.declared.line.LogLine.TheVariants as rust
 
--- what a line says: a definition, a sample as (reference, timestamp, word), or the bytes of a record
+-- what a line says: a definition, a sample as (reference, timestamp, word), or the bytes of a
+-- record
 pub data Line : Type 0 where
   series : ℕ → Labels → Line
   sample : ℕ → ℤ → ℕ → Line

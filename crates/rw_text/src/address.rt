@@ -1,4 +1,4 @@
-//! HOST:PORT, the address of a receiver as a word of the command line.
+//! HOST:PORT, the address of a receiver as a command-line argument.
 
 ghost use Rattle.std.specs.Prelude.{◌≡◌, ℕ, List, MatchOption};
 ghost use Rattle.rw_text.specs.Addresses.{IsPort, IsAddress, IsName};
@@ -27,7 +27,8 @@ fn port_of(digits: &[u8]) -> Option<u16>
 }
 
 impl<'a> Address<'a> {
-    /// The host without brackets around it, in which an IPv6 address may stand (RFC 3986, section 3.2.2).
+    /// Returns the host without brackets around it, in which an IPv6 address may be (RFC 3986,
+    /// section 3.2.2).
     pub fn name(&self) -> &'a str
         ensures { IsName self.now.host.now result.now }
     {
@@ -41,8 +42,8 @@ impl<'a> Address<'a> {
     }
 }
 
-/// Reads HOST:PORT, which is split at its last colon, so that a host may hold colons (`::1`, `[::1]`). The port is 1 to 65,535, in decimal
-/// digits; `None` for any other text.
+/// Reads HOST:PORT, which is split at its last colon, so that a host may contain colons (`::1`,
+/// `[::1]`). The port is 1 to 65,535, in decimal digits. Returns `None` for any other text.
 pub fn read_address(text: &str) -> Option<Address<'_>>
     ensures { MatchOption result
         ((host : List ℕ) (port : ℕ) → IsAddress text.now host port → ⊥)

@@ -4,7 +4,7 @@ ghost use Rattle.std.specs.Prelude.{◌≡◌, ◌==◌, ℕ, List, [], ◌∷�
 
 use std::alloc::AllocError;
 
-/// What follows a beginning, where the text has it.
+/// Returns what follows a prefix, if the text has it.
 pub(crate) fn after<'a>(text: &'a [u8], beginning: &[u8]) -> Option<&'a [u8]>
     ensures { MatchOption result
         ((rest : List ℕ) → text.now ≡ beginning.now ++ rest → ⊥)
@@ -13,7 +13,7 @@ pub(crate) fn after<'a>(text: &'a [u8], beginning: &[u8]) -> Option<&'a [u8]>
     text.strip_prefix(beginning)
 }
 
-/// The texts before and after the first `byte` in `text`; `None` where there is none.
+/// Returns the texts before and after the first `byte` in `text`, or `None` if there is none.
 pub fn split_at_byte(text: &[u8], byte: u8) -> Option<(&[u8], &[u8])>
     ensures { MatchOption result
         ((front rest : List ℕ) → text.now ≡ front ++ byte ∷ rest → ⊥)

@@ -6,7 +6,7 @@ ghost use Rattle.rw_text.specs.HexText.{digit_value, is_digit, is_foreign, value
 
 use std::alloc::{AllocError, Global};
 
-/// The value of a digit, `0` to `9` or `a` to `f`.
+/// Returns the value of a digit, `0` to `9` or `a` to `f`.
 pub(crate) fn digit_value(c: u8) -> Option<u8>
     ensures value { result ≡ digit_value c }
     ensures small { IfSome result (λ v. v < 16) }
@@ -24,14 +24,15 @@ pub(crate) fn is_digit(c: u8) -> bool
     digit_value(c).is_some()
 }
 
-/// Whether this is neither a digit nor white space.
+/// Returns whether this is neither a digit nor white space.
 pub(crate) fn is_foreign(c: u8) -> bool
     ensures { result ≡ is_foreign c }
 {
     !(is_digit(c) || matches!(c, b' ' | b'\t' | b'\r' | b'\n'))
 }
 
-/// The bytes of the pairs of digits, where no digit is left over. All other characters are passed over.
+/// Returns the bytes of the pairs of digits, if no digit is left over. All other characters are
+/// skipped.
 pub(crate) fn pairs(alloc: Global, text: &[u8]) -> Result<Option<Vec<u8>>, AllocError>
     ensures { IfOk result (λ r. option_map (λ v. v.items) r ≡ bytes_of (values text.now)) }
 {

@@ -9,7 +9,8 @@ use std::fmt;
 pub enum HexFault {
     /// Memory ran out.
     OutOfMemory,
-    /// The line, counted from 1, of the first character that is neither a digit nor white space; or else of the last digit, where their number is odd.
+    /// The line, counted from 1, of the first character that is neither a digit nor white space; or
+    /// else of the last digit, if their number is odd.
     Line(u64),
 }
 

@@ -10,7 +10,7 @@ use crate::hex_digits::{is_digit, is_foreign, pairs};
 use crate::hex_fault::HexFault;
 use std::alloc::{AllocError, Global};
 
-/// The line on which stands what follows a text.
+/// Returns the number of the line in which the text after this one begins.
 fn line_after(front: &[u8]) -> u64
     requires { length front.now + 1 < 2 ^ 64 }
     ensures { result ≡ line_after front.now }
@@ -18,7 +18,7 @@ fn line_after(front: &[u8]) -> u64
     1 + front.iter().filter(|c| **c == b'\n').count() as u64
 }
 
-/// The place of the first character that is neither a digit nor white space.
+/// Returns the place of the first character that is neither a digit nor white space.
 fn first_foreign(text: &[u8]) -> Option<usize>
     ensures { MatchOption result
         (EachIndex text.now (λ k. is_foreign (slice_index text.now k) ≡ false))
@@ -28,7 +28,7 @@ fn first_foreign(text: &[u8]) -> Option<usize>
     text.iter().position(|c| is_foreign(*c))
 }
 
-/// The place of the last digit.
+/// Returns the place of the last digit.
 fn last_digit(text: &[u8]) -> Option<usize>
     ensures { MatchOption result
         (EachIndex text.now (λ k. is_digit (slice_index text.now k) ≡ false))
@@ -38,7 +38,7 @@ fn last_digit(text: &[u8]) -> Option<usize>
     text.iter().rposition(|c| is_digit(*c))
 }
 
-/// The line of the last digit.
+/// Returns the line of the last digit.
 fn last_digit_line(text: &[u8]) -> u64
     ensures { result ≡ line_after (before_last is_digit text.now) }
 {
@@ -52,7 +52,8 @@ fn are_digits(text: &[u8]) -> bool
     text.iter().all(|c| is_digit(*c))
 }
 
-/// The bytes that a whole text of lower case digits stands for. Spaces, tabs, CR and LF may stand anywhere in it.
+/// Returns the bytes that a whole text of lower case digits stands for. Spaces, tabs, CR and LF may
+/// be anywhere in it.
 pub fn read_hex(alloc: Global, text: &[u8]) -> Result<Vec<u8>, HexFault>
     ensures bytes { IfOk result (λ v. read_text text.now ≡ Ok v.items) }
     ensures fault { IfErr result (IsFaultOf text.now) }
@@ -66,8 +67,8 @@ pub fn read_hex(alloc: Global, text: &[u8]) -> Result<Vec<u8>, HexFault>
     }
 }
 
-/// The bytes that a text of lower case digits alone stands for; `None` where another character stands in it, or their number is odd. The empty
-/// text stands for no bytes.
+/// Returns the bytes that a text of lower case digits alone stands for, or `None` if another
+/// character is in it, or their number is odd. The empty text stands for no bytes.
 pub fn read_digits(alloc: Global, text: &[u8]) -> Result<Option<Vec<u8>>, AllocError>
     ensures { IfOk result (λ r. option_map (λ v. v.items) r ≡ read_digits text.now) }
 {

@@ -10,7 +10,7 @@ use crate::quotes::read_quoted;
 use rw_types::{RawLabels, is_metric_name};
 use std::alloc::Global;
 
-/// Reads a name in quotes that could not be bare, and the `=` behind it.
+/// Reads a name in quotes that could not be bare, and the `=` after it.
 fn read_quoted_name<'a>(text: &'a [u8], out: &mut Vec<u8>) -> Result<&'a [u8], TextFault>
     ensures ok { IfOk result (λ rest. (text.now ≡ quoted out.new.items ++ 61 ∷ rest.now)
         × (is_metric_name out.new.items ≡ false)) }
@@ -28,7 +28,7 @@ fn read_quoted_name<'a>(text: &'a [u8], out: &mut Vec<u8>) -> Result<&'a [u8], T
     }
 }
 
-/// Reads a bare name and the `=` behind it.
+/// Reads a bare name and the `=` after it.
 fn read_bare_name<'a>(text: &'a [u8], out: &mut Vec<u8>) -> Result<&'a [u8], TextFault>
     ensures ok { IfOk result (λ rest. (text.now ≡ out.new.items ++ 61 ∷ rest.now)
         × (is_metric_name out.new.items ≡ true)) }
@@ -47,7 +47,7 @@ fn read_bare_name<'a>(text: &'a [u8], out: &mut Vec<u8>) -> Result<&'a [u8], Tex
     Ok(rest)
 }
 
-/// Reads the name of a label and the `=` behind it.
+/// Reads the name of a label and the `=` after it.
 fn read_name<'a>(text: &'a [u8], out: &mut Vec<u8>) -> Result<&'a [u8], TextFault>
     ensures ok { IfOk result (λ rest. text.now ≡ name_text out.new.items ++ 61 ∷ rest.now) }
     ensures err { result ≡ Err TextFault.NotOfForm → (name rest : List ℕ)
@@ -104,7 +104,8 @@ impl LabelReader {
     }
 }
 
-/// Reads labels in braces: `{name="value",..}`. In quotes `\\`, `\"` and `\n` stand for backslash, quote and LF; a name that can stand without quotes must.
+/// Reads labels in braces: `{name="value",..}`. In quotes `\\`, `\"` and `\n` stand for backslash,
+/// quote and LF. A name that can be written without quotes must be.
 pub fn read_labels(alloc: Global, text: &[u8]) -> Result<RawLabels, TextFault>
     ensures ok { IfOk result (λ ls. text.now ≡ labels_text ls) }
     ensures err { result ≡ Err TextFault.NotOfForm → (ls : Labels) → text.now ≡ labels_text ls → ⊥ }

@@ -1,4 +1,5 @@
-//! Laws: what is printed is read back as the same value, and each text stands for one value. Each function has an empty body: its contract is the law.
+//! Laws: what is printed is read back as the same value, and each text stands for one value. Each
+//! function has an empty body: its contract is the law.
 
 ghost use Rattle.std.specs.Prelude.{◌≡◌, ◌^◌, ◌<◌, ℕ, ℤ, List, FitsSigned, decimal};
 ghost use Rattle.std.specs.Fmt.{signed_decimal};

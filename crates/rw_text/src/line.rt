@@ -7,7 +7,8 @@ use rw_types::{RawLabels, Word};
 pub enum LogLine {
     /// `series REF LABELS`: the definition of a series.
     Series { reference: u64, labels: RawLabels },
-    /// `sample REF T VALUE`: a record of one sample, with its time `t` in milliseconds since the Unix epoch and its value `word`.
+    /// `sample REF T VALUE`: a record of one sample, with its time `t` in milliseconds since the
+    /// Unix epoch and its value `word`.
     Sample { reference: u64, t: i64, word: Word },
     /// `raw HEX`: the bytes of a record, at least one.
     Raw(Vec<u8>),

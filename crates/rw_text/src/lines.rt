@@ -20,7 +20,7 @@ fn is_utf8_text(bytes: &[u8]) -> bool
     str::from_utf8(bytes).is_ok()
 }
 
-/// What stands behind `series `.
+/// Returns what follows `series `.
 fn read_series(alloc: Global, text: &[u8]) -> Result<LogLine, TextFault>
     ensures ok { IfOk result (λ line. Says (codes "series " ++ text.now) (line_of line)) }
     ensures err { result ≡ Err TextFault.NotOfForm → (reference : ℕ) (labels : Labels)
@@ -36,7 +36,7 @@ fn read_series(alloc: Global, text: &[u8]) -> Result<LogLine, TextFault>
     Ok(LogLine::Series { reference, labels })
 }
 
-/// What stands behind `sample `.
+/// Returns what follows `sample `.
 fn read_sample(text: &[u8]) -> Option<LogLine>
     ensures { MatchOption result
         ((reference : ℕ) (t : ℤ) (word : ℕ) → IsSample text.now reference t word → ⊥)
@@ -60,7 +60,7 @@ fn read_sample(text: &[u8]) -> Option<LogLine>
     Some(LogLine::Sample { reference, t, word })
 }
 
-/// What stands behind `raw `.
+/// Returns what follows `raw `.
 fn read_raw(alloc: Global, text: &[u8]) -> Result<LogLine, TextFault>
     ensures ok { IfOk result (λ line. Says (codes "raw " ++ text.now) (line_of line)) }
     ensures err { result ≡ Err TextFault.NotOfForm → (bytes : List ℕ) → IsRaw text.now bytes → ⊥ }
@@ -76,7 +76,8 @@ fn read_raw(alloc: Global, text: &[u8]) -> Result<LogLine, TextFault>
     }
 }
 
-/// Reads a line of log text, without its LF: `series REF LABELS`, `sample REF T VALUE` or `raw HEX`, with single spaces. The line has to be UTF-8.
+/// Reads a line of log text, without its LF: `series REF LABELS`, `sample REF T VALUE` or `raw
+/// HEX`, with single spaces. The line has to be UTF-8.
 pub fn read_line(alloc: Global, line: &[u8]) -> Result<LogLine, TextFault>
     ensures ok { IfOk result (λ read. IsLine line.now (line_of read)) }
     ensures err { result ≡ Err TextFault.NotOfForm → (said : Line) → IsLine line.now said → ⊥ }

@@ -9,7 +9,7 @@ use crate::bytes::after;
 use itoa::Buffer;
 use std::alloc::AllocError;
 
-/// The number behind the digits of `front` once this digit follows them.
+/// Returns the number after the digits of `front` once this digit follows them.
 fn with_digit(front: u64, digit: u8) -> Option<u64>
     requires { (48 ≤ digit) × (digit ≤ 57) }
     ensures { MatchOption result (2 ^ 64 ≤ front * 10 + (digit - 48))
@@ -18,7 +18,8 @@ fn with_digit(front: u64, digit: u8) -> Option<u64>
     front.checked_mul(10)?.checked_add((digit - b'0') as u64)
 }
 
-/// Reads decimal digits, zeros in front allowed, as a number below 2^64; `None` for any other text.
+/// Reads decimal digits, leading zeros allowed, as a number below 2^64. Returns `None` for any
+/// other text.
 pub fn read_number(text: &[u8]) -> Option<u64>
     ensures { MatchOption result ((n : ℕ) → n < 2 ^ 64 → IsNumber text.now n → ⊥)
         (IsNumber text.now) }
@@ -39,7 +40,8 @@ pub fn read_number(text: &[u8]) -> Option<u64>
     Some(number)
 }
 
-/// Reads decimal digits, with or without a minus before them, as a number from -2^63 to 2^63 - 1; `None` for any other text.
+/// Reads decimal digits, with or without a minus before them, as a number from -2^63 to 2^63 - 1.
+/// Returns `None` for any other text.
 pub fn read_integer(text: &[u8]) -> Option<i64>
     ensures { MatchOption result ((z : ℤ) → FitsSigned w64 z → IsInteger text.now z → ⊥)
         (IsInteger text.now) }
@@ -50,7 +52,7 @@ pub fn read_integer(text: &[u8]) -> Option<i64>
     }
 }
 
-/// Appends the decimal digits of `n`, without zeros in front. An `Err` leaves `out` as it was.
+/// Appends the decimal digits of `n`, without leading zeros. An `Err` leaves `out` as it was.
 pub fn push_number(out: &mut Vec<u8>, n: u64) -> Result<(), AllocError>
     ensures ok { OnOk result (out.new.items ≡ out.old.items ++ decimal n) }
     ensures err { OnErr result (out.new.items ≡ out.old.items) }
@@ -59,7 +61,8 @@ pub fn push_number(out: &mut Vec<u8>, n: u64) -> Result<(), AllocError>
     out.extend_from_slice(buffer.format(n).as_bytes())
 }
 
-/// Appends the decimal digits of `z`, with a minus before them where it is negative. An `Err` leaves `out` as it was.
+/// Appends the decimal digits of `z`, with a minus before them if it is negative. An `Err` leaves
+/// `out` as it was.
 pub fn push_integer(out: &mut Vec<u8>, z: i64) -> Result<(), AllocError>
     ensures ok { OnOk result (out.new.items ≡ out.old.items ++ signed_decimal z) }
     ensures err { OnErr result (out.new.items ≡ out.old.items) }

@@ -66,7 +66,7 @@ fn put_label(out: &mut Vec<u8>, label: &(String, String)) -> Result<(), AllocErr
     put_quoted(out, label.1.as_bytes())
 }
 
-/// Adds a label behind another one.
+/// Adds a label after another one.
 fn put_next(out: &mut Vec<u8>, label: &(String, String)) -> Result<(), AllocError>
     ensures ok { OnOk result
         (out.new.items ≡ out.old.items ++ 44 ∷ label_text (text_label label.now)) }
@@ -76,7 +76,7 @@ fn put_next(out: &mut Vec<u8>, label: &(String, String)) -> Result<(), AllocErro
     put_label(out, label)
 }
 
-/// Adds the labels behind the first one, and the closing brace.
+/// Adds the labels after the first one, and the closing brace.
 fn put_more(out: &mut Vec<u8>, labels: &[(String, String)]) -> Result<(), AllocError>
     ensures ok { OnOk result (out.new.items
         ≡ out.old.items ++ flat_map (λ l. 44 ∷ label_text (text_label l)) labels.now ++ 125 ∷ []) }
@@ -104,7 +104,8 @@ fn put_labels(out: &mut Vec<u8>, labels: &[(String, String)]) -> Result<(), Allo
     }
 }
 
-/// Appends the labels of a label set: `{name="value",..}`. A name that needs them stands in quotes. An `Err` leaves `out` as it was.
+/// Appends the labels of a label set: `{name="value",..}`. A name is in quotes only if it needs
+/// them. An `Err` leaves `out` as it was.
 pub fn push_labels(out: &mut Vec<u8>, labels: &LabelSet) -> Result<(), AllocError>
     ensures ok { OnOk result (out.new.items ≡ out.old.items ++ labels_text labels.now) }
     ensures err { OnErr result (out.new.items ≡ out.old.items) }

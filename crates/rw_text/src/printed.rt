@@ -1,4 +1,4 @@
-//! What the program says of a fault.
+//! What the program prints of a fault.
 
 ghost use Rattle.std.specs.Prelude.{◌≡◌};
 ghost use Rattle.rw_text.specs.Printed.{exit_status};
@@ -30,7 +30,8 @@ impl fmt::Display for ToolFault {
 impl Error for ToolFault {}
 
 impl ToolFault {
-    /// The exit status of the program: 1 for a fault of the data, 3 for want of memory, 4 for a device.
+    /// Returns the exit status of the program: 1 for a fault of the data, 3 if memory ran out, 4
+    /// for a device.
     pub fn exit_status(self) -> u8
         ensures { result ≡ exit_status self }
     {

@@ -6,7 +6,7 @@ ghost use Rattle.rw_text.specs.LabelText.{escaped, quoted};
 use crate::bytes::{after, push_byte};
 use crate::fault::TextFault;
 
-/// The byte that a text behind a backslash begins with, and what follows it.
+/// Returns the byte that the text after a backslash begins with, and what follows it.
 fn read_behind_backslash(text: &[u8]) -> Option<(u8, &[u8])>
     ensures { MatchOption result
         ((b : ℕ) (rest : List ℕ) → 92 ∷ text.now ≡ escaped b ++ rest → ⊥)
@@ -24,7 +24,7 @@ fn read_behind_backslash(text: &[u8]) -> Option<(u8, &[u8])>
     }
 }
 
-/// The byte that the inside of quotes begins with, and what follows it.
+/// Returns the byte that the text between quotes begins with, and what follows it.
 fn read_byte(text: &[u8]) -> Option<(u8, &[u8])>
     ensures { MatchOption result
         ((b : ℕ) (rest : List ℕ) → text.now ≡ escaped b ++ rest → ⊥)

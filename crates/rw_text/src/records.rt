@@ -11,10 +11,11 @@ use crate::lines::read_line;
 use rw_wal_write::{sample_record, series_record};
 use std::alloc::{AllocError, Global};
 
-/// No record may have more bytes.
+/// The most bytes of a record.
 const MAX_RECORD_BYTES: usize = 16 * 1024 * 1024;
 
-/// The first line of a text, and what follows its LF. Only LF ends a line, and the last one may lack it.
+/// Returns the first line of a text, and what follows its LF. Only LF ends a line, and the last one
+/// may lack it.
 pub fn first_line(text: &[u8]) -> (&[u8], &[u8])
     requires { 0 < length text.now }
     ensures parts { lines text.now ≡ result.0.now ∷ lines result.1.now }
@@ -26,7 +27,7 @@ pub fn first_line(text: &[u8]) -> (&[u8], &[u8])
     }
 }
 
-/// The record that a line stands for.
+/// Returns the record that a line stands for.
 fn into_record(alloc: Global, line: LogLine) -> Result<Vec<u8>, AllocError>
     ensures { IfOk result (λ rec. rec.items ≡ record_of (line_of line)) }
 {
@@ -37,7 +38,8 @@ fn into_record(alloc: Global, line: LogLine) -> Result<Vec<u8>, AllocError>
     }
 }
 
-/// The record of a line of log text, without its LF: `series REF LABELS`, `sample REF T VALUE` or `raw HEX`. It has 16 MiB at most.
+/// Returns the record of a line of log text, without its LF: `series REF LABELS`, `sample REF T
+/// VALUE` or `raw HEX`. It has 16 MiB at most.
 pub fn read_record(alloc: Global, line: &[u8]) -> Result<Vec<u8>, TextFault>
     ensures ok { IfOk result (λ rec. IsRecordOf line.now rec.items) }
     ensures err { result ≡ Err TextFault.NotOfForm → (rec : List ℕ) → IsRecordOf line.now rec → ⊥ }

@@ -13,7 +13,7 @@ use byteorder::{BigEndian, ByteOrder};
 use rw_types::Word;
 use std::alloc::AllocError;
 
-/// The sixteen hexadecimal digits of a word.
+/// Returns the sixteen hexadecimal digits of a word.
 fn digits_of(word: u64) -> [u8; 16]
     ensures { result ≡ hex_text (big_bytes 8 word) }
 {
@@ -24,7 +24,7 @@ fn digits_of(word: u64) -> [u8; 16]
     digits
 }
 
-/// The word that eight hexadecimal pairs name, in digits of either case.
+/// Returns the word that eight hexadecimal pairs spell, in digits of either case.
 fn word_of_digits(digits: &[u8]) -> Option<u64>
     ensures { (word : ℕ) → word < 2 ^ 64 → digits.now ≡ hex_text (big_bytes 8 word)
         → result ≡ Some word }
@@ -36,7 +36,7 @@ fn word_of_digits(digits: &[u8]) -> Option<u64>
     Some(BigEndian::read_u64(&bytes))
 }
 
-/// The word that sixteen lower case hexadecimal digits name.
+/// Returns the word that sixteen lower case hexadecimal digits spell.
 fn read_word(digits: &[u8]) -> Option<u64>
     ensures { MatchOption result
         ((word : ℕ) → word < 2 ^ 64 → digits.now ≡ hex_text (big_bytes 8 word) → ⊥)
@@ -49,7 +49,7 @@ fn read_word(digits: &[u8]) -> Option<u64>
     Some(word)
 }
 
-/// The word of a whole number in decimal digits.
+/// Returns the word of a whole number in decimal digits.
 fn read_whole(text: &[u8]) -> Option<Word>
     ensures { MatchOption result
         ((word : ℕ) (m : ℤ) → IsInteger text.now m → word_of_int m ≡ Some word → ⊥)
@@ -61,8 +61,8 @@ fn read_whole(text: &[u8]) -> Option<Word>
     }
 }
 
-/// Reads the value of a sample: a decimal whole number from -2^53 to 2^53, or `0x` and the sixteen lower case hexadecimal digits of its 64 bits;
-/// `None` for any other text.
+/// Reads the value of a sample: a decimal whole number from -2^53 to 2^53, or `0x` and the sixteen
+/// lower case hexadecimal digits of its 64 bits. Returns `None` for any other text.
 pub fn read_value(text: &[u8]) -> Option<Word>
     ensures { MatchOption result ((word : ℕ) → word < 2 ^ 64 → IsValue text.now word → ⊥)
         (IsValue text.now) }
@@ -84,8 +84,8 @@ fn push_word(out: &mut Vec<u8>, word: u64) -> Result<(), AllocError>
     out.extend_from_slice(&text)
 }
 
-/// Appends the text of a value: a whole number from -2^53 to 2^53 in decimal, any other value as `0x` and sixteen hexadecimal digits. An `Err`
-/// leaves `out` as it was.
+/// Appends the text of a value: a whole number from -2^53 to 2^53 in decimal, any other value as
+/// `0x` and sixteen hexadecimal digits. An `Err` leaves `out` as it was.
 #[tactic(auto, unfolding(crate::specs::ValueText::value_text))]
 pub fn push_value(out: &mut Vec<u8>, value: Word) -> Result<(), AllocError>
     ensures ok { OnOk result (out.new.items ≡ out.old.items ++ value_text value) }

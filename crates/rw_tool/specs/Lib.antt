@@ -12,7 +12,7 @@ pub use Rattle.rw_log_commands.specs.Taking
 pub use Rattle.rw_replay.specs.Played
 pub use Rattle.rw_replay.specs.Runs
 pub use Rattle.rw_replay.specs.Writing
-pub use Rattle.rw_send.specs.Halting
+pub use Rattle.rw_send.specs.FeedErrors
 pub use Rattle.rw_send.specs.Segments
 pub use Rattle.rw_send.specs.Steps
 pub use Rattle.rw_log_folder.specs.Folders

@@ -1,13 +1,13 @@
-//! The engines of the program `rwship`, one for each of its commands. This crate passes on what the crates of the engines have.
+//! The engines of the program `rwship`, one for each of its commands. This crate re-exports what
+//! the crates of the engines have.
 #![tactic(auto)]
 
-pub use rw_follow::{Segments, Watch};
+pub use rw_follow::{Segments, StopRequest, StopSignal, Watch};
 pub use rw_log_commands::{run_body, run_log, run_log_dir, run_plan};
 pub use rw_log_folder::{Folder, Open, Opened, SegmentFile, segment_files};
 pub use rw_metrics::{ReceiveCounters, SendCounters};
 pub use rw_receive::{Service, run_receive, run_receive_until};
 pub use rw_replay::run_replay;
-pub use rw_send::{Counted, FollowFault, StopFlag, TcpConnect, run_follow, run_send};
+pub use rw_send::{FollowFault, SendOptions, StopFlag, TcpConnect, run_follow, run_send};
 pub use rw_settings::{Settings, SettingsFault, read_settings};
-pub use rw_stop::Sign;
 pub use rw_text::ToolFault;

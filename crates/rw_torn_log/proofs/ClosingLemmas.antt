@@ -1,5 +1,5 @@
--- A last segment that is cut somewhere after its last whole record, and an empty one after it, change
--- no entries.
+-- A last segment that is cut somewhere after its last whole record, and an empty one after it,
+-- change no entries.
 use Rattle.std.proofs.Common.{◌≡◌, inl, inr, ℕ, zero, suc, ◌<◌, ◌≤◌, List, [], ◌∷◌, ◌++◌, length, take, drop, refl, sym, ap, ◌∙◌, subst, arith, append-nil, length-append, take-append-drop}
 use Rattle.std.proofs.lemmas.List.{take-take}
 use Rattle.rw_types.specs.declared.entry.Entry.{Entry}

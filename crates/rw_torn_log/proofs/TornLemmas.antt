@@ -1,4 +1,5 @@
--- A torn segment: its fragments are a beginning of those that were being written, and so are its entries.
+-- A torn segment: its fragments are a prefix of those that were being written, and so are its
+-- entries.
 use Rattle.std.proofs.Common.{◌≡◌, ℕ, zero, suc, ◌+◌, ◌-◌, ◌*◌, ◌/◌, ◌%◌, ◌<◌, ◌≤◌, List, [], ◌∷◌, ◌++◌, length, take, drop, Option, Some, None, true, false, ltb, refl, sym, ap, ◌∙◌, subst, inl, inr, arith, lt-ltb, le-ltb, le_refl, append_assoc, length-drop, take-append-drop, div-add-mod', mod-lt, mod-eq_of_lt}
 use Rattle.std.proofs.lemmas.Bool.{cases_lt}
 use Rattle.std.proofs.lemmas.List.{drop-drop, drop_all, drop-take, take-take}

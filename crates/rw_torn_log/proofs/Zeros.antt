@@ -64,7 +64,7 @@ are_zeros : (n : ℕ) (bs : List ℕ) → all_zero (take n bs) ≡ true → n �
 unfolding all_zero
 are_zeros n bs a h = let t = le-ltb (length bs) n h in rw (a, t) refl
 
--- whether zeros may stand at a place whose first byte is this
+-- whether zeros may be at a place whose first byte is this
 may_be : ℕ → ℕ → Bool
 may_be left b = nat_lt left 7 || eqb b 0
 
@@ -81,7 +81,7 @@ is_not : (x : Item) → is_zeros x ≡ false → x ≡ zeros → ⊥
 unfolding is_zeros
 is_not x f e = let t : is_zeros x ≡ true = ap is_zeros e in cc
 
--- zeros to a page's end are read wherever the same bytes stand
+-- zeros to a page's end are read wherever the same bytes are
 pub zeros_same : (left : ℕ) (c w : List ℕ) → item_at left c ≡ zeros → take left c ≡ take left w → left ≤ length w → 0 < left → item_at left w ≡ zeros
 unfolding item_at
 zeros_same zero c w e t g p = absurd (omega arith)

@@ -4,8 +4,8 @@ use Rattle.rw_journal.specs.Journal.{Segments}
 use Rattle.rw_journal.specs.Torn.{left_at}
 use Rattle.rw_wal_format.specs.Segments.{Kind, fragment, item_at}
 
--- The premise on CRC-32C, about one crash: no checksum is right by chance. Where a fragment is read
--- of what the crash left, the same fragment was written.
+-- The premise on CRC-32C, about one crash: no checksum is right by chance. If a fragment is read
+-- from what the crash left, the same fragment was written.
 abbrev pub NoChance : ℕ → List ℕ → List ℕ → Type 0
 NoChance page written left =
     (offset : ℕ) (kind : Kind) (d : List ℕ) → item_at (left_at page offset) (drop offset left) ≡ fragment kind d

@@ -34,8 +34,8 @@ pub fn a_torn_log_is_a_beginning<J: Journal>()
         × Begins (entries_of page left) (entries_of page (with_more old written)) }
 {}
 
-/// Law: if all segments of a log but the last one end between two records, the log has their entries,
-/// and then those of the last one.
+/// Law: if all segments of a log but the last one end between two records, the log has their
+/// entries, and then those of the last one.
 pub fn segments_add_up()
     ensures { (page : ℕ) (done : List (List ℕ)) (text last : List ℕ)
         → AllByRecursion (IsWhole page) done → IsWhole page text
@@ -43,8 +43,8 @@ pub fn segments_add_up()
         ≡ entries_of page (done ++ text ∷ []) ++ (segment page last).entries }
 {}
 
-/// Law: if the last segment of a log is cut after its last whole record and a next one is begun, the
-/// log has the entries that it had, and then those of the next one.
+/// Law: if the last segment of a log is cut after its last whole record and a next one is begun,
+/// the log has the entries that it had, and then those of the next one.
 pub fn a_cut_log_goes_on()
     ensures { (page : ℕ) (done : List (List ℕ)) (text next : List ℕ) (at : ℕ)
         → AllByRecursion (IsWhole page) done → IsCleanCut page text at
@@ -62,8 +62,8 @@ pub fn a_checked_cut_is_clean()
         → IsCleanCut page_size text at }
 {}
 
-/// Law: records that are written after those of the last segment add their entries, and change nothing
-/// before them.
+/// Law: records that are written after those of the last segment add their entries, and change
+/// nothing before them.
 pub fn records_add_entries()
     ensures { (done : Segments) (ds more : List (List ℕ)) (es fs : List Entry)
         → AllByRecursion (IsWhole page_size) done → AreRecords (ds ++ more)

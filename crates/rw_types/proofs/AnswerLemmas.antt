@@ -12,7 +12,7 @@ pub OnErr-always : {T E P : Type 0} (r : Result T E) → P → OnErr r P
 OnErr-always (Ok x) h = tt
 OnErr-always (Err e) h = h
 
--- a front that is no longer than what was read of the text stands in it
+-- a front that is no longer than what was read of the text is in it
 pub front_within : (buf more front rest : List ℕ) → buf ++ more ≡ front ++ rest → length front ≤ length buf →
     buf ≡ front ++ drop (length front) buf
 front_within buf more front rest e le =

@@ -10,19 +10,19 @@ pub none_is : {A : Type 0} (o : Option A) (P : Type 0) → P → IfNone o P
 none_is None P p = p
 none_is (Some x) P p = tt
 
--- the one at an index stands within all of them
+-- the one at an index is within all of them
 pub part_fits : {X : Type 0} (f : X → List ℕ) (xs : List X) (i : ℕ) (x : X) → i < length xs → x ≡ get_or xs i x → length (flat_map f (take i xs)) + length (f x) ≤ length (flat_map f xs)
 part_fits f xs i x lt e =
     let h = length-flat_map-take f xs i x lt in
     omega (arith, h, ap (λ (y : _). length (f y)) e)
 
--- the same behind a view of the items
+-- the same after a view of the items
 pub viewed_fits : {X Y : Type 0} (f : Y → List ℕ) (view : X → Y) (xs : List X) (i : ℕ) (x : X) → i < length xs → x ≡ get_or xs i x → length (flat_map f (map view (take i xs))) + length (f (view x)) ≤ length (flat_map f (map view xs))
 viewed_fits f view xs i x lt e =
     let h = part_fits (λ y. f (view y)) xs i x lt e in
     omega (arith, h, ap length (flat_map-map f view (take i xs)), ap length (flat_map-map f view xs))
 
--- so it has room behind the fields before it
+-- so it has room after the fields before it
 pub has_room : (len cap before part all start cap_now wanted : ℕ) → start + all ≤ cap → cap ≤ cap_now → before + part ≤ all → len ≡ start + before → wanted ≡ part → len + wanted ≤ cap_now
 has_room len cap before part all start cap_now wanted h le p e w = omega arith
 

@@ -47,7 +47,7 @@ unsorted f xs k i x y all next h here there e falls =
     let none : (rise (f x) (f y) && is_sorted (drop i (map f xs))) ≡ false = rw falls refl in
     cc
 
--- and where it rises, the others decide
+-- and if it rises, the others decide
 pub sorted_on : {A : Type 0} (f : A → Label) (xs : List A) (k i j : ℕ) (x y : A) (all : Bool) → i ≡ suc k → i < length xs
     → x ≡ get_or xs k x → y ≡ get_or xs i y → all ≡ is_sorted (drop k (map f xs)) → rise (f x) (f y) ≡ true
     → j ≡ i → all ≡ is_sorted (drop j (map f xs))

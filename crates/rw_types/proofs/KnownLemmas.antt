@@ -38,7 +38,7 @@ appends_keeps (Some x) None c bs p q = absurd p
 appends_keeps (Some x) (Some y) None bs p q = absurd q
 appends_keeps (Some x) (Some y) (Some z) bs p q = q ∙ p
 
--- known bytes stay where nothing happens
+-- known bytes stay if nothing happens
 pub keeps-same : (a : Option (List ℕ)) → Keeps a a
 keeps-same None = tt
 keeps-same (Some x) = refl

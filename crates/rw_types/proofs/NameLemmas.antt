@@ -39,7 +39,7 @@ all_true : {A : Type 0} (xs : List A) → list_all (λ x. true) xs ≡ true
 all_true [] = refl
 all_true (x ∷ xs) = all_true xs
 
--- no test of names is left where any is taken
+-- no test of names is left if any is taken
 utf8_by : (ls : Labels)
     → label_fault Utf8 ls ≡ by_tests (list_all is_text ls) (list_all (λ l. is_filled l.0) ls) true (list_all (λ l. is_filled l.1) ls)
     (is_sorted ls) (nat_lt 64 (length ls)) (nat_lt 16384 (text_len ls))
@@ -56,6 +56,6 @@ pub of_any_names : (names : Names) (ls : Labels) → label_fault names ls ≡ No
 of_any_names Legacy ls e = legacy_is_utf8 ls e
 of_any_names Utf8 ls e = e
 
--- and where any name is taken, all of them are
+-- and if any name is taken, all of them are
 pub all_well_named : {A : Type 0} (names : Names) (f : A → Label) (xs : List A) → names ≡ Utf8 → true ≡ list_all (λ x. is_well_named names (f x)) xs
 all_well_named names f xs e = sym (all_true xs) ∙ ap (λ n. list_all (λ x. is_well_named n (f x)) xs) (sym e)

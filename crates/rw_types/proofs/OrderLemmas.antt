@@ -1,4 +1,4 @@
--- The order of label sets tells apart all lists that are not the same.
+-- The order of label sets distinguishes all lists that are not the same.
 use Rattle.std.proofs.Common.{◌≡◌, List, map, true, ap, sym, ◌∙◌, ◌&&◌}
 use Rattle.std.specs.Cmp.{tied_itself, both_tied}
 use Rattle.std.specs.Cmp.Derive.Mapped.{lex_map}
@@ -11,11 +11,11 @@ use Rattle.rw_types.specs.Labels.{Labels, text_label}
 use Rattle.rw_types.specs.LabelOrder.{label_cmp, labels_cmp, labels_cmp-total, labels_eq}
 pub use Rattle.rw_types.specs.LabelOrder.{exact_labels, same_if_equal}
 
--- the same is not told apart
+-- the order calls a list equal to itself
 pub equal_if_same : (a b : Labels) → a ≡ b → is_eq (labels_cmp a b) ≡ true
 equal_if_same a b e = ap (λ x. is_eq (labels_cmp a x)) (sym e) ∙ ap is_eq (tied_itself labels_cmp-total a)
 
--- two labels are the same texts where the order does not tell them apart
+-- two labels are the same texts if the order calls them equal
 texts_tie : (x y : String Global × String Global) → (string_eq x.0 y.0 && string_eq x.1 y.1) ≡ eq_by_cmp (on text_label label_cmp) x y
 texts_tie x y =
     both_tied _ _ (slice_cmp nat_cmp (string_bytes x.0) (string_bytes y.0)) (slice_cmp nat_cmp (string_bytes x.1) (string_bytes y.1))

@@ -1,4 +1,4 @@
--- Lists that rise: their parts, and what stands at their places.
+-- Lists that rise: their parts, and what is at their places.
 use Rattle.std.proofs.Common.{◌≡◌, ℕ, zero, suc, ◌<◌, Bool, true, false, cond, List, [], ◌∷◌, ◌++◌, take, length, get_or, slice_get, Some, subst, arith}
 use Rattle.std.proofs.lemmas.Option.{same_Some}
 use Rattle.std.specs.Prelude.{filter}
@@ -15,12 +15,12 @@ module _ {X : Type 0} (before : X → X → Type 0) where
   Rises-right [] ys h = h
   Rises-right (x ∷ xs) ys h = Rises-right xs ys h.1
 
-  -- each of the first part stands before each of the second
+  -- each of the first part is before each of the second
   pub Rises-across : (xs ys : List X) → Rises before (xs ++ ys) → AllByRecursion (λ x. AllByRecursion (before x) ys) xs
   Rises-across [] ys h = tt
   Rises-across (x ∷ xs) ys h = (AllByRecursion-right (before x) xs ys h.0, Rises-across xs ys h.1)
 
-  -- behind all others one more may stand
+  -- after all others one more may be
   pub Rises-push : (xs : List X) (x : X) → Rises before xs → AllByRecursion (λ y. before y x) xs → Rises before (xs ++ x ∷ [])
   Rises-push [] x h all = (tt, tt)
   Rises-push (y ∷ xs) x h all = (AllByRecursion-push (before y) xs x h.0 all.0, Rises-push xs x h.1 all.1)
@@ -38,7 +38,7 @@ module _ {X : Type 0} (before : X → X → Type 0) where
   Rises-filter p [] h = tt
   Rises-filter p (x ∷ xs) h = rises_cond (p x) x (filter p xs) (AllByRecursion-filter (before x) p xs h.0) (Rises-filter p xs h.1)
 
-  -- of two places the earlier has what stands before
+  -- of two places the earlier has what is before
   pub Rises-at : (xs : List X) (j k : ℕ) (d : X) → Rises before xs → j < k → k < length xs → before (get_or xs j d) (get_or xs k d)
   Rises-at [] j k d h lt within = absurd (omega arith)
   Rises-at (x ∷ xs) j zero d h lt within = absurd (omega arith)

@@ -1,4 +1,4 @@
--- The order of timestamps, and numbers that an order tells apart.
+-- The order of timestamps, and numbers that an order distinguishes.
 use Rattle.std.specs.Cmp.{unsigned_tied}
 use Rattle.std.specs.Ordering.{nat_cmp, eq_by_cmp}
 use Rattle.std.proofs.Common.{◌≡◌, ℕ, ◌<◌, ℤ, pos, negsuc, int_lt, ltb, true, false, refl, ◌∙◌, arith}

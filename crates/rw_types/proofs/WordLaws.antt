@@ -39,7 +39,7 @@ fraction_none n k t h l =
     let z : n - 2 ^ 53 ≡ 0 = omega arith in
     rw e (rw z refl)
 
--- the fraction that stands below the exponent
+-- the fraction that is below the exponent
 abbrev pub fraction_of : ℕ → ℕ
 fraction_of n = (n - 2 ^ highest_bit n) * 2 ^ (52 - highest_bit n)
 

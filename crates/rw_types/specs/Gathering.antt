@@ -2,7 +2,7 @@
 use Rattle.std.specs.Prelude.{List, [], ◌∷◌, ◌++◌}
 use Rattle.rw_types.specs.declared.entry.Entry.{Entry}
 
--- what each entry gives, where these stand before them
+-- what each entry gives, if these come before them
 abbrev pub gather_from : {A : Type 0} → (List Entry → Entry → List A) → List Entry → List Entry → List A
 gather_from f before [] = []
 gather_from f before (e ∷ es) = f before e ++ gather_from f (before ++ e ∷ []) es

@@ -1,5 +1,6 @@
--- The canonical spelling of the labels of a series: the fields `labels` of a TimeSeries (Remote-Write 1.0; Protocol Buffers encoding).
--- Each is a Label, with the fields 1 name and 2 value; an empty string is not spelled.
+-- The canonical spelling of the labels of a series: the fields `labels` of a TimeSeries
+-- (Remote-Write 1.0; Protocol Buffers encoding). Each is a Label, with the fields 1 name and 2
+-- value; an empty string is not spelled.
 use Rattle.std.specs.Prelude.{ℕ, ◌+◌, ◌*◌, List, [], ◌∷◌, ◌++◌, length}
 use Rattle.std.specs.List.{flat_map}
 use Rattle.rw_codes.specs.Varint.{uvarint}

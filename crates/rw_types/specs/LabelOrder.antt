@@ -13,7 +13,7 @@ use Rattle.rw_types.specs.Labels.{Label, Labels}
 abbrev pub label_cmp : Label → Label → Ordering
 label_cmp = then_cmp (on (λ l. l.0) (slice_cmp nat_cmp)) (on (λ l. l.1) (slice_cmp nat_cmp))
 
--- label by label; a beginning comes before the whole
+-- label by label; a prefix comes before the whole
 abbrev pub labels_cmp : Labels → Labels → Ordering
 labels_cmp = slice_cmp label_cmp
 
@@ -46,6 +46,6 @@ exact_label = exact_pairs (slice_cmp nat_cmp) (slice_cmp nat_cmp) exact_bytes ex
 pub exact_labels : CmpEqualImpliesEq labels_cmp
 exact_labels = exact_lists label_cmp exact_label
 
--- what it does not tell apart is the same
+-- what it calls equal is the same
 pub same_if_equal : (a b : Labels) → is_eq (labels_cmp a b) ≡ true → a ≡ b
 same_if_equal a b e = exact_labels a b ((Equal-is (labels_cmp a b)).0 e)

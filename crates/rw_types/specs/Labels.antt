@@ -1,4 +1,5 @@
--- Labels, and when a list of them is a label set (the data model of Prometheus; Remote-Write 1.0, "Labels").
+-- Labels, and when a list of them is a label set (the data model of Prometheus; Remote-Write 1.0,
+-- "Labels").
 use Rattle.std.specs.Prelude.{◌≡◌, ℕ, ◌+◌, List, [], ◌∷◌, length, sum_by, codes, Bool, true, false, not, ◌&&◌, ◌||◌, ◌==◌, nat_lt, Option, None, Some, String, string_bytes, Vec, if◌then◌else◌}
 use Rattle.std.specs.Char.{is_ascii_alphabetic, is_ascii_alphanumeric}
 use Rattle.std.specs.Cmp.Lexicographic.{slice_cmp}
@@ -60,7 +61,7 @@ is_text l = is_utf8 l.0 && is_utf8 l.1
 abbrev pub has_legacy_names : Label → Bool
 has_legacy_names l = is_label_name l.0 && (not (bytes_eq l.0 (codes "__name__")) || is_metric_name l.1)
 
--- the names are such as are taken: any text will do where all are
+-- the names are accepted: any text if all names are
 abbrev pub is_well_named : Names → Label → Bool
 is_well_named Legacy l = has_legacy_names l
 is_well_named Utf8 l = true
@@ -73,7 +74,7 @@ is_filled (b ∷ bs) = true
 abbrev pub rise : Label → Label → Bool
 rise l m = is_lt (slice_cmp nat_cmp l.0 m.0)
 
--- all names rise, so none stands twice
+-- the names are in strictly ascending order, so none is repeated
 abbrev pub is_sorted : Labels → Bool
 is_sorted [] = true
 is_sorted (l ∷ []) = true
@@ -86,7 +87,8 @@ label_len l = length l.0 + length l.1
 abbrev pub text_len : Labels → ℕ
 text_len ls = sum_by label_len ls
 
--- the first of these that is wrong with the labels, where such names are taken; they are a label set where nothing is
+-- the first of these that is wrong with the labels, if such names are accepted; they are a label
+-- set if nothing is wrong
 abbrev pub label_fault : Names → Labels → Option LabelFault
 label_fault names ls =
     if not (list_all is_text ls) then Some NotUtf8
@@ -101,7 +103,7 @@ label_fault names ls =
 abbrev pub IsLabelSet : Names → Labels → Type 0
 IsLabelSet names ls = label_fault names ls ≡ None
 
--- the number of a fault of labels; want of memory is none
+-- the number of a fault of labels; out of memory is not one
 abbrev pub label_fault_number : LabelFault → ℕ
 label_fault_number OutOfMemory = 0
 label_fault_number NotUtf8 = 1

@@ -10,14 +10,15 @@ highest_bit n = 63 - count_leading_zeros 64 n
 abbrev pub magnitude_word : ℕ → ℕ
 magnitude_word n = let k = highest_bit n in (1023 + k) * 2 ^ 52 + (n - 2 ^ k) * 2 ^ (52 - k)
 
--- the word of a whole number (IEEE 754, binary64), which is exact up to 2 ^ 53
+-- the word of a whole number (IEEE 754, binary64), exact up to 2 ^ 53
 unfoldable pub word_of_int : ℤ → Option ℕ
 word_of_int m =
     if nat_abs m == 0 then Some 0
     else if nat_le (nat_abs m) (2 ^ 53) then Some ((if int_lt m (pos 0) then 2 ^ 63 else 0) + magnitude_word (nat_abs m))
     else None
 
--- the size that a word has where it is that of a whole number: its highest bit and the fraction below it
+-- the absolute value of the whole number that has this word: its highest bit and the fraction below
+-- it
 abbrev pub size_of_word : ℕ → ℕ
 size_of_word w =
     if w == 0 then 0

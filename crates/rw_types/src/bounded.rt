@@ -23,7 +23,7 @@ impl<const LOW: u64, const HIGH: u64> Model for Bounded<LOW, HIGH> {
 }
 
 impl<const LOW: u64, const HIGH: u64> Bounded<LOW, HIGH> {
-    /// The number as a `Bounded`; `None` where it is outside the range.
+    /// Returns the number as a `Bounded`, or `None` if it is outside the range.
     pub fn try_new(number: u64) -> Option<Self>
         ensures { result ≡ (if nat_le LOW number && nat_le number HIGH then Some number else None) }
     {
@@ -34,7 +34,7 @@ impl<const LOW: u64, const HIGH: u64> Bounded<LOW, HIGH> {
         }
     }
 
-    /// The number as a `Bounded`, for a caller who knows that it is in the range.
+    /// Returns the number as a `Bounded`. The caller knows that it is in the range.
     pub fn new(number: u64) -> Self
         requires low { LOW ≤ number }
         requires high { number ≤ HIGH }
@@ -43,7 +43,7 @@ impl<const LOW: u64, const HIGH: u64> Bounded<LOW, HIGH> {
         Bounded { number }
     }
 
-    /// The number, which is from `LOW` to `HIGH`.
+    /// Returns the number, which is from `LOW` to `HIGH`.
     pub fn get(self) -> u64
         ensures number { result ≡ self.entry }
         ensures low { LOW ≤ result }

@@ -7,7 +7,7 @@ ghost use Rattle.std.specs.Io.KnownBytes.{ReadConsumes, WriteAppends};
 use std::error::Error;
 use std::fmt;
 
-/// The error of a device: it failed, in this call or an earlier one.
+/// The error of a device: it failed in this call or in an earlier one.
 #[derive(Clone, Copy, Debug, PartialEq, Eq)]
 pub struct Failed;
 
@@ -19,16 +19,17 @@ impl fmt::Display for Failed {
 
 impl Error for Failed {}
 
-/// A reader of bytes. A failure stays: after one `Err` each later call returns `Err`.
+/// A reader of bytes. A failure is permanent: after one `Err` each later call returns `Err`.
 pub trait Source {
-    /// The bytes that reads will give from here on, where they are known.
+    /// The bytes that reads will return from here on, if they are known.
     ghost remaining: { Self → Option (List ℕ) };
     /// Whether the device has failed.
     ghost has_failed: { Self → Bool };
     /// Whether no read from here on fails.
     ghost is_sure: { Self → Bool };
 
-    /// Reads some bytes into the front of `buf`, and returns how many. `Ok(0)` for a buffer that is not empty is the end of the input.
+    /// Reads some bytes into the front of `buf`, and returns how many. `Ok(0)` for a buffer that is
+    /// not empty means the end of the input.
     fn read(&mut self, buf: &mut [u8]) -> Result<usize, Failed>
         ensures bound { ReadsAtMost result buf.new }
         ensures bytes { ReadConsumes (remaining self.old) (remaining self.new) result buf.new }
@@ -38,16 +39,17 @@ pub trait Source {
         ensures sure_stays { is_sure self.old ≡ true → is_sure self.new ≡ true };
 }
 
-/// A writer of bytes. A failure stays: after one `Err` each later call returns `Err`.
+/// A writer of bytes. A failure is permanent: after one `Err` each later call returns `Err`.
 pub trait Sink {
-    /// The bytes that it holds, where they are known.
+    /// The bytes that it holds, if they are known.
     ghost contents: { Self → Option (List ℕ) };
     /// Whether the device has failed.
     ghost has_failed: { Self → Bool };
-    /// How many more bytes it surely takes, while it has not failed.
+    /// How many more bytes it is certain to take, as long as it has not failed.
     ghost room: { Self → ℕ };
 
-    /// Writes a beginning of `bytes`, at least one byte where there is one, and returns how many. An `Err` has written nothing.
+    /// Writes a prefix of `bytes`, at least one byte if there is one, and returns how many bytes it
+    /// wrote. An `Err` has written nothing.
     fn write(&mut self, bytes: &[u8]) -> Result<usize, Failed>
         ensures bound { WritesAtMost result bytes.now }
         ensures bytes { WriteAppends (contents self.old) (contents self.new) result bytes.now }

@@ -11,12 +11,13 @@ use std::alloc::{AllocError, Global};
 pub enum Entry {
     /// Defines a series: from here on `reference` stands for the series with these labels.
     Def { reference: u64, labels: RawLabels },
-    /// A sample of the series that `reference` stands for: its time `t` in milliseconds since the Unix epoch, and its value `word`.
+    /// A sample of the series that `reference` stands for: its time `t` in milliseconds since the
+    /// Unix epoch, and its value `word`.
     Sample { reference: u64, t: i64, word: Word },
 }
 
 impl Entry {
-    /// A copy of the entry.
+    /// Returns a copy of the entry.
     pub fn copy(&self, alloc: Global) -> Result<Entry, AllocError>
         ensures { IfOk result (λ e. e ≡ self.now) }
     {

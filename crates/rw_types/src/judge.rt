@@ -59,7 +59,8 @@ fn is_label_name(name: &[u8]) -> bool
     }
 }
 
-/// Whether `name` matches `[a-zA-Z_:][a-zA-Z0-9_:]*`, as legacy metric names do (data model of Prometheus).
+/// Returns whether `name` matches `[a-zA-Z_:][a-zA-Z0-9_:]*`, as legacy metric names do (data model
+/// of Prometheus).
 pub fn is_metric_name(name: &[u8]) -> bool
     ensures { result ≡ is_metric_name name.now }
 {
@@ -109,7 +110,7 @@ fn have_values<L: LabelBytes>(labels: &[L]) -> bool
     labels.iter().all(|l| is_filled(l.value()))
 }
 
-/// Whether the name of a label comes before that of the next one in byte order.
+/// Returns whether the name of `label` comes before that of `next` in byte order.
 fn rise<L: LabelBytes>(label: &L, next: &L) -> bool
     ensures { result ≡ rise (L.shown label.now) (L.shown next.now) }
 {
@@ -127,7 +128,7 @@ fn are_sorted<L: LabelBytes>(labels: &[L]) -> bool
     true
 }
 
-/// Whether names and values have more than `most` bytes together.
+/// Returns whether names and values have more than `most` bytes together.
 pub(crate) fn are_longer_than<L: LabelBytes>(labels: &[L], most: usize) -> bool
     ensures { result ≡ nat_lt most (sum_by (λ l. label_len (L.shown l)) labels.now) }
 {
@@ -142,7 +143,8 @@ pub(crate) fn are_longer_than<L: LabelBytes>(labels: &[L], most: usize) -> bool
     false
 }
 
-/// The first fault of the labels, in the order of `LabelFault`; `None` where they are a label set. `names` says which names are accepted.
+/// Returns the first fault of the labels, in the order of `LabelFault`, or `None` if they are a
+/// label set. `names` says which names are accepted.
 pub(crate) fn fault_of<L: LabelBytes>(names: Names, labels: &[L]) -> Option<LabelFault>
     ensures { result ≡ label_fault names (map L.shown labels.now) }
 {

@@ -1,22 +1,22 @@
-//! Labels as pairs of bytes or of texts, for those who only read them.
+//! Labels as pairs of bytes or of strings, for code that only reads them.
 
 ghost use Rattle.std.specs.Prelude.{◌≡◌};
 ghost use Rattle.std.specs.Str.{is_utf8};
 ghost use Rattle.rw_types.specs.Labels.{Label, is_text, bytes_label, text_label};
 
-/// A label, whatever holds its name and its value.
+/// A label, whatever type holds its name and its value.
 pub(crate) trait LabelBytes {
     ghost shown: { Self → Label };
 
-    /// The name.
+    /// Returns the name.
     fn name(&self) -> &[u8]
         ensures { result.now ≡ (shown self.now).0 };
 
-    /// The value.
+    /// Returns the value.
     fn value(&self) -> &[u8]
         ensures { result.now ≡ (shown self.now).1 };
 
-    /// Whether both are UTF-8.
+    /// Returns whether both are UTF-8.
     fn is_text(&self) -> bool
         ensures { result ≡ is_text (shown self.now) };
 }

@@ -13,7 +13,8 @@ pub const MAX_LABELS: usize = 64;
 /// The most bytes that the names and values of a label set may have together.
 pub const MAX_LABEL_BYTES: usize = 16_384;
 
-/// Why labels are not a label set: the first of these faults that holds. Cast to a number, `OutOfMemory` is 0 and the faults of the labels are 1 to 7.
+/// Why labels are not a label set: the first of these faults that holds. Cast to a number,
+/// `OutOfMemory` is 0 and the faults of the labels are 1 to 7.
 #[derive(Clone, Copy, Debug, PartialEq, Eq)]
 pub enum LabelFault {
     /// Memory ran out. The labels have no fault.
@@ -22,12 +23,12 @@ pub enum LabelFault {
     NotUtf8,
     /// A name is empty.
     EmptyName,
-    /// A name does not match `[a-zA-Z_][a-zA-Z0-9_]*`, or the value of `__name__` does not match `[a-zA-Z_:][a-zA-Z0-9_:]*`. Only where legacy
-    /// names are asked for (`Names::Legacy`).
+    /// A name does not match `[a-zA-Z_][a-zA-Z0-9_]*`, or the value of `__name__` does not match
+    /// `[a-zA-Z_:][a-zA-Z0-9_:]*`. This is a fault only with `Names::Legacy`.
     BadName,
     /// A value is empty.
     EmptyValue,
-    /// The names do not rise strictly in byte order: one stands too late, or twice.
+    /// The labels are not sorted by name in byte order, or a name is repeated.
     NotSorted,
     /// There are more than `MAX_LABELS` labels.
     TooMany,
@@ -64,7 +65,8 @@ impl From<AllocError> for LabelFault {
 }
 
 impl LabelFault {
-    /// The number that stands for the fault in plans and reports: 1 to 7, and 0 for `OutOfMemory`, which is no fault of the labels.
+    /// Returns the number that stands for the fault in plans and reports: 1 to 7, or 0 for
+    /// `OutOfMemory`, which is not a fault of the labels.
     pub fn number(self) -> u8
         ensures { result ≡ label_fault_number self }
     {

@@ -1,4 +1,5 @@
-//! The labels of a series in the wire format of Protocol Buffers, canonically spelled (Remote-Write 1.0, `TimeSeries`).
+//! The labels of a series in the wire format of Protocol Buffers, canonically spelled (Remote-Write
+//! 1.0, `TimeSeries`).
 
 ghost use Rattle.std.specs.Prelude.{◌≡◌, ◌≤◌, ◌<◌, ◌+◌, ◌^◌, ◌++◌, length, map, IfSome, IfNone};
 ghost use Rattle.std.specs.Vec.{vec_len, vec_capacity};
@@ -8,7 +9,8 @@ ghost use Rattle.rw_types.specs.LabelFields.{tag, string_field, label, label_fie
 
 use rw_codes::{push_uvarint, uvarint_len};
 
-/// The length of a length-delimited field of `len` bytes, with a tag of one byte; `None` where it does not fit 64 bits.
+/// Returns the length of a length-delimited field of `len` bytes, with a tag of one byte, or `None`
+/// if it does not fit 64 bits.
 pub fn bytes_field_len(len: usize) -> Option<usize>
     ensures some { IfSome result (λ n. n ≡ 1 + length (uvarint len) + len) }
     ensures none { IfNone result (2 ^ 64 ≤ 1 + length (uvarint len) + len) }
@@ -37,7 +39,7 @@ fn label_len(name: &str, value: &str) -> Option<usize>
     name.checked_add(value)
 }
 
-/// The length of the field of a label in its series; `None` where it does not fit 64 bits.
+/// Returns the length of the field of a label in its series, or `None` if it does not fit 64 bits.
 #[tactic(auto, unfolding(crate::specs::LabelFields::label_field))]
 pub fn label_field_len(name: &str, value: &str) -> Option<usize>
     ensures some { IfSome result (λ n. n ≡ length (label_field (name.now, value.now))) }
@@ -47,7 +49,8 @@ pub fn label_field_len(name: &str, value: &str) -> Option<usize>
     bytes_field_len(inner)
 }
 
-/// The length of the fields of the labels in their series; `None` where it does not fit 64 bits.
+/// Returns the length of the fields of the labels in their series, or `None` if it does not fit 64
+/// bits.
 pub fn label_fields_len(labels: &[(String, String)]) -> Option<usize>
     ensures some { IfSome result (λ n. n ≡ length (label_fields (map text_label labels.now))) }
     ensures none { IfNone result (2 ^ 64 ≤ length (label_fields (map text_label labels.now))) }
@@ -69,7 +72,8 @@ pub fn put_bytes(out: &mut Vec<u8>, bytes: &[u8])
     out.extend_from_slice(bytes).unwrap();
 }
 
-/// Appends the front of a field that holds `len` bytes, its tag and its length, to a vector that has room for them. This takes no memory.
+/// Appends the front of a field that holds `len` bytes, its tag and its length, to a vector that
+/// has room for them. This takes no memory.
 pub fn put_field_front(out: &mut Vec<u8>, number: u8, len: usize)
     requires number { number < 16 }
     requires room { vec_len out.old + 1 + length (uvarint len) ≤ vec_capacity out.old }
@@ -92,7 +96,8 @@ fn put_string_field(out: &mut Vec<u8>, number: u8, text: &str)
     }
 }
 
-/// Appends the field of a label in its series to a vector that has room for it. This takes no memory.
+/// Appends the field of a label in its series to a vector that has room for it. This takes no
+/// memory.
 #[tactic(auto, unfolding(crate::specs::LabelFields::label_field, crate::specs::LabelFields::label))]
 pub fn put_label_field(out: &mut Vec<u8>, name: &str, value: &str)
     requires room { vec_len out.old + length (label_field (name.now, value.now))
@@ -106,7 +111,8 @@ pub fn put_label_field(out: &mut Vec<u8>, name: &str, value: &str)
     put_string_field(out, 2, value);
 }
 
-/// Appends the fields of the labels in their series to a vector that has room for them. This takes no memory.
+/// Appends the fields of the labels in their series to a vector that has room for them. This takes
+/// no memory.
 pub fn put_label_fields(out: &mut Vec<u8>, labels: &[(String, String)])
     requires room { vec_len out.old + length (label_fields (map text_label labels.now))
         ≤ vec_capacity out.old }

@@ -21,16 +21,17 @@ use std::cmp::Ordering;
 use std::hash::{FoldHasher, Hash, Hasher};
 use std::marker::Model;
 
-/// The labels that identify one series: sorted by name in byte order, no name twice, no name or value empty, at most `MAX_LABELS` labels and
-/// `MAX_LABEL_BYTES` bytes. The names are of the form that was asked for when the set was made, and UTF-8 in any case.
+/// The labels that identify one series: sorted by name in byte order, no name twice, no name or
+/// value empty, at most `MAX_LABELS` labels and `MAX_LABEL_BYTES` bytes. The names have the form
+/// that was asked for when the set was made, and are UTF-8 in any case.
 ///
-/// Contracts see the list of (name, value); two label sets are equal where these lists are.
+/// Contracts see the list of (name, value). Two label sets are equal exactly if these lists are.
 #[derive(Debug, Drop)]
 pub struct LabelSet {
     labels: Vec<(String, String)>,
-    /// Their fields in a series of a message, kept so that a body takes them by one copy.
+    /// Their fields in a series of a message, kept so that a body gets them by one copy.
     fields: Vec<u8>,
-    /// The hash of all texts, kept so that a map looks at one number.
+    /// The hash of all strings, kept so that a map reads one number.
     hash: u64,
 }
 
@@ -50,7 +51,7 @@ impl Model for LabelSet {
         × (s.hash ≡ labels_hash (map text_label s.labels.items)) };
 }
 
-/// The hash that a label set of these labels keeps.
+/// Returns the hash that a label set of these labels keeps.
 fn hash_of(labels: &[(String, String)]) -> u64
     ensures { result ≡ labels_hash (map text_label labels.now) }
 {
@@ -59,7 +60,7 @@ fn hash_of(labels: &[(String, String)]) -> u64
     state.finish()
 }
 
-/// Makes `fields` the fields of the labels, in the room that it has as far as it goes.
+/// Makes `fields` the fields of the labels, and reuses the memory that it has.
 fn overwrite_fields(fields: &mut Vec<u8>, labels: &[(String, String)]) -> Result<(), AllocError>
     ensures { OnOk result (fields.new.items ≡ label_fields (map text_label labels.now)) }
 {
@@ -72,7 +73,7 @@ fn overwrite_fields(fields: &mut Vec<u8>, labels: &[(String, String)]) -> Result
     Ok(())
 }
 
-/// The bytes as a text.
+/// Returns the bytes as a string.
 fn text_of(alloc: Global, bytes: &[u8]) -> Result<String, AllocError>
     requires { is_utf8 bytes.now ≡ true }
     ensures { IfOk result (λ t. string_bytes t ≡ bytes.now) }
@@ -83,7 +84,7 @@ fn text_of(alloc: Global, bytes: &[u8]) -> Result<String, AllocError>
     }
 }
 
-/// A label as texts.
+/// Returns a copy of a label as strings.
 fn label_texts(alloc: Global, label: &(Vec<u8>, Vec<u8>)) -> Result<(String, String), AllocError>
     requires { is_text (bytes_label label.now) ≡ true }
     ensures { IfOk result (λ t. text_label t ≡ bytes_label label.now) }
@@ -91,7 +92,7 @@ fn label_texts(alloc: Global, label: &(Vec<u8>, Vec<u8>)) -> Result<(String, Str
     Ok((text_of(alloc, &label.0)?, text_of(alloc, &label.1)?))
 }
 
-/// Labels as texts.
+/// Returns copies of labels as strings.
 fn texts_of(
     alloc: Global,
     labels: &[(Vec<u8>, Vec<u8>)],
@@ -106,7 +107,7 @@ fn texts_of(
     Ok(texts)
 }
 
-/// Writes a text over another one, into the room that this has.
+/// Overwrites a string, and reuses the memory that it has.
 fn overwrite(text: &mut String, new: &str) -> Result<(), AllocError>
     ensures { OnOk result (string_bytes text.new ≡ new.now) }
 {
@@ -114,7 +115,7 @@ fn overwrite(text: &mut String, new: &str) -> Result<(), AllocError>
     text.push_str(new)
 }
 
-/// Writes a label over another one.
+/// Overwrites a label, and reuses the memory that it has.
 fn overwrite_label(label: &mut (String, String), new: &(String, String)) -> Result<(), AllocError>
     ensures { OnOk result (text_label label.new ≡ text_label new.now) }
 {
@@ -122,7 +123,7 @@ fn overwrite_label(label: &mut (String, String), new: &(String, String)) -> Resu
     overwrite(&mut label.1, &new.1)
 }
 
-/// Writes the first of the new labels over those that there are.
+/// Overwrites the labels with the first of the new ones.
 fn overwrite_first(
     labels: &mut Vec<(String, String)>,
     new: &[(String, String)],
@@ -138,14 +139,14 @@ fn overwrite_first(
     Ok(())
 }
 
-/// A copy of a label.
+/// Returns a copy of a label.
 fn copy_of(label: &(String, String)) -> Result<(String, String), AllocError>
     ensures { IfOk result (λ l. text_label l ≡ text_label label.now) }
 {
     Ok((label.0.clone()?, label.1.clone()?))
 }
 
-/// Copies the labels behind those that there are.
+/// Appends copies of the new labels that come after those that were overwritten.
 fn append_copies(
     labels: &mut Vec<(String, String)>,
     new: &[(String, String)],
@@ -160,7 +161,7 @@ fn append_copies(
     Ok(())
 }
 
-/// Makes the labels the same as the new ones, in the room that they have as far as it goes.
+/// Makes the labels the same as the new ones, and reuses the memory that they have.
 fn replace_all(
     labels: &mut Vec<(String, String)>,
     new: &[(String, String)],
@@ -186,7 +187,7 @@ fn replace(
 }
 
 impl LabelSet {
-    /// The label set without labels. This takes no memory.
+    /// Returns the empty label set. This takes no memory.
     pub fn empty(alloc: Global) -> LabelSet
         ensures { result ≡ [] }
     {
@@ -199,7 +200,7 @@ impl LabelSet {
         }
     }
 
-    /// The label set of these labels.
+    /// Returns the label set of these labels.
     fn of(labels: Vec<(String, String)>) -> Result<LabelSet, AllocError>
         requires { IsLabelSet Utf8 (map text_label labels.items) }
         ensures { IfOk result (λ s. s ≡ map text_label labels.items) }
@@ -214,8 +215,9 @@ impl LabelSet {
         })
     }
 
-    /// Overwrites the set with the label set of `labels`, in the memory that it has as far as that goes. `names` says which names are accepted.
-    /// The first fault of the labels, found before memory is taken, leaves the set as it was; after `OutOfMemory` it is empty.
+    /// Overwrites the set with the label set of `labels`, and reuses the memory that it has.
+    /// `names` says which names are accepted. The first fault of the labels is found before memory
+    /// is taken, and leaves the set as it was; after `OutOfMemory` the set is empty.
     pub fn assign(&mut self, names: Names, labels: &[(String, String)]) -> Result<(), LabelFault>
         ensures ok { OnOk result (self.new ≡ map text_label labels.now) }
         ensures label_set { OnOk result (IsLabelSet names (map text_label labels.now)) }
@@ -236,7 +238,8 @@ impl LabelSet {
         Ok(())
     }
 
-    /// Whether there are more than `max_labels` labels, or more than `max_bytes` bytes of names and values together.
+    /// Returns whether there are more than `max_labels` labels, or more than `max_bytes` bytes of
+    /// names and values together.
     pub fn is_over(&self, max_labels: usize, max_bytes: usize) -> bool
         ensures { result
             ≡ (nat_lt max_labels (length self.now) || nat_lt max_bytes (text_len self.now)) }
@@ -244,7 +247,8 @@ impl LabelSet {
         self.labels.len() > max_labels || are_longer_than(self.labels.as_slice(), max_bytes)
     }
 
-    /// The label set of `labels`, with legacy names, or the first fault that keeps them from being one. A fault of the labels is found before memory is taken.
+    /// Returns the label set of `labels`, with legacy names, or the first fault that keeps them
+    /// from being one. A fault of the labels is found before memory is taken.
     pub fn check(alloc: Global, labels: &RawLabels) -> Result<LabelSet, LabelFault>
         ensures ok { IfOk result (λ s. s ≡ labels.now) }
         ensures label_set { IfOk result (λ _. IsLabelSet Legacy labels.now) }
@@ -254,8 +258,9 @@ impl LabelSet {
         LabelSet::check_as(alloc, Names::Legacy, labels)
     }
 
-    /// The label set of `labels`, or the first fault that keeps them from being one; `names` says which names are accepted. A fault of the labels
-    /// is found before memory is taken.
+    /// Returns the label set of `labels`, or the first fault that keeps them from being one;
+    /// `names` says which names are accepted. A fault of the labels is found before memory is
+    /// taken.
     pub fn check_as(alloc: Global, names: Names, labels: &RawLabels) -> Result<LabelSet, LabelFault>
         ensures ok { IfOk result (λ s. s ≡ labels.now) }
         ensures label_set { IfOk result (λ _. IsLabelSet names labels.now) }
@@ -269,7 +274,7 @@ impl LabelSet {
         Ok(LabelSet::of(texts_of(alloc, labels)?)?)
     }
 
-    /// The labels as (name, value), sorted by name in byte order.
+    /// Returns the labels as (name, value), sorted by name in byte order.
     pub fn as_slice(&self) -> &[(String, String)]
         ensures labels { map text_label result.now ≡ self.now }
         ensures label_set { IsLabelSet Utf8 self.now }
@@ -277,7 +282,8 @@ impl LabelSet {
         self.labels.as_slice()
     }
 
-    /// The fields of its labels in a series, in the canonical spelling (Remote-Write 1.0, `TimeSeries`).
+    /// Returns the fields of its labels in a series, in the canonical spelling (Remote-Write 1.0,
+    /// `TimeSeries`).
     pub fn fields(&self) -> &[u8]
         ensures fields { result.now ≡ label_fields self.now }
         ensures label_set { IsLabelSet Utf8 self.now }
@@ -296,7 +302,8 @@ impl PartialEq for LabelSet {
 
     ghost laws = { partial_equiv_from_equiv (eq_by_cmp_equiv labels_cmp-total) };
 
-    // Labels that are not the same are not spelled alike, and one run of bytes is sooner compared than many texts.
+    // Label sets that differ have different fields, and one run of bytes is compared faster than
+    // many strings.
     fn eq(&self, other: &LabelSet) -> bool {
         self.fields == other.fields
     }
@@ -355,12 +362,14 @@ impl Hash for LabelSet {
     }
 }
 
-/// Law: the order of label sets calls two lists of labels equal exactly where they are the same list. The call does nothing.
+/// Law: the order of label sets calls two lists of labels equal exactly if they are the same list.
+/// The call does nothing.
 pub fn equal_where_same()
     ensures { (a b : Labels) → (is_eq (labels_cmp a b) ≡ true) ↔ (a ≡ b) }
 {}
 
-/// Law: with `Names::Utf8` no name is a bad one, and labels that are a label set with legacy names still are one. The call does nothing.
+/// Law: with `Names::Utf8` every name is accepted, and labels that are a label set with legacy
+/// names still are one. The call does nothing.
 pub fn utf8_takes_any_name()
     ensures no_bad_name { (labels : Labels) → label_fault Utf8 labels ≢ Some BadName }
     ensures legacy { (labels : Labels) → IsLabelSet Legacy labels → IsLabelSet Utf8 labels }

@@ -1,4 +1,5 @@
-//! Types that the sender and the receiver have in common: values, labels and label sets, log entries, places of samples, readers and writers.
+//! Types that the sender and the receiver share: values, labels and label sets, log entries, places
+//! of samples, readers and writers.
 #![tactic(auto)]
 
 mod bounded;

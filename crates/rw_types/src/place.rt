@@ -1,9 +1,11 @@
-//! Where a sample stands in the sender.
+//! The place of a sample in the sender.
 
-/// The place of a sample that was put into the queue of a shard, and its position in the log.
+/// A sample that was put into the queue of a shard: its shard, its number there, and its position
+/// in the log.
 #[derive(Clone, Copy, Debug, PartialEq, Eq)]
 pub struct Place {
-    /// How often the number of shards had changed before the sample was put.
+    /// The epoch of its shard: how often the number of shards had changed before the sample was
+    /// put.
     pub epoch: u64,
     /// The shard in that epoch, counted from 0.
     pub shard: u32,

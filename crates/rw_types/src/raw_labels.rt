@@ -1,4 +1,4 @@
-//! Labels as they stand in a log, not yet checked.
+//! Labels as they are in a log, not yet checked.
 
 ghost use Rattle.std.specs.Prelude.{◌≡◌, ◌↔◌, ◌++◌, [], ◌∷◌, length, IsTrue, IfOk, OnOk, OnErr, map};
 ghost use Rattle.rw_types.specs.Labels.{bytes_label};
@@ -6,7 +6,8 @@ ghost use Rattle.rw_types.specs.Labels.{bytes_label};
 use std::alloc::{AllocError, Global};
 use std::marker::Model;
 
-/// Labels that were not checked: in any order, with any bytes as names and values. Contracts see the list of (name, value).
+/// Labels that were not checked: in any order, with any bytes as names and values. Contracts see
+/// the list of (name, value).
 #[derive(Debug, Drop)]
 pub struct RawLabels {
     list: Vec<(Vec<u8>, Vec<u8>)>,
@@ -22,7 +23,7 @@ impl Model for RawLabels {
 }
 
 impl RawLabels {
-    /// An empty list of labels. This takes no memory.
+    /// Returns an empty list of labels. This takes no memory.
     pub fn new(alloc: Global) -> RawLabels
         ensures { result ≡ [] }
     {
@@ -43,7 +44,7 @@ impl RawLabels {
         Ok(())
     }
 
-    /// A copy of the list.
+    /// Returns a copy of the list.
     pub fn copy(&self, alloc: Global) -> Result<RawLabels, AllocError>
         ensures { IfOk result (λ l. l ≡ self.now) }
     {
@@ -55,21 +56,21 @@ impl RawLabels {
         Ok(copy)
     }
 
-    /// How many labels there are.
+    /// Returns how many labels there are.
     pub fn len(&self) -> usize
         ensures { result ≡ length self.now }
     {
         self.list.len()
     }
 
-    /// Whether there are no labels.
+    /// Returns whether there are no labels.
     pub fn is_empty(&self) -> bool
         ensures { IsTrue result ↔ (self.now ≡ []) }
     {
         self.list.is_empty()
     }
 
-    /// The labels as (name, value), in the order in which they were appended.
+    /// Returns the labels as (name, value), in the order in which they were appended.
     pub fn as_slice(&self) -> &[(Vec<u8>, Vec<u8>)]
         ensures { map bytes_label result.now ≡ self.now }
     {

@@ -1,4 +1,4 @@
-//! The host and the path that HTTP requests name.
+//! The host and the path in the requests that carry messages.
 
 ghost use Rattle.std.specs.Prelude.{◌≡◌, ◌==◌, ◌&&◌, Some, None, true, codes, IfOk, string_bytes, if◌then◌else◌};
 ghost use Rattle.std.specs.List.{list_all};
@@ -11,7 +11,8 @@ use std::marker::Model;
 /// The most bytes of a host name, and of a path.
 const MAX_BYTES: usize = 255;
 
-/// The value of the field `Host` of requests, with a port or without: 1 to 255 bytes, each from `!` to `~`. Contracts see its bytes.
+/// The value of the field `Host` of requests, with a port or without: 1 to 255 bytes, each from `!`
+/// to `~`. Contracts see its bytes.
 #[derive(Debug, Drop)]
 pub struct HostName {
     text: String,
@@ -28,7 +29,8 @@ impl Model for HostName {
     ghost invariant = { λ h. is_host_name (string_bytes h.text) ≡ true };
 }
 
-/// The path of requests, with its query if it has one: 1 to 255 bytes, first `/`, then ASCII letters, digits and `/-._~%?=&`. Contracts see its bytes.
+/// The path of requests, with its query if it has one: 1 to 255 bytes, first `/`, then ASCII
+/// letters, digits and `/-._~%?=&`. Contracts see its bytes.
 #[derive(Debug, Drop)]
 pub struct RequestPath {
     text: String,
@@ -104,14 +106,15 @@ fn is_request_path(text: &[u8]) -> bool
 }
 
 impl HostName {
-    /// Whether `text` may be a host name: 1 to 255 bytes, each from `!` to `~`.
+    /// Returns whether `text` may be a host name: 1 to 255 bytes, each from `!` to `~`.
     pub fn is_host(text: &str) -> bool
         ensures { result ≡ is_host_name text.now }
     {
         is_host_name(text.as_bytes())
     }
 
-    /// The host name with this text; `None` where `is_host` refuses it. This takes no memory.
+    /// Returns the host name with this text, or `None` if `is_host` refuses it. This takes no
+    /// memory.
     pub fn check(text: String) -> Option<HostName>
         ensures { result
             ≡ (if is_host_name (string_bytes text) then Some (string_bytes text) else None) }
@@ -123,7 +126,7 @@ impl HostName {
         }
     }
 
-    /// `localhost:9090`: the port of this machine at which Prometheus listens by default.
+    /// Returns `localhost:9090`, the address at which Prometheus listens by default.
     pub fn local_prometheus(alloc: Global) -> Result<HostName, AllocError>
         ensures { IfOk result (λ h. h ≡ codes "localhost:9090") }
     {
@@ -132,7 +135,7 @@ impl HostName {
         })
     }
 
-    /// The host name as text.
+    /// Returns the host name as text.
     pub fn as_str(&self) -> &str
         ensures text { result.now ≡ self.now }
         ensures host { is_host_name result.now ≡ true }
@@ -142,14 +145,15 @@ impl HostName {
 }
 
 impl RequestPath {
-    /// Whether `text` may be a path: 1 to 255 bytes, of which the first is `/` and each other one an ASCII letter, an ASCII digit or one of `/-._~%?=&`.
+    /// Returns whether `text` may be a path: 1 to 255 bytes, of which the first is `/` and each
+    /// other one an ASCII letter, an ASCII digit or one of `/-._~%?=&`.
     pub fn is_path(text: &str) -> bool
         ensures { result ≡ is_request_path text.now }
     {
         is_request_path(text.as_bytes())
     }
 
-    /// The path with this text; `None` where `is_path` refuses it. This takes no memory.
+    /// Returns the path with this text, or `None` if `is_path` refuses it. This takes no memory.
     pub fn check(text: String) -> Option<RequestPath>
         ensures { result
             ≡ (if is_request_path (string_bytes text) then Some (string_bytes text) else None) }
@@ -161,7 +165,8 @@ impl RequestPath {
         }
     }
 
-    /// `/api/v1/write`, the path at which receivers of Prometheus take messages (Remote-Write 1.0, "Protocol").
+    /// Returns `/api/v1/write`, the path at which Prometheus receives messages (Remote-Write 1.0,
+    /// "Protocol").
     pub fn api_v1_write(alloc: Global) -> Result<RequestPath, AllocError>
         ensures { IfOk result (λ p. p ≡ codes "/api/v1/write") }
     {
@@ -170,7 +175,7 @@ impl RequestPath {
         })
     }
 
-    /// The path as text.
+    /// Returns the path as text.
     pub fn as_str(&self) -> &str
         ensures text { result.now ≡ self.now }
         ensures path { is_request_path result.now ≡ true }

@@ -7,7 +7,8 @@ use crate::device::{Failed, Sink};
 use std::alloc::{AllocError, Global};
 use std::marker::Model;
 
-/// A writer that takes no memory after it was made. It fails at the first write that does not fit, and writes nothing of that.
+/// A writer that takes no memory after it was made. It fails at the first write that does not fit,
+/// and writes nothing of it.
 #[derive(Debug, Drop)]
 pub struct Room {
     bytes: Vec<u8>,
@@ -27,7 +28,7 @@ impl Model for Room {
 }
 
 impl Room {
-    /// An empty writer with room for `room` bytes.
+    /// Returns an empty writer with room for `room` bytes.
     pub fn new(alloc: Global, room: usize) -> Result<Room, AllocError>
         ensures { IfOk result (λ r. r ≡ record { bytes = []; room = room; has_failed = false }) }
     {
@@ -38,14 +39,14 @@ impl Room {
         })
     }
 
-    /// The bytes that were written.
+    /// Returns the bytes that were written.
     pub fn as_slice(&self) -> &[u8]
         ensures { result.now ≡ self.now.bytes }
     {
         self.bytes.as_slice()
     }
 
-    /// The bytes that were written, without a copy.
+    /// Returns the bytes that were written, without a copy.
     pub fn into_bytes(self) -> Vec<u8>
         ensures { result.items ≡ self.bytes }
     {

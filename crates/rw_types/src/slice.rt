@@ -2,7 +2,8 @@
 
 use crate::device::{Failed, Source};
 
-/// A slice as a reader of its bytes, which never fails. Each read moves its front past the bytes that were read.
+/// A slice as a reader of its bytes, which never fails. Each read moves its front past the bytes
+/// that were read.
 impl Source for &[u8] {
     ghost use Rattle.std.specs.Prelude.{Some, true, false};
 

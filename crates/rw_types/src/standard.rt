@@ -8,8 +8,9 @@ use crate::device::{Failed, Sink, Source};
 use std::io::{self, ErrorKind};
 use std::marker::Model;
 
-/// A reader or a writer of `std::io` that stays failed once it has failed. A call that was interrupted is made again, and a write that takes no
-/// byte is a failure. Contracts see the reader or writer, and whether it has failed.
+/// A reader or a writer of `std::io` that stays failed once it has failed. A call that was
+/// interrupted is repeated, and a write that takes no byte counts as a failure. Contracts see the
+/// reader or writer, and whether it has failed.
 #[derive(Drop)]
 pub struct Std<T> {
     inner: T,
@@ -25,7 +26,7 @@ impl<T> Model for Std<T> {
 }
 
 impl<T> Std<T> {
-    /// Wraps a reader or writer of `std::io`, as one that has not failed.
+    /// Wraps a reader or writer of `std::io` that has not failed.
     pub fn new(inner: T) -> Std<T>
         ensures { result ≡ (inner, false) }
     {
@@ -35,7 +36,7 @@ impl<T> Std<T> {
         }
     }
 
-    /// The reader or writer of `std::io`, failed or not.
+    /// Returns the reader or writer of `std::io`, failed or not.
     pub fn into_inner(self) -> T
         ensures { result ≡ self.0 }
     {
@@ -44,7 +45,7 @@ impl<T> Std<T> {
     }
 }
 
-/// A read that goes on when it was interrupted.
+/// Reads as `read` does, and repeats the call when it was interrupted.
 fn read_uninterrupted<R: io::Read>(reader: &mut R, buf: &mut [u8]) -> Result<usize, Failed>
     ensures bound { ReadsAtMost result buf.new }
     ensures bytes { ReadConsumes (R.remaining reader.old) (R.remaining reader.new) result buf.new }
@@ -62,7 +63,7 @@ fn read_uninterrupted<R: io::Read>(reader: &mut R, buf: &mut [u8]) -> Result<usi
     Err(Failed)
 }
 
-/// A write of at least one byte that goes on when it was interrupted.
+/// Writes at least one byte, and repeats the call when it was interrupted.
 fn write_uninterrupted<W: io::Write>(writer: &mut W, bytes: &[u8]) -> Result<usize, Failed>
     ensures bound { WritesAtMost result bytes.now }
     ensures bytes { WriteAppends (W.contents writer.old) (W.contents writer.new) result bytes.now }

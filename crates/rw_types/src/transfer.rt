@@ -1,4 +1,4 @@
-//! Readers read to their end, and whole texts written.
+//! Reads an input to its end, and writes whole byte strings.
 
 ghost use Rattle.std.specs.Prelude.{◌≡◌, ◌+◌, ◌<◌, ◌≤◌, ℕ, length, take, true, false, vec_len, IsOk, IfOk, OnOk, OnErr};
 ghost use Rattle.std.specs.Io.KnownBytes.{Appends, IsAtEnd};
@@ -40,7 +40,7 @@ impl From<AllocError> for ReadFault {
     }
 }
 
-/// Writes all of `bytes`. After an `Err` the device has failed, and has taken a beginning of them.
+/// Writes all of `bytes`. After an `Err` the device has failed, and has taken a prefix of them.
 pub fn write_all<W: Sink>(sink: &mut W, bytes: &[u8]) -> Result<(), Failed>
     ensures ok { OnOk result (Appends (W.contents sink.old) (W.contents sink.new) bytes.now) }
     ensures part { OnErr result ((n : ℕ) × (n ≤ length bytes.now)
@@ -68,7 +68,8 @@ fn zeros(alloc: Global, len: usize) -> Result<Vec<u8>, AllocError>
     vec![in alloc; 0; len]
 }
 
-/// Appends what one read gives to `out`, and returns how many bytes came. Room is made before the read, so no byte is lost.
+/// Appends what one read returns to `out`, and returns how many bytes came. The space is reserved
+/// before the read, so no byte is lost.
 fn read_some<S: Source>(
     source: &mut S,
     chunk: &mut [u8],
@@ -94,7 +95,8 @@ fn read_some<S: Source>(
     }
 }
 
-/// Reads to the end of the input, and appends the bytes to `out`. After an `Err` `out` has the bytes that were read before it.
+/// Reads to the end of the input, and appends the bytes to `out`. After an `Err`, `out` has the
+/// bytes that were read before it.
 pub fn read_to_end<S: Source>(
     alloc: Global,
     source: &mut S,

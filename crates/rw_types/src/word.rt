@@ -5,7 +5,8 @@ ghost use Rattle.rw_types.specs.Words.{word_of_int, magnitude_word, int_of_word}
 
 use std::marker::Model;
 
-/// The value of a sample: the 64 bits of an IEEE 754 binary64 number. Contracts see these bits as a number below 2^64.
+/// The value of a sample: the 64 bits of an IEEE 754 binary64 number. Contracts see these bits as a
+/// number below 2^64.
 #[derive(Clone, Copy, Debug, PartialEq, Eq)]
 pub struct Word(pub u64);
 
@@ -19,7 +20,7 @@ impl Model for Word {
     ghost inverse = { λ n. record { 0 = n } };
 }
 
-/// A number times a power of two.
+/// Returns a number times a power of two.
 fn scaled(n: u64, places: u32) -> u64
     requires places { places < 64 }
     requires fits { n * 2 ^ places < 2 ^ 64 }
@@ -28,7 +29,7 @@ fn scaled(n: u64, places: u32) -> u64
     n << places
 }
 
-/// Exponent and fraction of a whole number.
+/// Returns the exponent and the fraction of a whole number.
 fn magnitude(n: u64) -> u64
     requires positive { 0 < n }
     requires exact { n ≤ 2 ^ 53 }
@@ -41,7 +42,7 @@ fn magnitude(n: u64) -> u64
     scaled(1023 + top as u64, 52) + fraction
 }
 
-/// The bits of a whole number.
+/// Returns the bits of a whole number, or `None` if it is outside -2^53 to 2^53.
 fn bits_of(m: i64) -> Option<u64>
     ensures { result ≡ word_of_int m }
 {
@@ -59,7 +60,7 @@ fn bits_of(m: i64) -> Option<u64>
     Some(word)
 }
 
-/// The size of the whole number that has these bits, if there is one.
+/// Returns the absolute value of the whole number that has these bits, if there is one.
 fn size_in(bits: u64) -> u64
     ensures size { (m : ℤ) → word_of_int m ≡ Some bits → unsigned_abs m ≡ result }
     ensures bound { result < 2 ^ 63 }
@@ -75,7 +76,7 @@ fn size_in(bits: u64) -> u64
 }
 
 impl Word {
-    /// The word of a whole number from -2^53 to 2^53; `None` for any other number.
+    /// Returns the word of a whole number from -2^53 to 2^53, or `None` for any other number.
     pub fn of_int(m: i64) -> Option<Word>
         ensures { result ≡ word_of_int m }
     {
@@ -85,7 +86,8 @@ impl Word {
         }
     }
 
-    /// The whole number from -2^53 to 2^53 that has this word; `None` where none has, as with -0.0.
+    /// Returns the whole number from -2^53 to 2^53 that has this word, or `None` if there is none,
+    /// as for -0.0.
     pub fn as_int(self) -> Option<i64>
         ensures some { IfSome result (λ m. word_of_int m ≡ Some self) }
         ensures none { IfNone result ((m : ℤ) → word_of_int m ≡ Some self → ⊥) }
@@ -101,7 +103,7 @@ impl Word {
         None
     }
 
-    /// Whether this is the word of the number.
+    /// Returns whether this is the word of the number.
     fn is_word_of(self, m: i64) -> bool
         ensures { IsTrue result ↔ (word_of_int m ≡ Some self) }
     {

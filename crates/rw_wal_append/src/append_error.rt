@@ -1,4 +1,4 @@
-//! Why bytes for the end of a log cannot be given.
+//! Why the bytes for the end of a log cannot be returned.
 
 ghost use Rattle.std.specs.Prelude.{◌≡◌};
 ghost use Rattle.rw_wal_append.specs.declared.append_error.AppendError.TheVariants.{OutOfMemory};
@@ -8,7 +8,7 @@ use std::alloc::AllocError;
 use std::error::Error;
 use std::fmt;
 
-/// Why bytes for the end of a log cannot be given.
+/// Why the bytes for the end of a log cannot be returned.
 #[derive(Clone, Copy, Debug, PartialEq, Eq)]
 pub enum AppendError {
     /// Memory ran out.
@@ -40,8 +40,8 @@ impl From<AllocError> for AppendError {
 }
 
 impl AppendError {
-    /// Returns the error for a record that was not written to memory. There the device fails only if
-    /// memory ran out.
+    /// Returns the error for a record that was not written to memory. There the device fails only
+    /// if memory ran out.
     pub(crate) fn of(fault: LogFault) -> AppendError {
         match fault {
             LogFault::SegmentFull => AppendError::SegmentFull,

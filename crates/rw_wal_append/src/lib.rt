@@ -1,5 +1,5 @@
-//! The bytes that make a write-ahead log say more: definitions and samples as records for the end
-//! of its last segment.
+//! The bytes that add definitions and samples to a write-ahead log, as records for the end of its
+//! last segment.
 #![tactic(auto)]
 
 mod append_error;

@@ -74,7 +74,7 @@ fn put_definition(
     Ok(())
 }
 
-/// Writes definitions, each in a record of its own.
+/// Writes definitions, each in its own record.
 pub(crate) fn put_definitions(
     alloc: Global,
     writer: &mut SegmentWriter<Buffer>,
@@ -103,7 +103,7 @@ fn put_part(
     Ok(())
 }
 
-/// Writes the last samples. No record is written for none.
+/// Writes the last samples. Without samples no record is written.
 fn put_last(
     alloc: Global,
     writer: &mut SegmentWriter<Buffer>,

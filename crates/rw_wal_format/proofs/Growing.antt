@@ -9,6 +9,8 @@ use Rattle.byteorder.specs.Endian.{big_number}
 use Rattle.byteorder.specs.Numbers.{big_from-append}
 use Rattle.rw_codes.specs.Crc.{crc32c_of}
 use Rattle.rw_wal_format.specs.Records.{record_entries}
+use Rattle.rw_wal_format.specs.Skipped.{skips_of}
+use Rattle.rw_wal_format.specs.declared.skipped_type.SkippedType.{SkippedType}
 use Rattle.rw_types.specs.declared.entry.Entry.{Entry}
 use Rattle.rw_wal_format.specs.Segments.{Kind, full, first, middle, last, Item, nothing, begun, zeros, fragment, wrong, zeros_at, data_at, fragment_at, item_at, Stop, between, inside, at_fault, Layout, with_fragment, left_after, from_item, layout_of, Reading, stopped, with_entries, with_record, end_of, reading_of, segment}
 use Rattle.rw_wal_format.specs.Laws.{Extends}
@@ -22,7 +24,7 @@ bool_cases false = inr refl
 
 -- ---- an item that is whole, or a fault, stays
 
--- x stands at the front of len bytes with `left` bytes of the page, and y there when more has come
+-- x is at the front of len bytes with `left` bytes of the page, and y there when more has come
 unfoldable pub Stays : ℕ → ℕ → Item → Item → Type 0
 Stays left len nothing y = Unit {0}
 Stays left len begun y = Unit {0}
@@ -124,7 +126,7 @@ item_stays left (b ∷ bs) more =
 
 -- ---- the fragments stay
 
--- b has the fragments of a, and more; where a has a fault, b is a
+-- b has the fragments of a, and more; if a has a fault, b is a
 pub record Continues (a b : Layout) : Type 0 where
   pub more : List (Kind × List ℕ)
   pub fragments : b.fragments ≡ a.fragments ++ more
@@ -186,18 +188,19 @@ layout_grows page (suc k) (suc k') left (b ∷ bs) more p l h h' =
 -- ---- the entries stay
 
 pub extends_same : (r : Reading) → Extends r r
-extends_same r = record { more = []; entries = sym (append-nil r.entries); skipped = le_refl r.skipped; stays = λ f e. refl }
+extends_same r = record { more = []; entries = sym (append-nil r.entries); more_skipped = []; skipped = sym (append-nil r.skipped); stays = λ f e. refl }
 
 pub extends_trans : (r s t : Reading) → Extends r s → Extends s t → Extends r t
 extends_trans r s t a b = record {
   more = a.more ++ b.more;
   entries = b.entries ∙ ap (λ (es : List Entry). es ++ b.more) a.entries ∙ append_assoc r.entries a.more b.more;
-  skipped = omega (arith, a.skipped, b.skipped);
+  more_skipped = a.more_skipped ++ b.more_skipped;
+  skipped = b.skipped ∙ ap (λ (ts : List SkippedType). ts ++ b.more_skipped) a.skipped ∙ append_assoc r.skipped a.more_skipped b.more_skipped;
   stays = λ f e. let q : s ≡ r = a.stays f e in let e' : s.stop ≡ at_fault f = ap (λ (x : Reading). x.stop) q ∙ e in b.stays f e' ∙ q;
 }
 
 extends_none : (st : Stop) (s : Reading) → ((f : TailFault) → st ≡ at_fault f → ⊥) → Extends (stopped st) s
-extends_none st s open_end = record { more = s.entries; entries = refl; skipped = omega arith; stays = λ f e. absurd (open_end f e) }
+extends_none st s open_end = record { more = s.entries; entries = refl; more_skipped = s.skipped; skipped = refl; stays = λ f e. absurd (open_end f e) }
 
 end_open : (so_far : Option (List ℕ)) (st : Stop) → ((f : TailFault) → st ≡ at_fault f → ⊥) → (f : TailFault) → end_of so_far st ≡ at_fault f → ⊥
 end_open None st h = h
@@ -210,7 +213,8 @@ with_entries_extends d None r s x = extends_same _
 with_entries_extends d (Some es) r s x = record {
   more = x.more;
   entries = ap (λ (l : List Entry). es ++ l) x.entries ∙ sym (append_assoc es r.entries x.more);
-  skipped = omega (arith, x.skipped);
+  more_skipped = x.more_skipped;
+  skipped = ap (λ (l : List SkippedType). skips_of d ++ l) x.skipped ∙ sym (append_assoc (skips_of d) r.skipped x.more_skipped);
   stays = λ f e. ap (with_entries d (Some es)) (x.stays f e);
 }
 
@@ -252,15 +256,16 @@ segment_grows page text more p =
     all_extends _ _ (layout_grows page (length text) (length (text ++ more)) page text more p p (le_refl (length text)) (le_refl (length (text ++ more))))
 
 then_front : (s : Stop) (r next : Reading) → r.stop ≡ s → Extends r (then_after s r next)
-then_front between r next e = record { more = next.entries; entries = refl; skipped = omega arith; stays = λ f e'. absurd (between_open f (sym e ∙ e')) }
-then_front inside r next e = record { more = []; entries = sym (append-nil r.entries); skipped = le_refl r.skipped; stays = λ f e'. absurd (inside_open f (sym e ∙ e')) }
+then_front between r next e = record { more = next.entries; entries = refl; more_skipped = next.skipped; skipped = refl; stays = λ f e'. absurd (between_open f (sym e ∙ e')) }
+then_front inside r next e = record { more = []; entries = sym (append-nil r.entries); more_skipped = []; skipped = sym (append-nil r.skipped); stays = λ f e'. absurd (inside_open f (sym e ∙ e')) }
 then_front (at_fault f) r next e = extends_same r
 
 then_back : (s : Stop) (r a b : Reading) → Extends a b → Extends (then_after s r a) (then_after s r b)
 then_back between r a b x = record {
   more = x.more;
   entries = ap (λ (l : List Entry). r.entries ++ l) x.entries ∙ sym (append_assoc r.entries a.entries x.more);
-  skipped = omega (arith, x.skipped);
+  more_skipped = x.more_skipped;
+  skipped = ap (λ (l : List SkippedType). r.skipped ++ l) x.skipped ∙ sym (append_assoc r.skipped a.skipped x.more_skipped);
   stays = λ f e. ap (then_after between r) (x.stays f e);
 }
 then_back inside r a b x = extends_same _

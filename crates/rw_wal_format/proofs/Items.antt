@@ -46,7 +46,7 @@ layout_step page left (b ∷ bs) p l =
 abbrev pub of_layout : Option (List ℕ) → Layout → Reading
 of_layout so_far l = reading_of so_far l.fragments l.stop
 
--- what is read, by the item that stands in front
+-- what is read, by the item that is in front
 abbrev pub read_item : ℕ → ℕ → Option (List ℕ) → List ℕ → Item → Reading
 read_item page left so_far bs x = of_layout so_far (from_item page left bs (layout_from page) x)
 

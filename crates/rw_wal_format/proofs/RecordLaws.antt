@@ -133,7 +133,7 @@ samples_again base start (suc k) (s ∷ ss) h g i l =
     all_step (sample_at base start) k (sample_bytes base start s ++ flat_map (sample_bytes base start) ss) (flat_map (sample_bytes base start) ss) (Sample s.0 s.1 s.2) (omega (arith, sample_spelled base start s (flat_map (sample_bytes base start) ss))) (sample_again base start s (flat_map (sample_bytes base start) ss) h g i.0)
     ∙ ap (λ x. x then λ more. Some (Sample s.0 s.1 s.2 ∷ more)) (samples_again base start k ss h g i.1 rest_short)
 
--- where there is a sample, the samples are all that stand there
+-- if there is a sample, the samples are all that are there
 pub some_samples : (base : ℕ) (start : ℤ) (bs : List ℕ) → 0 < length bs → samples_at base start bs ≡ all_of (sample_at base start) (length bs) bs
 some_samples base start [] h = absurd (omega arith)
 some_samples base start (b ∷ bs) h = refl

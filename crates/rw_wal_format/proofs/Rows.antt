@@ -1,4 +1,4 @@
--- Logs that were written and read by hand, by computation: records, segments, pages of 32 bytes.
+-- Logs that were written and read manually, by computation: records, segments, pages of 32 bytes.
 use Rattle.std.proofs.Common.{◌≡◌, ℕ, ◌-◌, ◌^◌, pos, List, [], ◌∷◌, ◌++◌, length, map, take, drop, set, replicate, Some, None, refl}
 use Rattle.byteorder.specs.Endian.{big_bytes}
 use Rattle.rw_codes.specs.Varint.{groups, number_in_groups}
@@ -7,6 +7,8 @@ use Rattle.rw_types.specs.Labels.{Labels}
 use Rattle.rw_wal_format.specs.Records.{series_record, sample_record, record_entries}
 use Rattle.rw_types.specs.declared.entry.Entry.{Entry}
 use Rattle.rw_types.specs.declared.entry.Entry.TheVariants.{Def, Sample}
+use Rattle.rw_wal_format.specs.Skipped.{type_of_byte}
+use Rattle.rw_wal_format.specs.declared.skipped_type.SkippedType.TheVariants.{Unknown, Tombstones}
 use Rattle.rw_wal_format.specs.Segments.{full, first, middle, last, Stop, between, inside, at_fault, Reading, stopped, segment, item_at}
 use Rattle.rw_wal_format.specs.Pieces.{bytes, next_segment, reading, entries, fault}
 use Rattle.rw_wal_format.specs.Writing.{frame, log_bytes, room}
@@ -49,11 +51,11 @@ segment-of_up = refl
 unfoldable read_text : List ℕ → Reading
 read_text text = reading 32768 (bytes text ∷ [])
 
--- where just the definition of `up` is read
+-- if just the definition of `up` is read
 unfoldable defined : Stop → Reading
-defined s = record { entries = Def 1 up ∷ []; skipped = 0; stop = s }
+defined s = record { entries = Def 1 up ∷ []; skipped = []; stop = s }
 
-up-read : read_text up_segment ≡ record { entries = up_entries; skipped = 0; stop = between }
+up-read : read_text up_segment ≡ record { entries = up_entries; skipped = []; stop = between }
 unfolding read_text item_at segment record_entries number_in_groups reading crc_bits
 up-read = refl
 
@@ -154,8 +156,8 @@ unfolding item_at segment record_entries number_in_groups reading crc_bits frame
 bad_record = refl
 
 -- an empty record and one of another type
-records_passed_over : reading 32768 (bytes (frame full [] ++ frame full (3 ∷ []) ++ frame full (2 ∷ [])) ∷ []) ≡ record { entries = []; skipped = 2; stop = between }
-unfolding item_at segment record_entries number_in_groups reading crc_bits frame
+records_passed_over : reading 32768 (bytes (frame full [] ++ frame full (3 ∷ []) ++ frame full (2 ∷ [])) ∷ []) ≡ record { entries = []; skipped = Unknown ∷ Tombstones ∷ []; stop = between }
+unfolding item_at segment type_of_byte record_entries number_in_groups reading crc_bits frame
 records_passed_over = refl
 
 -- ---- fragments in pages of 32 bytes
@@ -164,9 +166,9 @@ records_passed_over = refl
 unfoldable read_small : List ℕ → Reading
 read_small text = reading 32 (bytes text ∷ [])
 
--- where just one record was passed over
+-- where just one record was passed over, of type 3
 abbrev one_passed : Stop → Reading
-one_passed s = record { entries = []; skipped = 1; stop = s }
+one_passed s = record { entries = []; skipped = type_of_byte 3 ∷ []; stop = s }
 
 page_filled : log_bytes 32 0 (replicate 25 3) ≡ frame full (replicate 25 3)
 unfolding frame log_bytes crc_bits

@@ -31,6 +31,6 @@ kept-of_two_references = refl
 kept-of_later_labels : kept (λ l. true) log name_b ≡ (6, pos 30, 3) ∷ []
 kept-of_later_labels = refl
 
--- what stands later changes no labels below it
+-- what is later changes no labels below it
 pub labels_of-append : (es more : List Entry) (r p : ℕ) → p ≤ length es → labels_of (es ++ more) r p ≡ labels_of es r p
 labels_of-append es more r p h = ap (fold (defines r) None) (take-append-le p es more h)

@@ -1,13 +1,17 @@
--- A reader that has come some way: what is still read of the bytes that it holds and of the pieces that come later.
-use Rattle.std.proofs.Common.{◌≡◌, ℕ, ◌+◌, List, [], ◌∷◌, ◌++◌, length, drop, Option, Some, None, refl, sym, ap, ◌∙◌, subst, append_assoc, append-nil, add_assoc, if◌then◌else◌}
+-- A reader that has come some way: what is still read of the bytes that it holds and of the pieces
+-- that come later.
+use Rattle.std.proofs.Common.{◌≡◌, ℕ, ◌+◌, List, [], ◌∷◌, ◌++◌, length, drop, Option, Some, None, refl, sym, ap, ◌∙◌, subst, append_assoc, append-nil}
 use Rattle.std.proofs.lemmas.List.{drop-append-le}
-use Rattle.rw_wal_format.specs.Records.{record_entries, is_skipped}
+use Rattle.rw_wal_format.specs.Records.{record_entries}
+use Rattle.rw_wal_format.specs.Skipped.{skips_of}
+use Rattle.rw_wal_format.specs.declared.skipped_type.SkippedType.{SkippedType}
 use Rattle.rw_types.specs.declared.entry.Entry.{Entry}
 use Rattle.rw_wal_format.specs.Segments.{Kind, Item, fragment, zeros, item_at, Stop, between, inside, at_fault, Reading, with_entries, with_record, read_from, segment}
 use Rattle.rw_wal_format.specs.Pieces.{Piece, bytes, next_segment, then_after, then_next, reading_after}
 use Rattle.rw_wal_format.proofs.Growing.{Stays, item_stays}
 
--- what is read on from here, with `left` bytes of the page, a record that may be open, and `rest` held
+-- what is read on from here, with `left` bytes of the page, a record that may be open, and `rest`
+-- held
 abbrev pub read_on : ℕ → ℕ → Option (List ℕ) → List ℕ → List Piece → Reading
 read_on page left so_far rest [] = read_from page left so_far rest
 read_on page left so_far rest (bytes b ∷ later) = read_on page left so_far (rest ++ b) later
@@ -40,8 +44,8 @@ then_entries : (d : List ℕ) (found : Option (List Entry)) (s : Stop) (r next :
 then_entries d None s r next e = refl
 then_entries d (Some es) between r next e =
     ap (λ (s : Stop). then_after s (with_entries d (Some es) r) next) e
-    ∙ ap (λ (l : List Entry). record { entries = l; skipped = (if is_skipped d then 1 else 0) + r.skipped + next.skipped; stop = next.stop }) (append_assoc es r.entries next.entries)
-    ∙ ap (λ (n : ℕ). record { entries = es ++ (r.entries ++ next.entries); skipped = n; stop = next.stop }) (add_assoc (if is_skipped d then 1 else 0) r.skipped next.skipped)
+    ∙ ap (λ (l : List Entry). record { entries = l; skipped = (skips_of d ++ r.skipped) ++ next.skipped; stop = next.stop }) (append_assoc es r.entries next.entries)
+    ∙ ap (λ (n : List SkippedType). record { entries = es ++ (r.entries ++ next.entries); skipped = n; stop = next.stop }) (append_assoc (skips_of d) r.skipped next.skipped)
 then_entries d (Some es) inside r next e = ap (λ (s : Stop). then_after s (with_entries d (Some es) r) next) e
 then_entries d (Some es) (at_fault f) r next e = ap (λ (s : Stop). then_after s (with_entries d (Some es) r) next) e
 

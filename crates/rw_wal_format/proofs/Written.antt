@@ -349,7 +349,7 @@ pub records_read : (page : ℕ) (ds : List (List ℕ)) → 7 < page → page < 2
 unfolding reading
 records_read page ds p q r = segment_read page ds p q r
 
--- where each record is of its form, their entries are read, and there is no fault
+-- if each record is of its form, their entries are read, and there is no fault
 record_first : (d : List ℕ) (found : Option (List Entry)) (ds : List (List ℕ)) (es : List Entry)
     → (found then λ front. entries_of_records ds then λ more. Some (front ++ more)) ≡ Some es
     → ((more : List Entry) → entries_of_records ds ≡ Some more → (reading_of_records ds).entries ≡ more × ((reading_of_records ds).stop ≡ between))
@@ -377,7 +377,7 @@ entries_read ds es r e =
     let b = all_first ds es e in
     (ap (λ (x : Reading). x.entries) a ∙ b.0, ap (λ (x : Reading). fault_at x.stop) a ∙ ap fault_at b.1)
 
--- one more record goes behind what was written
+-- one more record goes after what was written
 pub log_all-append : (page offset : ℕ) (ds : List (List ℕ)) (d : List ℕ)
     → log_all page offset (ds ++ d ∷ []) ≡ log_all page offset ds ++ log_bytes page (offset + length (log_all page offset ds)) d
 log_all-append page offset [] d =

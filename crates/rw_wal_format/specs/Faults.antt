@@ -3,7 +3,7 @@ use Rattle.std.specs.Prelude.{ℕ}
 use Rattle.rw_wal_format.specs.declared.tail_fault.TailFault.{TailFault}
 use Rattle.rw_wal_format.specs.declared.tail_fault.TailFault.TheVariants.{OutOfMemory, BadType, BadLength, BadCrc, Compressed, NonzeroPadding, Sequence, BadRecord, TornSegment}
 
--- the number of a fault of a log; want of memory is none
+-- the number of a fault of a log; out of memory is not one
 abbrev pub log_fault_number : TailFault → ℕ
 log_fault_number OutOfMemory = 0
 log_fault_number BadType = 1

@@ -1,5 +1,5 @@
 -- Words that the laws of the log's grammar are stated in.
-use Rattle.std.specs.Prelude.{◌≡◌, ℕ, ◌+◌, ◌^◌, ◌<◌, ◌≤◌, ℤ, List, [], ◌∷◌, ◌++◌, length, Option, Some, FitsSigned}
+use Rattle.std.specs.Prelude.{◌≡◌, ℕ, ◌+◌, ◌^◌, ◌<◌, ℤ, List, [], ◌∷◌, ◌++◌, length, Option, Some, FitsSigned}
 use Rattle.std.proofs.Common.{w64}
 use Rattle.rw_types.specs.declared.entry.Entry.{Entry}
 use Rattle.rw_types.specs.declared.entry.Entry.TheVariants.{Sample}
@@ -8,14 +8,16 @@ use Rattle.rw_codes.specs.Varint.{AreBytes}
 use Rattle.rw_wal_format.specs.Records.{◌then◌, record_entries}
 use Rattle.rw_wal_format.specs.Segments.{Reading, at_fault, between, stopped, with_record}
 use Rattle.rw_wal_format.specs.Writing.{log_bytes}
+use Rattle.rw_wal_format.specs.declared.skipped_type.SkippedType.{SkippedType}
 use Rattle.rw_wal_format.specs.declared.tail_fault.TailFault.{TailFault}
 
--- A later reading goes on from an earlier one: it begins with the same entries, and has passed over no fewer records.
--- Where the earlier one had met a fault, it is the same.
+-- A later reading goes on from an earlier one: it begins with the same entries, and has passed over
+-- the same records first. Where the earlier one had met a fault, it is the same.
 pub record Extends (earlier later : Reading) : Type 0 where
   pub more : List Entry
   pub entries : later.entries ≡ earlier.entries ++ more
-  pub skipped : earlier.skipped ≤ later.skipped
+  pub more_skipped : List SkippedType
+  pub skipped : later.skipped ≡ earlier.skipped ++ more_skipped
   pub stays : (f : TailFault) → earlier.stop ≡ at_fault f → later ≡ earlier
 
 -- each is a record that a segment can hold: bytes, and at least one
@@ -33,7 +35,7 @@ abbrev pub reading_of_records : List (List ℕ) → Reading
 reading_of_records [] = stopped between
 reading_of_records (d ∷ ds) = with_record d (reading_of_records ds)
 
--- the entries of records, where each is of its type's form
+-- the entries of records, if each is of its type's form
 abbrev pub entries_of_records : List (List ℕ) → Option (List Entry)
 entries_of_records [] = Some []
 entries_of_records (d ∷ ds) = record_entries d then λ first. entries_of_records ds then λ more. Some (first ++ more)

@@ -1,4 +1,5 @@
 pub mod Records
+pub mod Skipped
 pub mod Segments
 pub mod Pieces
 pub mod Writing

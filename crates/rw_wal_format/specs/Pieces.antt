@@ -1,19 +1,21 @@
--- A log that comes in pieces: bytes of the segment at hand, or the next segment.
+-- A log that comes in pieces: bytes of the current segment, or the next segment.
 use Rattle.std.specs.Prelude.{ℕ, ◌+◌, List, [], ◌∷◌, ◌++◌, Option, Some, None}
 use Rattle.rw_types.specs.declared.entry.Entry.{Entry}
 use Rattle.rw_wal_format.specs.Segments.{Reading, Stop, between, inside, at_fault, segment}
+use Rattle.rw_wal_format.specs.declared.skipped_type.SkippedType.{SkippedType}
 use Rattle.rw_wal_format.specs.declared.tail_fault.TailFault.{TailFault}
 use Rattle.rw_wal_format.specs.declared.tail_fault.TailFault.TheVariants.{TornSegment}
 
--- what a reader is given next: more bytes of the segment, which may be none, or word that the segment has ended and the next begins
+-- what a reader is given next: more bytes of the segment, which may be empty, or the end of the
+-- segment, after which the next begins
 pub data Piece : Type 0 where
   bytes : List ℕ → Piece
   next_segment : Piece
 
--- A segment that stops so, and then the next ones: a fault ends the reading, and so does a record that is not whole,
--- since no record crosses segments (wal.md).
+-- A segment that stops so, and then the next ones: a fault ends the reading, and so does a record
+-- that is not whole, since no record crosses segments (wal.md).
 abbrev pub then_after : Stop → Reading → Reading → Reading
-then_after between r next = record { entries = r.entries ++ next.entries; skipped = r.skipped + next.skipped; stop = next.stop }
+then_after between r next = record { entries = r.entries ++ next.entries; skipped = r.skipped ++ next.skipped; stop = next.stop }
 then_after inside r next = record { entries = r.entries; skipped = r.skipped; stop = at_fault TornSegment }
 then_after (at_fault f) r next = r
 
@@ -21,7 +23,7 @@ then_after (at_fault f) r next = r
 abbrev pub then_next : Reading → Reading → Reading
 then_next r next = then_after r.stop r next
 
--- the reading of the pieces, after some text of the segment at hand
+-- the reading of the pieces, after some text of the current segment
 abbrev pub reading_after : ℕ → List ℕ → List Piece → Reading
 reading_after page text [] = segment page text
 reading_after page text (bytes b ∷ pieces) = reading_after page (text ++ b) pieces
@@ -31,7 +33,7 @@ reading_after page text (next_segment ∷ pieces) = then_next (segment page text
 unfoldable pub reading : ℕ → List Piece → Reading
 reading page pieces = reading_after page [] pieces
 
--- the fault, where reading stops at one
+-- the fault at which reading stops, if any
 abbrev pub fault_at : Stop → Option TailFault
 fault_at (at_fault f) = Some f
 fault_at _ = None
@@ -40,12 +42,13 @@ fault_at _ = None
 abbrev pub page_size : ℕ
 page_size = 32768
 
--- the entries of the whole records before the first fault; an entry's place in this list is its position
+-- the entries of the whole records before the first fault; an entry's place in this list is its
+-- position
 abbrev pub entries : List Piece → List Entry
 entries pieces = (reading page_size pieces).entries
 
--- how many records before the first fault were passed over
-abbrev pub skipped : List Piece → ℕ
+-- the types of the records before the first fault that were passed over
+abbrev pub skipped : List Piece → List SkippedType
 skipped pieces = (reading page_size pieces).skipped
 
 -- the first fault, if there is one

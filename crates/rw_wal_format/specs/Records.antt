@@ -1,4 +1,5 @@
--- The records of a write-ahead log (wal.md): series records and sample records, and the entries that they hold.
+-- The records of a write-ahead log (wal.md): series records and sample records, and the entries
+-- that they hold.
 use Rattle.std.specs.Prelude.{ℕ, zero, suc, ◌+◌, ◌-◌, ◌%◌, ◌^◌, ℤ, List, [], ◌∷◌, ◌++◌, length, take, drop, flat_map, Option, Some, None, Result, Ok, Err, Bool, true, not, ◌||◌, ◌==◌, nat_lt, if◌then◌else◌}
 use Rattle.std.proofs.Common.{w64}
 use Rattle.std.specs.Int.{cast_unsigned, cast_signed, int_wrapping_add, int_wrapping_sub}
@@ -26,8 +27,8 @@ labels_bytes labels = uvarint (length labels) ++ flat_map label_bytes labels
 abbrev pub series_record : ℕ → Labels → List ℕ
 series_record reference labels = 1 ∷ big_bytes 8 reference ++ labels_bytes labels
 
--- One sample against the base, which is the first sample's reference and timestamp: both deltas, which wrap at 64 bits, as ZigZag varints,
--- and the word of the value, high byte first.
+-- One sample against the base, which is the first sample's reference and timestamp: both deltas,
+-- which wrap at 64 bits, as ZigZag varints, and the word of the value, high byte first.
 abbrev pub sample_bytes : ℕ → ℤ → ℕ × ℤ × ℕ → List ℕ
 sample_bytes base start s =
     varint (cast_signed w64 ((s.0 + (2 ^ 64 - base)) % 2 ^ 64)) ++ varint (int_wrapping_sub w64 s.1 start) ++ big_bytes 8 s.2
@@ -45,7 +46,7 @@ abbrev pub ◌then◌ : {A B : Type 0} → Option A → (A → Option B) → Opt
 None then f = None
 (Some x) then f = f x
 
--- a code, where it can be read
+-- a code, if it can be read
 abbrev pub found : {A F : Type 0} → Result A F → Option A
 found (Ok x) = Some x
 found (Err e) = None
@@ -63,7 +64,7 @@ text_at bytes = found (read_uvarint bytes) then λ n.
 abbrev pub label_at : List ℕ → Option ((List ℕ × List ℕ) × List ℕ)
 label_at bytes = text_at bytes then λ name. text_at name.1 then λ value. Some ((name.0, value.0), value.1)
 
--- so many labels
+-- a number of labels
 abbrev pub label_list_at : ℕ → List ℕ → Option (Labels × List ℕ)
 label_list_at zero bytes = Some ([], bytes)
 label_list_at (suc n) bytes = label_at bytes then λ label. label_list_at n label.1 then λ more. Some (label.0 ∷ more.0, more.1)
@@ -78,7 +79,7 @@ abbrev pub sample_at : ℕ → ℤ → List ℕ → Option (Entry × List ℕ)
 sample_at base start bytes = found (read_varint bytes) then λ reference. found (read_varint reference.1) then λ time. eight_at time.1 then λ word.
     Some (Sample ((base + cast_unsigned w64 reference.0) % 2 ^ 64) (int_wrapping_add w64 start time.0) word.0, word.1)
 
--- the items that stand one after the other up to the end of the bytes, of which there are at most k
+-- the items one after the other up to the end of the bytes, of which there are at most k
 abbrev pub all_of : {A : Type 0} → (List ℕ → Option (A × List ℕ)) → ℕ → List ℕ → Option (List A)
 all_of item k [] = Some []
 all_of item zero (b ∷ bs) = None
@@ -99,13 +100,14 @@ sample_entries [] = Some []
 sample_entries (b ∷ bs) = eight_at (b ∷ bs) then λ base. eight_at base.1 then λ start.
     samples_at base.0 (cast_signed w64 start.0) start.1
 
--- the entries of a record, or none where it is not of its type's form; an empty record and one of another type hold no entry
+-- the entries of a record, or none if it is not of its type's form; an empty record and one of
+-- another type hold no entry
 unfoldable pub record_entries : List ℕ → Option (List Entry)
 record_entries [] = Some []
 record_entries (kind ∷ bytes) =
     if kind == 1 then series_entries bytes else if kind == 2 then sample_entries bytes else Some []
 
--- whether a record is passed over: it is empty, or of another type
+-- whether a record is skipped: it is empty, or of another type
 abbrev pub is_skipped : List ℕ → Bool
 is_skipped [] = true
 is_skipped (kind ∷ bytes) = not (kind == 1 || kind == 2)

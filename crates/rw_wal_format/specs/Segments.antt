@@ -1,11 +1,14 @@
--- One segment of a write-ahead log (wal.md, "Segment encoding"): fragments in pages, and the records that they make.
--- No fragment crosses the end of its page. Where a page has no room for a header of 7 bytes, its rest is zeros.
--- The text is what has come so far, so an item that is not whole at its end is no fault.
+-- One segment of a write-ahead log (wal.md, "Segment encoding"): fragments in pages, and the
+-- records that they make. No fragment crosses the end of its page. If a page has no room for a
+-- header of 7 bytes, its rest is zeros. The text is what has come so far, so an item that is not
+-- whole at its end is not a fault.
 use Rattle.std.specs.Prelude.{ℕ, zero, suc, ◌+◌, ◌-◌, List, [], ◌∷◌, ◌++◌, length, take, drop, Option, Some, None, not, nat_lt, nat_le, ◌==◌, ◌||◌, if◌then◌else◌}
 use Rattle.std.specs.List.{list_all}
 use Rattle.byteorder.specs.Endian.{big_number}
 use Rattle.rw_codes.specs.Crc.{crc32c_of}
-use Rattle.rw_wal_format.specs.Records.{record_entries, is_skipped}
+use Rattle.rw_wal_format.specs.Records.{record_entries}
+use Rattle.rw_wal_format.specs.Skipped.{skips_of}
+use Rattle.rw_wal_format.specs.declared.skipped_type.SkippedType.{SkippedType}
 use Rattle.rw_types.specs.declared.entry.Entry.{Entry}
 use Rattle.rw_wal_format.specs.declared.tail_fault.TailFault.{TailFault}
 use Rattle.rw_wal_format.specs.declared.tail_fault.TailFault.TheVariants.{BadType, BadLength, BadCrc, Compressed, NonzeroPadding, Sequence, BadRecord}
@@ -14,7 +17,7 @@ use Rattle.rw_wal_format.specs.declared.tail_fault.TailFault.TheVariants.{BadTyp
 pub data Kind : Type 0 where
   full first middle last : Kind
 
--- what stands at a fragment's place
+-- what comes at a fragment's place
 pub data Item : Type 0 where
   -- nothing, or zeros that go on
   nothing : Item
@@ -33,7 +36,8 @@ zeros_at n bytes =
     if not (list_all (λ b. b == 0) (take n bytes)) then wrong NonzeroPadding
     else if nat_lt (length bytes) n then nothing else zeros
 
--- the data of a fragment after its header, which gives the length n and the CRC, with `left` bytes of the page from the type byte on
+-- the data of a fragment after its header, which gives the length n and the CRC, with `left` bytes
+-- of the page from the type byte on
 abbrev pub data_at : Kind → ℕ → ℕ → ℕ → List ℕ → Item
 data_at kind left n crc rest =
     if nat_lt left (7 + n) then wrong BadLength
@@ -41,14 +45,16 @@ data_at kind left n crc rest =
     else if crc32c_of (take n rest) == crc then fragment kind (take n rest)
     else wrong BadCrc
 
--- the fragment that has these bytes after its type byte: 2 of length and 4 of CRC, high byte first, and the data
+-- the fragment that has these bytes after its type byte: 2 of length and 4 of CRC, high byte first,
+-- and the data
 abbrev pub fragment_at : Kind → ℕ → List ℕ → Item
 fragment_at kind left bytes =
     if nat_lt (length bytes) 6 then begun
     else data_at kind left (big_number 2 bytes) (big_number 4 (drop 2 bytes)) (drop 6 bytes)
 
--- What stands at a fragment's place, with `left` bytes of the page from there on. A type byte of 0 says that the rest of the page is empty.
--- Those from 8 to 31 have the flags of compressed data, and all others are unknown.
+-- What comes at a fragment's place, with `left` bytes of the page from there on. A type byte of 0
+-- says that the rest of the page is empty. Those from 8 to 31 have the flags of compressed data,
+-- and all others are unknown.
 unfoldable pub item_at : ℕ → List ℕ → Item
 item_at left [] = nothing
 item_at left (b ∷ bytes) =
@@ -79,7 +85,8 @@ with_fragment kind data_of l = record { fragments = (kind, data_of) ∷ l.fragme
 abbrev pub left_after : ℕ → ℕ → ℕ → ℕ
 left_after page left n = if nat_lt n left then left - n else page
 
--- the fragments from an item on, where `next` lays out the bytes after it, with so many left in their page
+-- the fragments from an item on, if `next` lays out the bytes after it, with this many left in
+-- their page
 abbrev pub from_item : ℕ → ℕ → List ℕ → (ℕ → List ℕ → Layout) → Item → Layout
 from_item page left bytes next nothing = record { fragments = []; stop = between }
 from_item page left bytes next begun = record { fragments = []; stop = inside }
@@ -92,32 +99,34 @@ abbrev pub layout_of : ℕ → ℕ → ℕ → List ℕ → Layout
 layout_of page zero left bytes = record { fragments = []; stop = between }
 layout_of page (suc k) left bytes = from_item page left bytes (λ l rest. layout_of page k l rest) (item_at left bytes)
 
--- the entries of whole records before the first fault, how many records were passed over, and where it stops
+-- the entries of whole records before the first fault, the types of those that were passed over,
+-- and where it stops
 pub record Reading : Type 0 where
   pub entries : List Entry
-  pub skipped : ℕ
+  pub skipped : List SkippedType
   pub stop : Stop
 
 -- a reading that stops before any record
 abbrev pub stopped : Stop → Reading
-stopped s = record { entries = []; skipped = 0; stop = s }
+stopped s = record { entries = []; skipped = []; stop = s }
 
--- first what a whole record holds, where it is of its type's form, and then the rest
+-- first what a whole record holds, if it is of its type's form, and then the rest
 abbrev pub with_entries : List ℕ → Option (List Entry) → Reading → Reading
 with_entries bytes None r = stopped (at_fault BadRecord)
-with_entries bytes (Some es) r = record { entries = es ++ r.entries; skipped = (if is_skipped bytes then 1 else 0) + r.skipped; stop = r.stop }
+with_entries bytes (Some es) r = record { entries = es ++ r.entries; skipped = skips_of bytes ++ r.skipped; stop = r.stop }
 
 -- first a whole record, and then the rest
 abbrev pub with_record : List ℕ → Reading → Reading
 with_record bytes r = with_entries bytes (record_entries bytes) r
 
--- the end of the fragments, where a record may be open
+-- the end of the fragments, if a record may be open
 abbrev pub end_of : Option (List ℕ) → Stop → Stop
 end_of (Some d) between = inside
 end_of _ s = s
 
--- A record is the data of a full fragment, or of a first, any middles and a last. `so_far` is the data of the record that is open, if one is.
--- A fragment that begins a record while one is open, or goes on with one while none is, is out of sequence.
+-- A record is the data of a full fragment, or of a first, any middles and a last. `so_far` is the
+-- data of the record that is open, if one is. A fragment that begins a record while one is open, or
+-- goes on with one while none is, is out of sequence.
 abbrev pub reading_of : Option (List ℕ) → List (Kind × List ℕ) → Stop → Reading
 reading_of so_far [] s = stopped (end_of so_far s)
 reading_of None ((full, d) ∷ fs) s = with_record d (reading_of None fs s)
@@ -127,7 +136,8 @@ reading_of (Some o) ((middle, d) ∷ fs) s = reading_of (Some (o ++ d)) fs s
 reading_of (Some o) ((last, d) ∷ fs) s = with_record (o ++ d) (reading_of None fs s)
 reading_of (Some o) ((_, d) ∷ fs) s = stopped (at_fault Sequence)
 
--- the reading of what is left of a segment, where a record may be open, with `left` bytes of the first page
+-- the reading of what is left of a segment, if a record may be open, with `left` bytes of the
+-- first page
 abbrev pub read_from : ℕ → ℕ → Option (List ℕ) → List ℕ → Reading
 read_from page left so_far rest = let l = layout_of page (length rest) left rest in reading_of so_far l.fragments l.stop
 

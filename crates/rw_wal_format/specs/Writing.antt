@@ -1,4 +1,4 @@
--- What the writer of a segment puts down for a record (wal.md, "Segment encoding").
+-- What the writer of a segment writes for a record (wal.md, "Segment encoding").
 use Rattle.std.specs.Prelude.{ℕ, zero, suc, ◌+◌, ◌-◌, ◌*◌, ◌/◌, ◌%◌, List, [], ◌∷◌, ◌++◌, length, take, drop, replicate, Bool, true, false, nat_lt, nat_le, if◌then◌else◌}
 use Rattle.byteorder.specs.Endian.{big_bytes}
 use Rattle.rw_codes.specs.Crc.{crc32c_of}
@@ -15,12 +15,13 @@ type_byte last = 4
 unfoldable pub frame : Kind → List ℕ → List ℕ
 frame kind d = type_byte kind ∷ big_bytes 2 (length d) ++ big_bytes 4 (crc32c_of d) ++ d
 
--- the zeros to a page's end, where fewer bytes are left than a header takes
+-- the zeros to a page's end, if fewer bytes are left than a header takes
 abbrev pub padding : ℕ → List ℕ
 padding left = if nat_lt left 7 then replicate left 0 else []
 
--- The fragments of a record, each the greatest that fits: the first with `left` bytes of its page, at least 7, the others with a whole page.
--- There are at most k; `begun` says whether the record has begun.
+-- The fragments of a record, each the greatest that fits: the first with `left` bytes of its page,
+-- at least 7, the others with a whole page. There are at most k; `begun` says whether the record
+-- has begun.
 abbrev pub frames : ℕ → ℕ → ℕ → Bool → List ℕ → List ℕ
 frames page zero left begun d = []
 frames page (suc k) left begun d =

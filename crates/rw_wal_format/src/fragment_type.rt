@@ -25,7 +25,7 @@ pub enum FragmentType {
 }
 
 impl FragmentType {
-    /// The type of a fragment, by whether it goes on with a record and whether it ends one.
+    /// Returns the type of a fragment, by whether it goes on with a record and whether it ends one.
     pub fn of(goes_on: bool, ends: bool) -> FragmentType
         ensures { kind_of result ≡ (if goes_on then (if ends then last else middle)
             else (if ends then full else first)) }
@@ -38,7 +38,8 @@ impl FragmentType {
         }
     }
 
-    /// The type that a byte stands for, without the flags of compressed data.
+    /// Returns the type that a byte stands for, without the flags of compressed data, or `None` if
+    /// there is none.
     pub fn from_byte(byte: u8) -> Option<FragmentType>
         ensures byte { IfSome result (λ part. byte ≡ type_byte (kind_of part)) }
         ensures none { result ≡ None → (byte ≢ 1) × (byte ≢ 2) × (byte ≢ 3) × (byte ≢ 4) }
@@ -52,7 +53,7 @@ impl FragmentType {
         }
     }
 
-    /// The byte that stands for it.
+    /// Returns the byte that stands for it.
     pub fn to_byte(self) -> u8
         ensures { result ≡ type_byte (kind_of self) }
     {

@@ -1,4 +1,5 @@
-//! Laws of the log's grammar, for the crates that read and write logs. Each function has an empty body: its contract is the law.
+//! Laws of the log's grammar, for the crates that read and write logs. Each function has an empty
+//! body: its contract is the law.
 
 ghost use Rattle.std.specs.Prelude.{◌≡◌, ◌+◌, ◌^◌, ◌<◌, ◌≤◌, ◌++◌, ℕ, ℤ, List, [], ◌∷◌, map, length, Some, None};
 ghost use Rattle.rw_types.specs.declared.entry.Entry.{Entry};
@@ -37,7 +38,8 @@ pub fn entries_are_read()
         × (fault (bytes (log_all page_size 0 records) ∷ []) ≡ None) }
 {}
 
-/// Law: one more record adds its fragments at the end of a segment, and changes nothing before them.
+/// Law: one more record adds its fragments at the end of a segment, and changes nothing before
+/// them.
 pub fn one_more_record()
     ensures { (page offset : ℕ) (records : List (List ℕ)) (d : List ℕ)
         → log_all page offset (records ++ d ∷ [])
@@ -45,13 +47,14 @@ pub fn one_more_record()
         ++ log_bytes page (offset + length (log_all page offset records)) d }
 {}
 
-/// Law: as more of a log comes, what was read of it stays, and so does a fault.
+/// Law: as more of a log comes, what was read of it does not change, and a fault stays.
 pub fn reading_goes_on()
     ensures { (page : ℕ) (pieces more : List Piece) → 0 < page
         → Extends (reading page pieces) (reading page (pieces ++ more)) }
 {}
 
-/// Law: it does not matter how the bytes of a segment are cut into pieces, and an empty piece changes nothing.
+/// Law: it does not matter how the bytes of a segment are cut into pieces, and an empty piece
+/// changes nothing.
 pub fn cuts_do_not_matter()
     ensures cut { (page : ℕ) (before after : List Piece) (a b : List ℕ)
         → reading page (before ++ bytes a ∷ bytes b ∷ after)

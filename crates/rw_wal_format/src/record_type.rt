@@ -3,7 +3,7 @@
 ghost use Rattle.std.specs.Prelude.{◌≡◌, ◌≢◌, None, IfSome};
 ghost use Rattle.rw_wal_format.specs.Types.{record_byte};
 
-/// What a record holds. Cast to a number, it is its first byte. Records of other types are passed over.
+/// What a record holds. Cast to a number, it is its first byte. Records of other types are skipped.
 #[derive(Clone, Copy, Debug, PartialEq, Eq, Drop)]
 pub enum RecordType {
     /// Definitions of series.
@@ -13,7 +13,7 @@ pub enum RecordType {
 }
 
 impl RecordType {
-    /// The type that a byte stands for.
+    /// Returns the type that a byte stands for, or `None` if the record is to be skipped.
     pub fn from_byte(byte: u8) -> Option<RecordType>
         ensures byte { IfSome result (λ holds. byte ≡ record_byte holds) }
         ensures none { result ≡ None → (byte ≢ 1) × (byte ≢ 2) }
@@ -25,7 +25,7 @@ impl RecordType {
         }
     }
 
-    /// The byte that stands for it.
+    /// Returns the byte that stands for it.
     pub fn to_byte(self) -> u8
         ensures { result ≡ record_byte self }
     {

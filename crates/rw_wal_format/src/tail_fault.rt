@@ -6,12 +6,13 @@ ghost use Rattle.rw_wal_format.specs.Faults.{log_fault_number};
 use std::error::Error;
 use std::fmt;
 
-/// Why the next entry of a log cannot be given. Each fault but `OutOfMemory` is one of the log, and stays.
+/// Why the next entry of a log cannot be read. Each fault but `OutOfMemory` is one of the log, and
+/// is permanent.
 #[derive(Clone, Copy, Debug, PartialEq, Eq)]
 pub enum TailFault {
-    /// Memory ran out, which is no fault of the log. The call may be made again.
+    /// Memory ran out, which is not a fault of the log. The call may be repeated.
     OutOfMemory,
-    /// The type byte of a fragment is none that the format has.
+    /// The type byte of a fragment is not one of the format.
     BadType,
     /// The length of a fragment passes the end of its page.
     BadLength,
@@ -19,13 +20,13 @@ pub enum TailFault {
     BadCrc,
     /// The type byte of a fragment is from 8 to 31: it has a flag of compressed data.
     Compressed,
-    /// A byte is not zero in the rest of a page, where only zeros may stand.
+    /// A byte is not zero in the rest of a page, where only zeros are allowed.
     NonzeroPadding,
-    /// A fragment begins a record while one is open, or continues one while none is.
+    /// A fragment begins a record while one is open, or continues one while none is open.
     Sequence,
     /// A record of series or of samples is not well-formed.
     BadRecord,
-    /// A segment ends inside a record, and the next one begins.
+    /// A segment ends inside a record, and the next segment begins.
     TornSegment,
 }
 
@@ -48,7 +49,8 @@ impl fmt::Display for TailFault {
 impl Error for TailFault {}
 
 impl TailFault {
-    /// The number that stands for the fault in text: 1 to 8, and 0 for `OutOfMemory`, which is no fault of the log.
+    /// Returns the number that stands for the fault in text: 1 to 8, or 0 for `OutOfMemory`, which
+    /// is not a fault of the log.
     pub fn number(self) -> u8
         ensures { result ≡ log_fault_number self }
     {

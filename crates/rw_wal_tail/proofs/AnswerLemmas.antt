@@ -1,4 +1,4 @@
--- What a reader answers, and what an answer tells of it.
+-- What a reader answers, and what an answer says about it.
 use Rattle.std.proofs.Common.{◌≡◌, ◌≢◌, ℕ, zero, suc, ◌<◌, Bool, true, false, cond, List, [], ◌∷◌, length, Option, None, Some, Result, Ok, Err, OnErr, refl, arith}
 use Rattle.std.specs.Prelude.{slice_get}
 use Rattle.rw_types.specs.declared.entry.Entry.{Entry}
@@ -34,7 +34,7 @@ unfolding answered
 answered_same t OutOfMemory = (refl, refl)
 answered_same t f = (refl, refl)
 
--- what holds anyway holds where there is an error
+-- what holds anyway holds if there is an error
 pub err_holds : {T E P : Type 0} (r : Result T E) → P → OnErr r P
 err_holds (Ok x) p = tt
 err_holds (Err x) p = p

@@ -1,7 +1,8 @@
--- A reader that is told more, and one that answers.
+-- A reader that is fed more, and one that answers.
 use Rattle.std.proofs.Common.{◌≡◌, ℕ, ◌+◌, ◌≤◌, List, [], ◌∷◌, ◌++◌, length, Option, Some, None, Result, Ok, Err, Bool, true, false, nat_lt, ltb, refl, sym, ap, ◌∙◌, arith, append_assoc, append-nil, length-append, lt-ltb, le-ltb, subst}
 use Rattle.std.specs.Prelude.{slice_get, if◌then◌else◌}
 use Rattle.rw_types.specs.declared.entry.Entry.{Entry}
+use Rattle.rw_wal_format.specs.declared.skipped_type.SkippedType.{SkippedType}
 use Rattle.rw_wal_format.specs.declared.tail_fault.TailFault.{TailFault}
 use Rattle.rw_wal_format.specs.declared.tail_fault.TailFault.TheVariants.{OutOfMemory, BadType, BadLength, BadCrc, Compressed, NonzeroPadding, Sequence, BadRecord, TornSegment}
 use Rattle.rw_wal_format.specs.Segments.{Reading, Stop, between, inside, at_fault, stopped}
@@ -21,10 +22,10 @@ use Rattle.rw_wal_tail.proofs.StepLaws.{known_as}
 use Rattle.rw_wal_tail.proofs.StillLaws.{NoFault, still_waits}
 use Rattle.rw_wal_tail.proofs.WaitingLaws.{none_waiting}
 
-after_none : (r : Reading) → r ≡ after [] 0 r
-after_none r = let z : r.skipped ≡ 0 + r.skipped = omega arith in ap (λ (m : ℕ). record { entries = r.entries; skipped = m; stop = r.stop }) z
+after_none : (r : Reading) → r ≡ after [] [] r
+after_none r = refl
 
-still_start : (d : List ℕ) (later : List Piece) → read_on page_size page_size None [] later ≡ after [] 0 (still [] 0 None page_size false d [] [] later)
+still_start : (d : List ℕ) (later : List Piece) → read_on page_size page_size None [] later ≡ after [] [] (still [] [] None page_size false d [] [] later)
 unfolding still
 still_start d later = after_none (read_on page_size page_size None [] later) ∙ after_none _
 
@@ -40,12 +41,12 @@ follows_start r i u =
       stops = λ later. rw (u.left, u.is_open, u.fault, u.input) (place_start 0 [] later);
     }
 
-give_one : (given es : List Entry) (e : Entry) (n : ℕ) (f : Option TailFault) (left : ℕ) (o : Bool) (d rest : List ℕ) (w later : List Piece)
-    → after given 0 (still (e ∷ es) n f left o d rest w later) ≡ after (given ++ e ∷ []) 0 (still es n f left o d rest w later)
+give_one : (given es : List Entry) (e : Entry) (n : List SkippedType) (f : Option TailFault) (left : ℕ) (o : Bool) (d rest : List ℕ) (w later : List Piece)
+    → after given [] (still (e ∷ es) n f left o d rest w later) ≡ after (given ++ e ∷ []) [] (still es n f left o d rest w later)
 unfolding still
 give_one given es e n f left o d rest w later =
     let x = from_here f left (open_data o d) rest (w ++ later) in
-    ap (λ (l : List Entry). record { entries = l; skipped = 0 + (n + x.skipped); stop = x.stop }) (sym (append_assoc given (e ∷ []) (es ++ x.entries)))
+    ap (λ (l : List Entry). record { entries = l; skipped = n ++ x.skipped; stop = x.stop }) (sym (append_assoc given (e ∷ []) (es ++ x.entries)))
 
 ends_more : (n : ℕ) (ps : List Piece) (p : Piece) → ends_after n (ps ++ p ∷ []) ≡ ends_with (ends_after n ps) p
 ends_more n [] p = refl
@@ -55,7 +56,7 @@ module _ (ps : List Piece) (given : List Entry) (old new : Reader) (f : Follows 
   pub follows_same : Same old new → Follows ps given new
   follows_same s = record {
     reader = s.reader;
-    reads = λ later. f.reads later ∙ ap (after given 0) (s.still_same later);
+    reads = λ later. f.reads later ∙ ap (after given []) (s.still_same later);
     counts = λ b. s.place.counts ∙ f.counts (omega (arith, b, s.place.counts));
     stops = λ later. f.stops later ∙ s.place.still_there (ends_after 0 ps) f.counts later;
   }
@@ -65,7 +66,7 @@ module _ (ps : List Piece) (given : List Entry) (old new : Reader) (f : Follows 
       let e : ends_after 0 (ps ++ p ∷ []) ≡ ends_with (ends_after 0 ps) p = ends_more 0 ps p in
       record {
         reader = t.reader;
-        reads = λ later. ap (reading page_size) (append_assoc ps (p ∷ []) later) ∙ f.reads (p ∷ later) ∙ ap (after given 0) (t.still_more later);
+        reads = λ later. ap (reading page_size) (append_assoc ps (p ∷ []) later) ∙ f.reads (p ∷ later) ∙ ap (after given []) (t.still_more later);
         counts = λ b. t.place.counts (ends_after 0 ps) f.counts b ∙ sym e;
         stops = λ later.
             ap (stop_after page_size 0 []) (append_assoc ps (p ∷ []) later) ∙ f.stops (p ∷ later) ∙ t.place.still_there (ends_after 0 ps) f.counts later
@@ -82,7 +83,7 @@ module _ (ps : List Piece) (given : List Entry) (old new : Reader) (f : Follows 
       let p : new.passed ≡ old.passed = ap (λ (x : Reader). x.passed) q in
       let t : new.fault ≡ old.fault = ap (λ (x : Reader). x.fault) q in
       record {
-        reader = record { page = omega (arith, l, f.reader.page); count = omega (arith, p, f.reader.count); fault = subst IsOfLog (sym t) f.reader.fault; zeros = known_as old new l z (ap (λ (h : Held). h.rest) i) f.reader.zeros };
+        reader = record { page = omega (arith, l, f.reader.page); count = omega (arith, ap length p, f.reader.count); fault = subst IsOfLog (sym t) f.reader.fault; zeros = known_as old new l z (ap (λ (h : Held). h.rest) i) f.reader.zeros };
         reads = λ later.
             let g = give_one given new.ready.items e old.passed old.fault old.left old.is_open old.begun.items old.input.rest (waiting_of old) later in
             let rest : new.input.rest ≡ old.input.rest = ap (λ (h : Held). h.rest) i in
@@ -111,26 +112,26 @@ next_end given xs z q =
     rw (q, t) refl
 
 module _ (ps : List Piece) (given : List Entry) where
-  end_entries : (n : ℕ) (s : Stop) → reading page_size ps ≡ after given 0 (after [] n (stopped s)) → next_of ps (length given) ≡ end_of (fault_at s)
+  end_entries : (n : List SkippedType) (s : Stop) → reading page_size ps ≡ after given [] (after [] n (stopped s)) → next_of ps (length given) ≡ end_of (fault_at s)
   unfolding next_of
   end_entries n s q =
       let e : entries ps ≡ given = ap (λ (r : Reading). r.entries) q ∙ append-nil given in
       next_end given (entries ps) (end_of (fault ps)) e ∙ ap (λ (r : Reading). end_of (fault_at r.stop)) q
 
-  end_skipped : (n : ℕ) (s : Stop) → reading page_size ps ≡ after given 0 (after [] n (stopped s)) → skipped ps ≡ n
-  end_skipped n s q = let e : skipped ps ≡ 0 + (n + 0) = ap (λ (r : Reading). r.skipped) q in omega (arith, e)
+  end_skipped : (n : List SkippedType) (s : Stop) → reading page_size ps ≡ after given [] (after [] n (stopped s)) → skipped ps ≡ n
+  end_skipped n s q = ap (λ (r : Reading). r.skipped) q ∙ append-nil n
 
 no_fault_at : (s : Stop) → NoFault s → fault_at s ≡ None
 no_fault_at between n = refl
 no_fault_at inside n = refl
 no_fault_at (at_fault f) n = absurd n
 
-still_failed : (n left : ℕ) (o : Bool) (d rest : List ℕ) (w : List Piece) (x : TailFault) → still [] n (Some x) left o d rest w [] ≡ after [] n (stopped (at_fault x))
+still_failed : (n : List SkippedType) (left : ℕ) (o : Bool) (d rest : List ℕ) (w : List Piece) (x : TailFault) → still [] n (Some x) left o d rest w [] ≡ after [] n (stopped (at_fault x))
 unfolding still
 still_failed n left o d rest w x = refl
 
 module _ (ps : List Piece) (given : List Entry) (r : Reader) (f : Follows ps given r) where
-  pub all_read : reading page_size ps ≡ after given 0 (still_read r [])
+  pub all_read : reading page_size ps ≡ after given [] (still_read r [])
   all_read = ap (reading page_size) (sym (append-nil ps)) ∙ f.reads []
 
   pub given_within : length given ≤ length (entries ps)
@@ -145,20 +146,20 @@ module _ (ps : List Piece) (given : List Entry) (r : Reader) (f : Follows ps giv
       let a : entries ps ≡ given ++ (e ∷ (es ++ x.entries)) = ap (λ (y : Reading). y.entries) all_read ∙ ap (λ (l : List Entry). given ++ (l ++ x.entries)) q in
       next_front given (es ++ x.entries) (entries ps) e (end_of (fault ps)) a
 
-  ends_at : Ends r → (s : Stop) × (reading page_size ps ≡ after given 0 (after [] r.passed (stopped s))) × NoFault s
+  ends_at : Ends r → (s : Stop) × (reading page_size ps ≡ after given [] (after [] r.passed (stopped s))) × NoFault s
   ends_at e =
       let w : waiting_of r ≡ [] = none_waiting r.input.later r.input.ended e.none_waits in
       let none : r.ready.items ≡ [] = e.can_step.none_ready in
       let z = still_waits r.left e.can_step.reader.page r.input.rest r.ready.items r.passed r.is_open r.begun.items e.ends in
       let q : r.fault ≡ None = e.can_step.no_fault in
       let b : still_read r [] ≡ after [] r.passed (stopped z.0) = (let zz = z.1 in cc) in
-      (z.0, all_read ∙ ap (after given 0) b, z.2)
+      (z.0, all_read ∙ ap (after given []) b, z.2)
 
-  fails_at : (x : TailFault) → r.fault ≡ Some x → r.ready.items ≡ [] → reading page_size ps ≡ after given 0 (after [] r.passed (stopped (at_fault x)))
+  fails_at : (x : TailFault) → r.fault ≡ Some x → r.ready.items ≡ [] → reading page_size ps ≡ after given [] (after [] r.passed (stopped (at_fault x)))
   fails_at x e n =
       let z = still_failed r.passed r.left r.is_open r.begun.items r.input.rest (waiting_of r) x in
       let b : still_read r [] ≡ after [] r.passed (stopped (at_fault x)) = cc in
-      all_read ∙ ap (after given 0) b
+      all_read ∙ ap (after given []) b
 
   pub gives_none : Ends r → next_of ps (length given) ≡ Ok None
   gives_none e = let x = ends_at e in end_entries ps given r.passed x.0 x.1 ∙ ap end_of (no_fault_at x.0 x.2)
@@ -175,7 +176,7 @@ module _ (ps : List Piece) (given : List Entry) (r : Reader) (f : Follows ps giv
   pub has_fault : (x : TailFault) → r.fault ≡ Some x → r.ready.items ≡ [] → fault ps ≡ Some x
   has_fault x e n = ap (λ (y : Reading). fault_at y.stop) (fails_at x e n)
 
-  -- the place of the fault is that of what stands at the reader's front
+  -- the place of the fault is that of what comes at the reader's front
   pub places_fault : (x : TailFault) → r.fault ≡ Some x → r.ready.items ≡ [] → fault_place ps ≡ Some (front_of r.input)
   unfolding fault_place
   places_fault x e n =
@@ -198,22 +199,22 @@ answered_fault t TornSegment h = refl
 
 module _ (ps : List Piece) (t : Fed) (count : ℕ) (told : Option TailFault) where
   -- what is asked of a reader, in the words of its fields
-  pub asked : (given : List Entry) (n : ℕ) → record { pieces = ps; given = count; skipped = n; fault = told } ≡ t → count ≡ length given → next_of t.pieces t.given ≡ next_of ps (length given)
+  pub asked : (given : List Entry) (n : List SkippedType) → record { pieces = ps; given = count; skipped = n; fault = told } ≡ t → count ≡ length given → next_of t.pieces t.given ≡ next_of ps (length given)
   asked given n v c = sym (ap (λ (x : Fed). next_of x.pieces x.given) v) ∙ ap (next_of ps) c
 
-  counted_as : (n m : ℕ) → record { pieces = ps; given = count; skipped = n; fault = told } ≡ t → skipped ps ≡ m → record { pieces = ps; given = count; skipped = m; fault = told } ≡ record t { skipped = skipped t.pieces }
-  counted_as n m v s = ap (λ (k : ℕ). record { pieces = ps; given = count; skipped = k; fault = told }) (sym s) ∙ ap (λ (x : Fed). record x { skipped = skipped x.pieces }) v
+  counted_as : (n m : List SkippedType) → record { pieces = ps; given = count; skipped = n; fault = told } ≡ t → skipped ps ≡ m → record { pieces = ps; given = count; skipped = m; fault = told } ≡ record t { skipped = skipped t.pieces }
+  counted_as n m v s = ap (λ (k : List SkippedType). record { pieces = ps; given = count; skipped = k; fault = told }) (sym s) ∙ ap (λ (x : Fed). record x { skipped = skipped x.pieces }) v
 
-  pub counted_none : (n m : ℕ) → record { pieces = ps; given = count; skipped = n; fault = told } ≡ t → skipped ps ≡ m → record { pieces = ps; given = count; skipped = m; fault = told } ≡ answered t (Ok None)
+  pub counted_none : (n m : List SkippedType) → record { pieces = ps; given = count; skipped = n; fault = told } ≡ t → skipped ps ≡ m → record { pieces = ps; given = count; skipped = m; fault = told } ≡ answered t (Ok None)
   unfolding answered
   counted_none n m v s = counted_as n m v s
 
-  pub counted_fault : (n m : ℕ) (f : TailFault) → IsOfLog (Some f) → record { pieces = ps; given = count; skipped = n; fault = told } ≡ t → skipped ps ≡ m → record { pieces = ps; given = count; skipped = m; fault = Some f } ≡ answered t (Err f)
+  pub counted_fault : (n m : List SkippedType) (f : TailFault) → IsOfLog (Some f) → record { pieces = ps; given = count; skipped = n; fault = told } ≡ t → skipped ps ≡ m → record { pieces = ps; given = count; skipped = m; fault = Some f } ≡ answered t (Err f)
   counted_fault n m f l v s = ap (λ (x : Fed). record x { fault = Some f }) (counted_as n m v s) ∙ sym (answered_fault t f l)
 
 -- ---- more pieces
 
--- what is told stays so
+-- what was reported does not change
 pub still_stuck : (old new : Reader) (told : Option TailFault) → new.fault ≡ old.fault → new.ready ≡ old.ready → IsStuck old told → IsStuck new told
 still_stuck old new None f r s = tt
 still_stuck old new (Some x) f r s = (f ∙ s.0, ap (λ q. q.items) r ∙ s.1)

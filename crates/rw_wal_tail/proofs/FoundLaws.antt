@@ -1,4 +1,4 @@
--- What stands at a fragment's place, by its first byte.
+-- What comes at a fragment's place, by its first byte.
 use Rattle.std.proofs.Common.{◌≡◌, ℕ, ◌<◌, ◌≤◌, List, [], ◌∷◌, length, take, drop, ◌+◌, ◌-◌, ◌++◌, subst, inl, inr, min, get_or, Bool, true, false, ltb, eqb, cond, refl, sym, ap, ◌∙◌, arith, lt-ltb, le-ltb, take_all}
 use Rattle.std.proofs.lemmas.Bool.{ne_eqb}
 use Rattle.std.specs.List.{list_all}
@@ -107,7 +107,7 @@ item_wrong left (b ∷ bs) h l n =
       | false ↦ refl
     ])
 
--- ---- what holds of whatever stands there
+-- ---- what holds of whatever comes there
 
 either : (P : Item → Type 0) (b : Bool) (x y : Item) → P x → P y → P (cond b x y)
 either P true x y p q = p
@@ -131,7 +131,7 @@ module _ (P : Item → Type 0) (at_begun : P begun) (at_fragment : (k : Kind) (d
       (either P (b == 4) _ _ (holds_of_fragment last bs)
       (either P (nat_le 8 b) _ _ (either P (nat_lt b 32) _ _ at_compressed at_type) at_type)))))
 
--- ---- it is never want of memory
+-- ---- it is never out of memory
 
 IsItemOfLog : Item → Type 0
 IsItemOfLog (wrong f) = IsOfLog (Some f)
@@ -148,7 +148,7 @@ pub wrong_of_log : (left : ℕ) (bs : List ℕ) (f : TailFault) → item_at left
 unfolding IsItemOfLog
 wrong_of_log left bs f e = subst IsItemOfLog e (item_of_log left bs)
 
--- ---- where nothing stands there, the bytes are zeros
+-- ---- if nothing comes there, the bytes are zeros
 
 NothingIsZeros : ℕ → List ℕ → Item → Type 0
 NothingIsZeros left bs nothing = KnownZeros left (length bs) bs

@@ -1,5 +1,5 @@
 -- The room for a record in fragments, and the bound of all counts, as a reader goes on.
-use Rattle.std.proofs.Common.{◌≡◌, ℕ, suc, ◌+◌, ◌<◌, ◌≤◌, ◌^◌, List, [], ◌∷◌, ◌++◌, length, take, drop, map, Option, Some, None, Result, Ok, Err, Bool, true, false, ◌&&◌, refl, sym, ap, ◌∙◌, arith, subst, length-append, length-drop, length-take, inl, inr, ◌⊎◌, ltb, get_or, cond, take_all}
+use Rattle.std.proofs.Common.{◌≡◌, ℕ, ◌+◌, ◌<◌, ◌≤◌, ◌^◌, List, [], ◌∷◌, ◌++◌, length, take, drop, Option, Some, None, Result, Ok, Err, Bool, true, false, ◌&&◌, refl, sym, ap, ◌∙◌, arith, subst, length-append, length-drop, inl, inr, ◌⊎◌, ltb, cond, take_all}
 use Rattle.std.specs.Prelude.{vec_capacity, OnOk, OnErr, MatchResult}
 use Rattle.std.proofs.lemmas.Bool.{ltb-false}
 use Rattle.std.proofs.lemmas.List.{take-append-le}
@@ -10,7 +10,9 @@ use Rattle.rw_wal_format.specs.Pieces.{Piece, bytes, next_segment, entries}
 use Rattle.rw_wal_format.specs.declared.tail_fault.TailFault.{TailFault}
 use Rattle.rw_wal_tail.specs.declared.reader.Reader.{Reader}
 use Rattle.rw_wal_tail.specs.Held.{Held, has_ended, begun_with, extend_last, fed_with, fed, passed, marked, one_more, can_count, later_bytes, unread}
-use Rattle.rw_wal_tail.specs.Still.{still, skip_of, from_here, open_data}
+use Rattle.rw_wal_format.specs.Skipped.{skips_of, skipped_type}
+use Rattle.rw_wal_format.specs.declared.skipped_type.SkippedType.{SkippedType}
+use Rattle.rw_wal_tail.specs.Still.{still, from_here, open_data}
 use Rattle.rw_wal_tail.specs.Form.{HasEntries}
 use Rattle.rw_wal_tail.specs.Fed.{Fed, Follows, IsStuck, IsTail, size_of}
 use Rattle.rw_wal_tail.specs.Steps.{still_read, waiting_of, CanStep, FoundAt, IsKept, GivesNext, MayLack, Same, IsOfLog, IsReader}
@@ -36,7 +38,7 @@ kept_same old new n i d c p k =
     let e : new.input.ends ≡ old.input.ends = ap (λ (h : Held). h.ends) i in
     record {
       room = omega (arith, d, c, u, k.room);
-      passed = omega (arith, p, u, k.passed);
+      passed = omega (arith, ap length p, u, k.passed);
       offset = omega (arith, o, r, k.offset);
       ends = omega (arith, e, k.ends);
     }
@@ -68,12 +70,12 @@ kept_fed old new b n i d p room k =
     let l : length new.begun.items ≡ length old.begun.items = ap length d in
     record {
       room = omega (arith, l, u, g.unread_more, room);
-      passed = omega (arith, p, u, g.unread_more, k.passed);
+      passed = omega (arith, ap length p, u, g.unread_more, k.passed);
       offset = omega (arith, o, r, g.offset_same, g.rest_within, k.offset);
       ends = omega (arith, e, g.ends_same, k.ends);
     }
 
--- the same where feeding may be refused
+-- the same if feeding may fail
 pub kept_feed : {T E : Type 0} (r : Result T E) (old new : Reader) (b : List ℕ) (n : ℕ) → OnOk r (new.input ≡ fed b old.input) → OnErr r (new.input ≡ old.input) → new.begun.items ≡ old.begun.items → new.passed ≡ old.passed
     → length old.begun.items + (unread old.input + length b) ≤ vec_capacity new.begun → vec_capacity old.begun ≤ vec_capacity new.begun → IsKept n old → MatchResult r (λ _. IsKept (n + length b) new) (λ _. IsKept n new)
 kept_feed (Ok x) old new b n i e d p room c k = kept_fed old new b n i d p room k
@@ -94,16 +96,16 @@ kept_marked old new n i d p k =
     let c : vec_capacity new.begun ≡ vec_capacity old.begun = ap (λ v. vec_capacity v) d in
     record {
       room = omega (arith, l, c, u, k.room);
-      passed = omega (arith, p, u, k.passed);
+      passed = omega (arith, ap length p, u, k.passed);
       offset = omega (arith, o, r, k.offset);
       ends = omega (arith, e, m);
     }
 
 -- ---- steps
 
--- new is old after so many bytes, of which m at most are joined to the data of a record
+-- new is old after n bytes, of which m at most are joined to the data of a record
 pub kept_passed : (old new : Reader) (n m k : ℕ) → new.input ≡ passed n old.input → n ≤ length old.input.rest → m < n → length new.begun.items ≤ length old.begun.items + m
-    → vec_capacity old.begun ≤ vec_capacity new.begun → new.passed ≤ old.passed + 1 → IsKept k old → IsKept k new
+    → vec_capacity old.begun ≤ vec_capacity new.begun → length new.passed ≤ length old.passed + 1 → IsKept k old → IsKept k new
 kept_passed old new n m k i le lt d c p kept =
     let u : unread new.input ≡ length (drop n old.input.rest) + later_bytes old.input.later = ap unread i in
     let o : new.input.offset ≡ old.input.offset + n = ap (λ (h : Held). h.offset) i in
@@ -138,20 +140,20 @@ kept_begun old new n h i d p k =
     let eb : g.ends ≡ old.input.ends = b.2 in
     record {
       room = omega (arith, l, c, u, ub, k.room);
-      passed = omega (arith, p, u, ub, k.passed);
+      passed = omega (arith, ap length p, u, ub, k.passed);
       offset = omega (arith, o, r, ob, ub, k.passed);
       ends = omega (arith, e, eb, k.ends);
     }
 
-skip_by : (b : Bool) → cond b 1 0 ≤ 1
-skip_by true = omega arith
-skip_by false = omega arith
+skip_by : (t : SkippedType) (b : Bool) → length (cond b (t ∷ []) []) ≤ 1
+skip_by t true = omega arith
+skip_by t false = omega arith
 
 -- a record is passed over once at most
-pub skip_within : (d : List ℕ) → skip_of d ≤ 1
-skip_within d = skip_by (is_skipped d)
+pub skip_within : (passed after : List SkippedType) (d : List ℕ) → after ≡ passed ++ skips_of d → length after ≤ length passed + 1
+skip_within passed after d e = omega (arith, ap length e, length-append passed (skips_of d), skip_by (skipped_type d) (is_skipped d))
 
--- ---- where memory may be refused
+-- ---- if memory may run out
 
 cannot_by : (a b : ℕ) (p q : Bool) → ltb a (2 ^ 60) ≡ p → ltb b (2 ^ 60) ≡ q → (p && q) ≡ false → (2 ^ 60 ≤ a) ⊎ (2 ^ 60 ≤ b)
 cannot_by a b false q e f h = inl (ltb-false a (2 ^ 60) e)
@@ -164,7 +166,7 @@ lacks_count r n h k = elim (cannot_by r.input.offset r.input.ends (ltb r.input.o
   | inr b ↦ omega (arith, b, k.ends)
 ]
 
-starts_with : (es : List Entry) (n : ℕ) (f : Option TailFault) (left : ℕ) (o : Bool) (d rest : List ℕ) (w later : List Piece) → 0 < length es → 0 < length (still es n f left o d rest w later).entries
+starts_with : (es : List Entry) (n : List SkippedType) (f : Option TailFault) (left : ℕ) (o : Bool) (d rest : List ℕ) (w later : List Piece) → 0 < length es → 0 < length (still es n f left o d rest w later).entries
 unfolding still
 starts_with es n f left o d rest w later h = omega (arith, h, length-append es (from_here f left (open_data o d) rest (w ++ later)).entries)
 
@@ -188,16 +190,16 @@ gives_last r n f h =
     subst (λ (x : Reading). 0 < length x.entries) (sym (read_at r true f.can_step f.in_order ∙ s)) (starts_with h.0 _ _ _ _ _ _ _ _ h.2)
 
 -- a record of the bytes d may lack memory to be read
-lacks_by : (old new : Reader) (n k : ℕ) (d : List ℕ) → Same old new → 7 + n ≤ length old.input.rest → (HasEntries d → GivesNext old) → IsKept k old → HasEntries d ⊎ (2 ^ 60 ≤ old.passed + 1) → MayLack k new
+lacks_by : (old new : Reader) (n k : ℕ) (d : List ℕ) → Same old new → 7 + n ≤ length old.input.rest → (HasEntries d → GivesNext old) → IsKept k old → HasEntries d ⊎ (2 ^ 60 ≤ length old.passed + 1) → MayLack k new
 lacks_by old new n k d s le f kept h = elim h [
   | inl e ↦ inl (gives_same old new s (f e))
   | inr c ↦ inr (omega (arith, c, le, kept.passed))
 ]
 
-pub lacks_full : (old new : Reader) (n k : ℕ) (d : List ℕ) → Same old new → FoundAt full n old → IsKept k old → d ≡ take n (drop 7 old.input.rest) → HasEntries d ⊎ (2 ^ 60 ≤ old.passed + 1) → MayLack k new
+pub lacks_full : (old new : Reader) (n k : ℕ) (d : List ℕ) → Same old new → FoundAt full n old → IsKept k old → d ≡ take n (drop 7 old.input.rest) → HasEntries d ⊎ (2 ^ 60 ≤ length old.passed + 1) → MayLack k new
 lacks_full old new n k d s f kept q h = lacks_by old new n k d s f.whole (λ e. gives_full old n f (subst HasEntries q e)) kept h
 
-pub lacks_last : (old new : Reader) (n k : ℕ) (d : List ℕ) → Same old new → FoundAt last n old → IsKept k old → d ≡ old.begun.items ++ take n (drop 7 old.input.rest) → HasEntries d ⊎ (2 ^ 60 ≤ old.passed + 1)
+pub lacks_last : (old new : Reader) (n k : ℕ) (d : List ℕ) → Same old new → FoundAt last n old → IsKept k old → d ≡ old.begun.items ++ take n (drop 7 old.input.rest) → HasEntries d ⊎ (2 ^ 60 ≤ length old.passed + 1)
     → MayLack k new
 lacks_last old new n k d s f kept q h = lacks_by old new n k d s f.whole (λ e. gives_last old n f (subst HasEntries q e)) kept h
 
@@ -231,14 +233,14 @@ next_waits ps given r f g =
     let e : entries ps ≡ given ++ (still_read r []).entries = ap (λ (x : Reading). x.entries) (all_read ps given r f) in
     omega (arith, g, ap length e, length-append given (still_read r []).entries)
 
-pub tail_lacks : (ps : List Piece) (t : Fed) (count : ℕ) (told : Option TailFault) (given : List Entry) (n : ℕ) (r : Reader) → record { pieces = ps; given = count; skipped = n; fault = told } ≡ t → count ≡ length given
+pub tail_lacks : (ps : List Piece) (t : Fed) (count : ℕ) (told : Option TailFault) (given : List Entry) (n : List SkippedType) (r : Reader) → record { pieces = ps; given = count; skipped = n; fault = told } ≡ t → count ≡ length given
     → Follows ps given r → MayLack (size_of ps) r → (t.given < length (entries t.pieces)) ⊎ (2 ^ 60 ≤ size_of t.pieces)
 tail_lacks ps t count told given n r v c f lacks = subst (λ (x : Fed). (x.given < length (entries x.pieces)) ⊎ (2 ^ 60 ≤ size_of x.pieces)) v (elim lacks [
   | inl g ↦ inl (omega (arith, c, next_waits ps given r f g))
   | inr m ↦ inr m
 ])
 
--- a fault of the log is not that memory is refused
+-- a fault of the log is not out of memory
 pub not_of_log : (f : TailFault) → IsOfLog (Some f) → (let e : Result (Option Entry) TailFault = Err f in e ≡ Err OutOfMemory) → ⊥
 not_of_log f l e = let same : f ≡ OutOfMemory = cc in subst (λ x. IsOfLog (Some x)) same l
 
@@ -256,7 +258,7 @@ pub same_data : (old new : Reader) → IsReader old → new.input ≡ old.input 
     → new.fault ≡ old.fault → new.is_open ≡ old.is_open → Same old new
 unfolding still
 same_data old new r i l z e d p f o = record {
-  reader = record { page = omega (arith, l, r.page); count = omega (arith, p, r.count); fault = subst IsOfLog (sym f) r.fault; zeros = known_as old new l z (ap (λ (h : Held). h.rest) i) r.zeros };
+  reader = record { page = omega (arith, l, r.page); count = omega (arith, ap length p, r.count); fault = subst IsOfLog (sym f) r.fault; zeros = known_as old new l z (ap (λ (h : Held). h.rest) i) r.zeros };
   place = record { counts = ap (λ (h : Held). h.ends) i; still_there = λ ends c later. rw (f, l, o, d, i) refl };
   still_same = λ later. rw (o, i, l, e, d, p, f) refl;
 }

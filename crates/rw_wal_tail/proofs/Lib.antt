@@ -10,4 +10,6 @@ mod StepLaws
 mod FedLaws
 mod KeptLaws
 mod CopyLaws
+mod SkipLaws
+mod TakingLemmas
 pub mod AnswerLemmas

@@ -58,7 +58,7 @@ module _ (old new : Reader) (can : CanStep old) where
         ∙ place_with new page_size (open_data old.is_open old.begun.items) (passed old.left old.input) ends later (f ∙ can.no_fault) l open_as i;
   }
 
-  -- a fault at what stands in front
+  -- a fault at what comes in front
   pub place_failed : (f : TailFault) → new.input ≡ old.input → new.fault ≡ Some f
       → ((ends : ℕ) (later : List Piece) → place_held old.input.segment old.input.offset old.left (open_data old.is_open old.begun.items) old.input.rest old.input.later old.input.ended ends later
       ≡ front_of old.input)

@@ -12,7 +12,9 @@ use Rattle.rw_wal_format.proofs.Growing.{left_after_pos}
 use Rattle.rw_wal_tail.specs.declared.reader.Reader.{Reader}
 use Rattle.rw_wal_tail.specs.Found.{KnownZeros}
 use Rattle.rw_wal_tail.specs.Held.{Held, waiting, has_ended, begun_with, fed_with, fed, passed, marked, can_count}
-use Rattle.rw_wal_tail.specs.Still.{still, skip_of, open_data}
+use Rattle.rw_wal_tail.specs.Still.{still, open_data}
+use Rattle.rw_wal_format.specs.Skipped.{skips_of}
+use Rattle.rw_wal_format.specs.declared.skipped_type.SkippedType.{SkippedType}
 use Rattle.rw_wal_tail.specs.Steps.{IsRead, waiting_of, IsOfLog, IsReader, Same, SamePlace, Takes, CanStep, FoundAt, FoundFragment, PausesAt}
 use Rattle.rw_wal_tail.proofs.StillLaws.{IsInner, IsBegin, still_first, still_middle, still_full, still_last, still_bad_full, still_bad_last, still_closed, still_open, still_zeros, still_wrong}
 use Rattle.rw_wal_tail.specs.Places.{closes, opens}
@@ -63,7 +65,7 @@ module _ (old new : Reader) (n : ℕ) (a : Advanced old new n) where
   waiting_advanced : waiting_of new ≡ waiting_of old
   waiting_advanced = ap (λ (h : Held). waiting h.later h.ended) a.input
 
-  reader_advanced : new.passed < 2 ^ 60 → old.fault ≡ None → IsReader new
+  reader_advanced : length new.passed < 2 ^ 60 → old.fault ≡ None → IsReader new
   reader_advanced c none =
       let l : 0 < left_after page_size old.left (7 + n) = left_after_pos page_size old.left (7 + n) (omega arith) in
       record { page = omega (arith, l, a.left); count = c; fault = subst IsOfLog (sym (a.fault ∙ none)) tt; zeros = known_none new.left new.zeros new.input.rest a.zeros }
@@ -75,7 +77,7 @@ module _ (old new : Reader) (n : ℕ) (a : Advanced old new n) (ready : new.read
       let r : new.input.rest ≡ drop (7 + n) old.input.rest = rest_advanced old new n a in
       let w : waiting_of new ≡ waiting_of old = waiting_advanced old new n a in
       record {
-        reader = reader_advanced old new n a (omega (arith, passed, f.can_step.reader.count)) f.can_step.no_fault;
+        reader = reader_advanced old new n a (omega (arith, ap length passed, f.can_step.reader.count)) f.can_step.no_fault;
         place = place_advanced old new f.can_step n first (take n (drop 7 old.input.rest)) a.input a.left a.fault len f.found (rw (f.in_order, opened, d) refl);
         still_same = λ later.
             let s = still_first old.left f.can_step.reader.page old.input.rest old.ready.items old.passed (waiting_of old) later old.begun.items (take n (drop 7 old.input.rest)) f.found in
@@ -90,7 +92,7 @@ module _ (old new : Reader) (n : ℕ) (a : Advanced old new n) (ready : new.read
       let r : new.input.rest ≡ drop (7 + n) old.input.rest = rest_advanced old new n a in
       let w : waiting_of new ≡ waiting_of old = waiting_advanced old new n a in
       record {
-        reader = reader_advanced old new n a (omega (arith, passed, f.can_step.reader.count)) f.can_step.no_fault;
+        reader = reader_advanced old new n a (omega (arith, ap length passed, f.can_step.reader.count)) f.can_step.no_fault;
         place = place_advanced old new f.can_step n middle (take n (drop 7 old.input.rest)) a.input a.left a.fault len f.found (rw (f.in_order, opened, d) refl);
         still_same = λ later.
             let s = still_middle old.left f.can_step.reader.page old.input.rest old.ready.items old.passed (waiting_of old) later old.begun.items (take n (drop 7 old.input.rest)) f.found in
@@ -104,7 +106,7 @@ pub same_closed : (old new : Reader) → IsReader old → old.is_open ≡ false 
     → new.passed ≡ old.passed → new.fault ≡ old.fault → Same old new
 unfolding still
 same_closed old new r o o' i l z e p f = record {
-  reader = record { page = omega (arith, l, r.page); count = omega (arith, p, r.count); fault = subst IsOfLog (sym f) r.fault; zeros = known_as old new l z (ap (λ (h : Held). h.rest) i) r.zeros };
+  reader = record { page = omega (arith, l, r.page); count = omega (arith, ap length p, r.count); fault = subst IsOfLog (sym f) r.fault; zeros = known_as old new l z (ap (λ (h : Held). h.rest) i) r.zeros };
   place = place_same old new o o' i l f;
   still_same = λ later. rw (o, o', i, l, e, p, f) refl;
 }
@@ -116,7 +118,7 @@ joined xs ys zs d e x y = e ∙ ap (λ (l : List ℕ). l ++ ys) x ∙ y
 pub data_of : (n : ℕ) (xs ys zs : List ℕ) → zs ≡ take n (drop 7 ys) → ys ≡ xs → zs ≡ take n (drop 7 xs)
 data_of n xs ys zs e f = e ∙ ap (λ (l : List ℕ). take n (drop 7 l)) f
 
-module _ (old new : Reader) (n : ℕ) (a : Advanced old new n) (count : new.passed < 2 ^ 60) (closed : new.is_open ≡ false) where
+module _ (old new : Reader) (n : ℕ) (a : Advanced old new n) (count : length new.passed < 2 ^ 60) (closed : new.is_open ≡ false) where
   pub same_full : FoundAt full n old → IsRead (take n (drop 7 old.input.rest)) old.passed new.ready.items new.passed true → Same old new
   same_full f d =
       let len : length (take n (drop 7 old.input.rest)) ≡ n = data_length n old.input.rest f.whole in
@@ -130,7 +132,7 @@ module _ (old new : Reader) (n : ℕ) (a : Advanced old new n) (count : new.pass
             let s = still_full old.left f.can_step.reader.page old.input.rest old.passed (waiting_of old) later old.begun.items new.begun.items (take n (drop 7 old.input.rest)) new.ready.items f.found d.0 in
             let o : old.is_open ≡ false = f.in_order in
             let q : old.fault ≡ None = f.can_step.no_fault in
-            let k : new.passed ≡ old.passed + skip_of (take n (drop 7 old.input.rest)) = d.1 in
+            let k : new.passed ≡ old.passed ++ skips_of (take n (drop 7 old.input.rest)) = d.1 in
             cc;
       }
 
@@ -147,7 +149,7 @@ module _ (old new : Reader) (n : ℕ) (a : Advanced old new n) (count : new.pass
             let s = still_last old.left f.can_step.reader.page old.input.rest old.passed (waiting_of old) later old.begun.items new.begun.items (take n (drop 7 old.input.rest)) new.ready.items f.found d.0 in
             let o : old.is_open ≡ true = f.in_order in
             let q : old.fault ≡ None = f.can_step.no_fault in
-            let k : new.passed ≡ old.passed + skip_of (old.begun.items ++ take n (drop 7 old.input.rest)) = d.1 in
+            let k : new.passed ≡ old.passed ++ skips_of (old.begun.items ++ take n (drop 7 old.input.rest)) = d.1 in
             cc;
       }
 
@@ -167,13 +169,13 @@ module _ (old new : Reader) (fault : TailFault) (can : CanStep old) (a : Failing
   same_failed x h =
       let none : old.ready.items ≡ [] = can.none_ready in
       record {
-        reader = record { page = omega (arith, a.left, can.reader.page); count = omega (arith, a.passed, can.reader.count); fault = subst IsOfLog (sym a.fault) a.of_log; zeros = known_as old new a.left a.zeros (ap (λ (h : Held). h.rest) a.input) can.reader.zeros };
+        reader = record { page = omega (arith, a.left, can.reader.page); count = omega (arith, ap length a.passed, can.reader.count); fault = subst IsOfLog (sym a.fault) a.of_log; zeros = known_as old new a.left a.zeros (ap (λ (h : Held). h.rest) a.input) can.reader.zeros };
         place = x;
         still_same = λ later. rw (none, can.no_fault, a.ready, a.fault, a.passed) (h later);
       }
 
 -- what was read, of the bytes as the grammar has them
-pub read_as : (d d' : List ℕ) (p : ℕ) (r : List Entry) (p' : ℕ) (b b' : Bool) → d ≡ d' → b ≡ b' → IsRead d p r p' b → IsRead d' p r p' b'
+pub read_as : (d d' : List ℕ) (p : List SkippedType) (r : List Entry) (p' : List SkippedType) (b b' : Bool) → d ≡ d' → b ≡ b' → IsRead d p r p' b → IsRead d' p r p' b'
 read_as d d' p r p' b b' e q h = subst (λ (x : List ℕ). IsRead x p r p' b') e (subst (λ (y : Bool). IsRead d p r p' y) q h)
 
 pub bad_full : (old new : Reader) (n : ℕ) → FoundAt full n old → Failing old new BadRecord → record_entries (take n (drop 7 old.input.rest)) ≡ None → Same old new
@@ -229,7 +231,7 @@ same_zeros old new can z i left k e d p f o =
     let r : new.input.rest ≡ drop old.left old.input.rest = ap (λ (h : Held). h.rest) i in
     let w : waiting_of new ≡ waiting_of old = ap (λ (h : Held). waiting h.later h.ended) i in
     record {
-      reader = record { page = omega (arith, left); count = omega (arith, p, can.reader.count); fault = subst IsOfLog (sym f) can.reader.fault; zeros = known_none new.left new.zeros new.input.rest k };
+      reader = record { page = omega (arith, left); count = omega (arith, ap length p, can.reader.count); fault = subst IsOfLog (sym f) can.reader.fault; zeros = known_none new.left new.zeros new.input.rest k };
       place = place_zeros old new can z i left f o d;
       still_same = λ later.
           let s = still_zeros old.left can.reader.page old.input.rest old.ready.items old.passed (waiting_of old) later old.is_open old.begun.items z in
@@ -245,7 +247,7 @@ same_begun old new pa h i l k e d p f o =
     let w : waiting_of new ≡ waiting (begun_with old.input.later old.input.ended old.input.ends).later (begun_with old.input.later old.input.ended old.input.ends).ended = ap (λ (h : Held). waiting h.later h.ended) i in
     let n : (item_at old.left old.input.rest ≡ grammar.nothing) × (false ≡ old.is_open) = elim pa.ends [ inl x ↦ absurd (let z : false ≡ true = x.1 in cc) | inr x ↦ x ] in
     record {
-      reader = record { page = omega (arith, l); count = omega (arith, p, can.reader.count); fault = subst IsOfLog (sym f) can.reader.fault; zeros = known_none new.left new.zeros new.input.rest k };
+      reader = record { page = omega (arith, l); count = omega (arith, ap length p, can.reader.count); fault = subst IsOfLog (sym f) can.reader.fault; zeros = known_none new.left new.zeros new.input.rest k };
       place = place_begun old new can n.0 (sym n.1) h i l f o;
       still_same = λ later.
           let s = still_begun old.left can.reader.page old.input.rest old.ready.items old.passed old.begun.items old.input.later old.input.ended old.input.ends later h n.0 in
@@ -265,7 +267,7 @@ takes_bytes old new b r can i l k e d p f o =
     let q : new.input.rest ≡ (fed b old.input).rest = ap (λ (h : Held). h.rest) i in
     let w : waiting_of new ≡ waiting (fed b old.input).later (fed b old.input).ended = ap (λ (h : Held). waiting h.later h.ended) i in
     record {
-      reader = record { page = omega (arith, l, r.page); count = omega (arith, p, r.count); fault = subst IsOfLog (sym f) r.fault; zeros = known_fed old new b l k q r.zeros };
+      reader = record { page = omega (arith, l, r.page); count = omega (arith, ap length p, r.count); fault = subst IsOfLog (sym f) r.fault; zeros = known_fed old new b l k q r.zeros };
       place = place_fed old new b can i l f o d;
       still_more = λ later. let s = still_fed old.ready.items old.passed old.fault old.left old.is_open old.begun.items old.input b later in cc;
     }
@@ -276,7 +278,7 @@ takes_mark old new r i l k e d p f o =
     let q : new.input.rest ≡ old.input.rest = ap (λ (h : Held). h.rest) i in
     let w : waiting_of new ≡ waiting old.input.later true = ap (λ (h : Held). waiting h.later h.ended) i in
     record {
-      reader = record { page = omega (arith, l, r.page); count = omega (arith, p, r.count); fault = subst IsOfLog (sym f) r.fault; zeros = known_as old new l k (ap (λ (h : Held). h.rest) i) r.zeros };
+      reader = record { page = omega (arith, l, r.page); count = omega (arith, ap length p, r.count); fault = subst IsOfLog (sym f) r.fault; zeros = known_as old new l k (ap (λ (h : Held). h.rest) i) r.zeros };
       place = place_marked old new i l f o d;
       still_more = λ later. let s = still_marked old.ready.items old.passed old.fault old.left old.is_open old.begun.items old.input.rest old.input.later old.input.ended later in cc;
     }

@@ -1,9 +1,10 @@
 -- The steps of a reader leave what it still reads as it is.
-use Rattle.std.proofs.Common.{◌≡◌, ℕ, ◌+◌, ◌<◌, List, [], ◌∷◌, ◌++◌, length, drop, Option, Some, None, Bool, true, false, sym, ap, ◌∙◌, subst, append_assoc, append-nil, add_assoc, arith, inl, inr, ◌⊎◌}
+use Rattle.std.proofs.Common.{◌≡◌, ℕ, ◌+◌, ◌<◌, List, [], ◌∷◌, ◌++◌, length, drop, Option, Some, None, Bool, true, false, sym, ap, ◌∙◌, subst, append_assoc, append-nil, refl, arith, inl, inr, ◌⊎◌}
 use Rattle.rw_types.specs.declared.entry.Entry.{Entry}
 use Rattle.rw_wal_format.specs.Records.{record_entries}
 use Rattle.rw_wal_format.specs.Segments.{Kind, full, first, middle, last, Item, nothing, begun, zeros, fragment, wrong, item_at, Stop, between, inside, at_fault, Reading, stopped, with_entries, with_record, left_after, read_from}
-use Rattle.rw_wal_tail.specs.Still.{skip_of}
+use Rattle.rw_wal_format.specs.Skipped.{skips_of}
+use Rattle.rw_wal_format.specs.declared.skipped_type.SkippedType.{SkippedType}
 use Rattle.rw_wal_format.specs.Pieces.{Piece, bytes, next_segment, then_next, reading_after, page_size}
 use Rattle.rw_wal_format.specs.declared.tail_fault.TailFault.{TailFault}
 use Rattle.rw_wal_format.specs.declared.tail_fault.TailFault.TheVariants.{Sequence, BadRecord, TornSegment}
@@ -41,19 +42,19 @@ unfolding Stays
 wrong_stays_at left rest more f e =
     subst (λ (x : Item). Stays left (length rest) x (item_at left (rest ++ more))) e (item_stays left rest more)
 
-after_record : (n : ℕ) (d : List ℕ) (es : List Entry) (r : Reading) → record_entries d ≡ Some es → after [] n (with_record d r) ≡ after es (n + skip_of d) r
+after_record : (n : List SkippedType) (d : List ℕ) (es : List Entry) (r : Reading) → record_entries d ≡ Some es → after [] n (with_record d r) ≡ after es (n ++ skips_of d) r
 after_record n d es r e =
     ap (λ (o : Option (List Entry)). after [] n (with_entries d o r)) e
-    ∙ ap (λ (m : ℕ). record { entries = es ++ r.entries; skipped = m; stop = r.stop }) (sym (add_assoc n (skip_of d) r.skipped))
+    ∙ ap (λ (m : List SkippedType). record { entries = es ++ r.entries; skipped = m; stop = r.stop }) (sym (append_assoc n (skips_of d) r.skipped))
 
 pub none_first : (r : Reading) → then_next (stopped between) r ≡ r
-none_first r = let z : 0 + r.skipped ≡ r.skipped = omega arith in ap (λ (m : ℕ). record { entries = r.entries; skipped = m; stop = r.stop }) z
+none_first r = refl
 
 module _ (left : ℕ) (l : 0 < left) (rest : List ℕ) where
   p : 0 < page_size
   p = omega arith
 
-  module _ (es : List Entry) (n : ℕ) (w later : List Piece) where
+  module _ (es : List Entry) (n : List SkippedType) (w later : List Piece) where
     pub still_zeros : (o : Bool) (d : List ℕ) → item_at left rest ≡ zeros
         → still es n None left o d rest w later ≡ still es n None page_size o d (drop left rest) w later
     unfolding still
@@ -84,7 +85,7 @@ module _ (left : ℕ) (l : 0 < left) (rest : List ℕ) where
     still_wrong true d f e = ap (after es n) (fault_on left (Some d) rest f (λ more. read_wrong page_size left (rest ++ more) p l (Some d) f (wrong_stays_at left rest more f e)) (w ++ later))
     still_wrong false d f e = ap (after es n) (fault_on left None rest f (λ more. read_wrong page_size left (rest ++ more) p l None f (wrong_stays_at left rest more f e)) (w ++ later))
 
-  module _ (n : ℕ) (w later : List Piece) where
+  module _ (n : List SkippedType) (w later : List Piece) where
     whole_full : (x : List ℕ) → item_at left rest ≡ fragment full x
         → read_on page_size left None rest (w ++ later) ≡ with_record x (read_on page_size (left_after page_size left (7 + length x)) None (drop (7 + length x) rest) (w ++ later))
     whole_full x e =
@@ -100,12 +101,12 @@ module _ (left : ℕ) (l : 0 < left) (rest : List ℕ) where
         read_last page_size left (rest ++ more) p l d x z.0 ∙ ap (λ (y : List ℕ). with_record (d ++ x) (read_from page_size (left_after page_size left (7 + length x)) None y)) z.1) (w ++ later)
 
     pub still_full : (d d' x : List ℕ) (es : List Entry) → item_at left rest ≡ fragment full x → record_entries x ≡ Some es
-        → still [] n None left false d rest w later ≡ still es (n + skip_of x) None (left_after page_size left (7 + length x)) false d' (drop (7 + length x) rest) w later
+        → still [] n None left false d rest w later ≡ still es (n ++ skips_of x) None (left_after page_size left (7 + length x)) false d' (drop (7 + length x) rest) w later
     unfolding still
     still_full d d' x es e q = ap (after [] n) (whole_full x e) ∙ after_record n x es _ q
 
     pub still_last : (d d' x : List ℕ) (es : List Entry) → item_at left rest ≡ fragment last x → record_entries (d ++ x) ≡ Some es
-        → still [] n None left true d rest w later ≡ still es (n + skip_of (d ++ x)) None (left_after page_size left (7 + length x)) false d' (drop (7 + length x) rest) w later
+        → still [] n None left true d rest w later ≡ still es (n ++ skips_of (d ++ x)) None (left_after page_size left (7 + length x)) false d' (drop (7 + length x) rest) w later
     unfolding still
     still_last d d' x es e q = ap (after [] n) (whole_last d x e) ∙ after_record n (d ++ x) es _ q
 
@@ -121,7 +122,7 @@ module _ (left : ℕ) (l : 0 < left) (rest : List ℕ) where
     still_bad_last d x e q =
         ap (after [] n) (whole_last d x e ∙ ap (λ (o : Option (List Entry)). with_entries (d ++ x) o (read_on page_size (left_after page_size left (7 + length x)) None (drop (7 + length x) rest) (w ++ later))) q)
 
-  module _ (es : List Entry) (n : ℕ) where
+  module _ (es : List Entry) (n : List SkippedType) where
     -- a fragment that does not go on with what is open
     pub still_closed : (d x : List ℕ) (kind : Kind) (w later : List Piece) → IsInner kind → item_at left rest ≡ fragment kind x
         → still es n None left false d rest w later ≡ still es n (Some Sequence) left false d rest w later
@@ -159,7 +160,7 @@ module _ (left : ℕ) (l : 0 < left) (rest : List ℕ) where
     unfolding still
     still_torn o d w later t = ap (after es n) (ap (λ (r : Reading). then_next r (reading_after page_size [] (w ++ later))) (inside_read o d t))
 
-    -- what is read where nothing more has come
+    -- what is read if nothing more has come
     pub still_waits : (o : Bool) (d : List ℕ) → (item_at left rest ≡ nothing) ⊎ (item_at left rest ≡ begun)
         → (s : Stop) × (still es n None left o d rest [] [] ≡ after es n (stopped s)) × NoFault s
     unfolding still

@@ -1,8 +1,9 @@
--- What waits after the segment at hand.
+-- What waits after the current segment.
 use Rattle.std.proofs.Common.{◌≡◌, ℕ, ◌<◌, List, [], ◌∷◌, ◌++◌, Option, Some, None, Bool, true, false, refl, sym, ap, ◌∙◌, ◌⊎◌}
 use Rattle.rw_types.specs.declared.entry.Entry.{Entry}
 use Rattle.rw_wal_format.specs.Segments.{nothing, begun, item_at, read_from, segment}
 use Rattle.rw_wal_format.specs.Pieces.{Piece, bytes, next_segment, then_next, reading_after, page_size}
+use Rattle.rw_wal_format.specs.declared.skipped_type.SkippedType.{SkippedType}
 use Rattle.rw_wal_format.specs.declared.tail_fault.TailFault.{TailFault}
 use Rattle.rw_wal_format.specs.declared.tail_fault.TailFault.TheVariants.{TornSegment}
 use Rattle.rw_wal_format.proofs.Tailing.{read_on, read_on-start}
@@ -10,7 +11,7 @@ use Rattle.rw_wal_tail.specs.Held.{Held, waiting, has_ended, begun_with, extend_
 use Rattle.rw_wal_tail.specs.Still.{after, open_data, still}
 use Rattle.rw_wal_tail.proofs.StillLaws.{none_first, still_next, still_torn}
 
--- where the segment at hand has ended, the next one is the first that waits
+-- if the current segment has ended, the next one is the first that waits
 next_waits : (later : List (ℕ × List ℕ)) (ended : Bool) → has_ended later ended ≡ true → (w : List Piece) × (waiting later ended ≡ next_segment ∷ w)
 next_waits [] true h = ([], refl)
 next_waits [] false h = absurd cc
@@ -21,7 +22,7 @@ none_waiting [] true h = absurd cc
 none_waiting [] false h = refl
 none_waiting (s ∷ ss) ended h = absurd cc
 
-module _ (left : ℕ) (l : 0 < left) (rest : List ℕ) (es : List Entry) (n : ℕ) where
+module _ (left : ℕ) (l : 0 < left) (rest : List ℕ) (es : List Entry) (n : List SkippedType) where
   pub still_begun : (d : List ℕ) (later : List (ℕ × List ℕ)) (ended : Bool) (ends : ℕ) (more : List Piece) → has_ended later ended ≡ true → item_at left rest ≡ nothing
       → still es n None left false d rest (waiting later ended) more
       ≡ still es n None page_size false d (begun_with later ended ends).rest (waiting (begun_with later ended ends).later (begun_with later ended ends).ended) more
@@ -73,7 +74,7 @@ read_fed left o b h later true more = read_new left o h.rest b later h.ends more
 read_fed left o b h [] false more = refl
 read_fed left o b h (s ∷ ss) false more = read_extended left o h.rest b s ss more
 
-module _ (es : List Entry) (n : ℕ) where
+module _ (es : List Entry) (n : List SkippedType) where
   pub still_fed : (f : Option TailFault) (left : ℕ) (o : Bool) (d : List ℕ) (h : Held) (b : List ℕ) (more : List Piece)
       → still es n f left o d h.rest (waiting h.later h.ended) (bytes b ∷ more) ≡ still es n f left o d (fed b h).rest (waiting (fed b h).later (fed b h).ended) more
   unfolding still fed

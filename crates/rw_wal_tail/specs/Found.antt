@@ -37,6 +37,6 @@ DataFits left bytes (Fragment kind n) = (n ≤ length bytes) × (7 + n ≤ left)
 DataFits left bytes Zeros = ⊥
 DataFits left bytes _ = Unit {0}
 
--- of the zeros of a page's end, so many have been seen
+-- of the zeros of a page's end, this many have been seen
 abbrev pub KnownZeros : ℕ → ℕ → List ℕ → Type 0
 KnownZeros left n bytes = (n ≤ left) × (n ≤ length bytes) × (list_all (λ b. b == 0) (take n bytes) ≡ true)

@@ -1,23 +1,24 @@
--- What a reader holds of a log: the rest of the segment at hand, and the segments after it.
+-- What a reader holds of a log: the rest of the current segment, and the segments after it.
 use Rattle.std.specs.Prelude.{ℕ, ◌+◌, ◌^◌, List, [], ◌∷◌, ◌++◌, length, drop, Bool, true, false, nat_lt, ◌&&◌, if◌then◌else◌}
 use Rattle.rw_wal_format.specs.Pieces.{Piece, bytes, next_segment}
 use Rattle.rw_wal_tail.specs.declared.input.Segment.{Segment}
 
 pub record Held : Type 0 where
-  -- how many segments stand before the one at hand
+  -- how many segments come before the current one
   pub segment : ℕ
   -- how many of its bytes were read
   pub offset : ℕ
   -- what is not read yet of it
   pub rest : List ℕ
-  -- of each segment after it that has a byte or may have one: how many segments stand before it, and what has come of it
+  -- of each segment after it that has a byte or may have one: how many segments come before it, and
+  -- what has come of it
   pub later : List (ℕ × List ℕ)
   -- whether the last of them has ended
   pub ended : Bool
   -- how many segments have ended, or 2 ^ 60
   pub ends : ℕ
 
--- how many segments stand before one that waits, and its bytes
+-- how many segments come before one that waits, and its bytes
 abbrev pub waits_as : Segment → ℕ × List ℕ
 waits_as s = (s.number, s.bytes.items)
 
@@ -25,7 +26,7 @@ waits_as s = (s.number, s.bytes.items)
 abbrev pub unfed : Held
 unfed = record { segment = 0; offset = 0; rest = []; later = []; ended = false; ends = 0 }
 
--- what is held after so many bytes were read
+-- what is held after this many bytes were read
 abbrev pub passed : ℕ → Held → Held
 passed n h = record h { offset = h.offset + n; rest = drop n h.rest }
 
@@ -47,7 +48,7 @@ waiting [] false = []
 waiting [] true = next_segment ∷ []
 waiting (s ∷ ss) ended = next_segment ∷ bytes s.1 ∷ waiting ss ended
 
--- whether the segment at hand has ended
+-- whether the current segment has ended
 abbrev pub has_ended : List (ℕ × List ℕ) → Bool → Bool
 has_ended [] ended = ended
 has_ended (s ∷ ss) ended = true
@@ -72,7 +73,7 @@ fed_with b h (s ∷ ss) false = record h { later = extend_last b (s ∷ ss); end
 unfoldable pub fed : List ℕ → Held → Held
 fed b h = fed_with b h h.later h.ended
 
--- how many bytes wait in the segments after the one at hand
+-- how many bytes wait in the segments after the current one
 abbrev pub later_bytes : List (ℕ × List ℕ) → ℕ
 later_bytes [] = 0
 later_bytes (s ∷ ss) = length s.1 + later_bytes ss

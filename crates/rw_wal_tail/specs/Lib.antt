@@ -5,5 +5,7 @@ pub mod Held
 pub mod Places
 pub mod Placed
 pub mod Still
+pub mod Skips
 pub mod Steps
 pub mod Fed
+pub mod Taking

@@ -24,7 +24,7 @@ stop_at offset left so_far rest = ((read_from page_size left so_far rest).stop, 
 abbrev pub place_at : ℕ → Stop × ℕ → FaultPlace → FaultPlace
 place_at n s next = place_then s.0 n s.1 next
 
--- the place that comes of the last segment, where `ends` have ended
+-- the place that comes of the last segment, if `ends` have ended
 abbrev pub place_on : ℕ → ℕ → ℕ → Option (List ℕ) → List ℕ → ℕ → List Piece → FaultPlace
 place_on n offset left so_far rest ends [] = record { segment = n; offset = (stop_at offset left so_far rest).1 }
 place_on n offset left so_far rest ends (bytes b ∷ more) = place_on n offset left so_far (rest ++ b) ends more
@@ -37,7 +37,7 @@ place_held n offset left so_far rest [] true ends more = place_at n (stop_at off
 place_held n offset left so_far rest (s ∷ ss) ended ends more =
     place_at n (stop_at offset left so_far rest) (place_held s.0 0 page_size None s.1 ss ended ends more)
 
--- the place of what stands at the front
+-- the place of what comes at the front
 abbrev pub front_of : Held → FaultPlace
 front_of h = record { segment = h.segment; offset = h.offset }
 

@@ -1,7 +1,9 @@
--- Where the first fault of a log is (wal.md, "Segment encoding"): the segment, and the offset in it of the fragment at which it is found.
--- A segment is read an item at a time: a fragment, or the zeros to its page's end. The place is the first byte of the item at which reading stops:
--- the one that is no item, that is out of sequence, or that ends a record not of its form. Where a segment ends inside a record, it is that of the
--- item that is not whole there, or the end of the segment where each is whole.
+-- Where the first fault of a log is (wal.md, "Segment encoding"): the segment, and the offset in it
+-- of the fragment at which it is found. A segment is read an item at a time: a fragment, or the
+-- zeros to its page's end. The place is the first byte of the item at which reading stops: the one
+-- that is not an item, that is out of sequence, or that ends a malformed record. If a segment ends
+-- inside a record, it is that of the item that is not whole there, or the end of the segment if
+-- each is whole.
 use Rattle.std.specs.Prelude.{ℕ, zero, suc, ◌+◌, List, [], ◌∷◌, ◌++◌, length, drop, Option, Some, None}
 use Rattle.rw_types.specs.declared.entry.Entry.{Entry}
 use Rattle.rw_wal_format.specs.Records.{record_entries}
@@ -10,12 +12,12 @@ use Rattle.rw_wal_format.specs.Pieces.{Piece, bytes, next_segment, page_size, fa
 use Rattle.rw_wal_format.specs.declared.tail_fault.TailFault.{TailFault}
 use Rattle.rw_wal_tail.specs.declared.place.FaultPlace.{FaultPlace}
 
--- no record is open after a whole one, where it is of its type's form
+-- no record is open after a whole one, if it is of its type's form
 abbrev pub closes : Option (List Entry) → Option (Option (List ℕ))
 closes None = None
 closes (Some es) = Some None
 
--- The data of the record that is open after a fragment, if one is; or None where reading stops at it.
+-- The data of the record that is open after a fragment, if one is; or None if reading stops at it.
 abbrev pub opens : Option (List ℕ) → Kind → List ℕ → Option (Option (List ℕ))
 opens None full d = closes (record_entries d)
 opens None first d = Some (Some d)
@@ -24,12 +26,12 @@ opens (Some o) middle d = Some (Some (o ++ d))
 opens (Some o) last d = closes (record_entries (o ++ d))
 opens (Some o) _ d = None
 
--- first n bytes, and then those that `next` counts of the bytes after them, unless reading stops here
+-- first n bytes, and then those that `next` counts after them, unless reading stops here
 abbrev pub count_after : ℕ → ℕ → ℕ → List ℕ → (ℕ → Option (List ℕ) → List ℕ → ℕ) → Option (Option (List ℕ)) → ℕ
 count_after page left n text next None = 0
 count_after page left n text next (Some so_far) = n + next (left_after page left n) so_far (drop n text)
 
--- how many bytes from an item on stand before the item at which reading stops
+-- how many bytes from an item on come before the item at which reading stops
 abbrev pub count_from : ℕ → ℕ → Option (List ℕ) → List ℕ → (ℕ → Option (List ℕ) → List ℕ → ℕ) → Item → ℕ
 count_from page left so_far text next nothing = 0
 count_from page left so_far text next begun = 0
@@ -42,7 +44,8 @@ abbrev pub count_of : ℕ → ℕ → ℕ → Option (List ℕ) → List ℕ →
 count_of page zero left so_far text = 0
 count_of page (suc k) left so_far text = count_from page left so_far text (λ l o rest. count_of page k l o rest) (item_at left text)
 
--- how many bytes of what is left of a segment are read, where a record may be open, with `left` bytes of the first page
+-- how many bytes of what is left of a segment are read, if a record may be open, with `left` bytes
+-- of the first page
 abbrev pub read_count : ℕ → ℕ → Option (List ℕ) → List ℕ → ℕ
 read_count page left so_far rest = count_of page (length rest) left so_far rest
 

@@ -1,7 +1,9 @@
 -- What a step of a reader may do.
-use Rattle.std.specs.Prelude.{◌≡◌, ℕ, ◌+◌, ◌<◌, ◌≤◌, ◌^◌, List, [], ◌∷◌, length, drop, take, Option, Some, None, Bool, true, false, ◌⊎◌, vec_capacity}
+use Rattle.std.specs.Prelude.{◌≡◌, ℕ, ◌+◌, ◌<◌, ◌≤◌, ◌^◌, List, [], ◌∷◌, ◌++◌, length, drop, take, Option, Some, None, Bool, true, false, ◌⊎◌, vec_capacity}
 use Rattle.rw_types.specs.declared.entry.Entry.{Entry}
 use Rattle.rw_wal_format.specs.Records.{record_entries}
+use Rattle.rw_wal_format.specs.Skipped.{skips_of}
+use Rattle.rw_wal_format.specs.declared.skipped_type.SkippedType.{SkippedType}
 use Rattle.rw_wal_format.specs.Segments as grammar
 use Rattle.rw_wal_format.specs.Segments.{full, first, middle, last, nothing, begun, fragment, item_at, Reading}
 use Rattle.rw_wal_format.specs.Pieces.{Piece, page_size}
@@ -14,7 +16,7 @@ use Rattle.rw_wal_tail.specs.Found.{KnownZeros}
 use Rattle.rw_wal_tail.specs.declared.place.FaultPlace.{FaultPlace}
 use Rattle.rw_wal_tail.specs.Held.{waiting, held_weight, has_ended, can_count, unfed, unread}
 use Rattle.rw_wal_tail.specs.Placed.{place_from, ends_with}
-use Rattle.rw_wal_tail.specs.Still.{still, skip_of, open_data}
+use Rattle.rw_wal_tail.specs.Still.{still, open_data}
 
 abbrev pub waiting_of : Reader → List Piece
 waiting_of r = waiting r.input.later r.input.ended
@@ -23,7 +25,7 @@ waiting_of r = waiting r.input.later r.input.ended
 abbrev pub still_read : Reader → List Piece → Reading
 still_read r later = still r.ready.items r.passed r.fault r.left r.is_open r.begun.items r.input.rest (waiting_of r) later
 
--- where the reading stops of what it still reads, where so many segments have ended
+-- where the reading stops of what it still reads, if this many segments have ended
 abbrev pub still_place : Reader → ℕ → List Piece → FaultPlace
 still_place r ends later = place_from r.fault r.left (open_data r.is_open r.begun.items) r.input ends later
 
@@ -38,7 +40,7 @@ IsOfLog _ = Unit {0}
 
 pub record IsReader (r : Reader) : Type 0 where
   pub page : 0 < r.left
-  pub count : r.passed < 2 ^ 60
+  pub count : length r.passed < 2 ^ 60
   pub fault : IsOfLog r.fault
   pub zeros : KnownZeros r.left r.zeros r.input.rest
 
@@ -71,7 +73,7 @@ pub record CanStep (r : Reader) : Type 0 where
   pub none_ready : r.ready.items ≡ []
   pub no_fault : r.fault ≡ None
 
--- what has come of the segment at hand ends here, inside a record or fragment or not
+-- what has come of the current segment ends here, inside a record or fragment or not
 pub record PausesAt (is_inside : Bool) (r : Reader) : Type 0 where
   pub can_step : CanStep r
   pub ends : ((item_at r.left r.input.rest ≡ begun) × (is_inside ≡ true)) ⊎ ((item_at r.left r.input.rest ≡ nothing) × (is_inside ≡ r.is_open))
@@ -96,7 +98,7 @@ goes_on first = false
 goes_on middle = true
 goes_on last = true
 
--- a fragment of this kind stands there, with so many bytes
+-- a fragment of this kind comes there, with this many bytes
 pub record FoundFragment (kind : grammar.Kind) (n : ℕ) (r : Reader) : Type 0 where
   pub can_step : CanStep r
   pub whole : 7 + n ≤ length r.input.rest
@@ -112,8 +114,8 @@ pub record FoundAt (kind : grammar.Kind) (n : ℕ) (r : Reader) : Type 0 where
   pub in_order : r.is_open ≡ goes_on kind
 
 -- a whole record is read into the queue, or is not of its form
-abbrev pub IsRead : List ℕ → ℕ → List Entry → ℕ → Bool → Type 0
-IsRead d passed ready passed' true = (record_entries d ≡ Some ready) × (passed' ≡ passed + skip_of d)
+abbrev pub IsRead : List ℕ → List SkippedType → List Entry → List SkippedType → Bool → Type 0
+IsRead d passed ready passed' true = (record_entries d ≡ Some ready) × (passed' ≡ passed ++ skips_of d)
 IsRead d passed ready passed' false = (record_entries d ≡ None) × (ready ≡ []) × (passed' ≡ passed)
 
 abbrev pub is_failed_by : TailFault → Reader → Reader
@@ -125,7 +127,7 @@ pub record IsUnfed (r : Reader) : Type 0 where
   pub left : r.left ≡ page_size
   pub is_open : r.is_open ≡ false
   pub ready : r.ready.items ≡ []
-  pub passed : r.passed ≡ 0
+  pub passed : r.passed ≡ []
   pub fault : r.fault ≡ None
 
 -- what a reader came to: an entry is ready, or what has come ends, or there is a fault
@@ -134,10 +136,11 @@ Ran More r = 0 < length r.ready.items
 Ran Waits r = Ends r
 Ran (Failed f) r = (r.fault ≡ Some f) × (r.ready.items ≡ [])
 
--- There is room for the data of a record in fragments, whatever is not read, and n bounds all counts.
+-- There is room for the data of a record in fragments, whatever is not read, and n bounds all
+-- counts.
 pub record IsKept (n : ℕ) (r : Reader) : Type 0 where
   pub room : length r.begun.items + unread r.input ≤ vec_capacity r.begun
-  pub passed : r.passed + unread r.input ≤ n
+  pub passed : length r.passed + unread r.input ≤ n
   pub offset : r.input.offset + length r.input.rest ≤ n
   pub ends : r.input.ends ≤ n
 
@@ -145,6 +148,6 @@ pub record IsKept (n : ℕ) (r : Reader) : Type 0 where
 abbrev pub GivesNext : Reader → Type 0
 GivesNext r = 0 < length (still_read r []).entries
 
--- memory may be refused: an entry comes next, or a count has come to its end
+-- memory may run out: an entry comes next, or a count has come to its end
 abbrev pub MayLack : ℕ → Reader → Type 0
 MayLack n r = GivesNext r ⊎ (2 ^ 60 ≤ n)

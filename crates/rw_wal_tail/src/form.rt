@@ -1,4 +1,4 @@
-//! Whether bytes have the form of a record. This takes no memory.
+//! Judges whether bytes have the form of a record. This takes no memory.
 
 ghost use Rattle.std.specs.Prelude.{◌≡◌, ◌≤◌, ◌<◌, length, is_some, MatchOption, IfSome, None};
 ghost use Rattle.std.specs.Int.{cast_signed, w64};
@@ -8,7 +8,7 @@ ghost use Rattle.rw_wal_tail.specs.Form.{Leaves};
 use crate::read::{eight, label, sample, unsigned};
 use rw_wal_format::RecordType;
 
-/// The bytes after `count` labels.
+/// Returns the bytes after `count` labels.
 fn after_labels(count: u64, bytes: &[u8]) -> Option<&[u8]>
     ensures value { MatchOption result (label_list_at count bytes.now ≡ None)
         (λ rest. Leaves (label_list_at count bytes.now) rest.now) }
@@ -24,7 +24,7 @@ fn after_labels(count: u64, bytes: &[u8]) -> Option<&[u8]>
     Some(rest)
 }
 
-/// The bytes after the definition of a series.
+/// Returns the bytes after the definition of a series.
 fn after_definition(bytes: &[u8]) -> Option<&[u8]>
     ensures value { MatchOption result (definition_at bytes.now ≡ None)
         (λ rest. Leaves (definition_at bytes.now) rest.now) }
@@ -39,7 +39,7 @@ fn after_definition(bytes: &[u8]) -> Option<&[u8]>
     after_labels(count, rest)
 }
 
-/// Whether all of the bytes are definitions.
+/// Returns whether all of the bytes are definitions.
 fn are_definitions(bytes: &[u8]) -> bool
     ensures { result ≡ is_some (series_entries bytes.now) }
 {
@@ -53,7 +53,7 @@ fn are_definitions(bytes: &[u8]) -> bool
     true
 }
 
-/// Whether all of the bytes are samples, of which there is at least one.
+/// Returns whether all of the bytes are samples, of which there is at least one.
 fn are_samples(base: u64, start: u64, bytes: &[u8]) -> bool
     ensures { result ≡ is_some (samples_at base (cast_signed w64 start) bytes.now) }
 {
@@ -70,7 +70,7 @@ fn are_samples(base: u64, start: u64, bytes: &[u8]) -> bool
     true
 }
 
-/// Whether the bytes are the samples of a sample record, after its type byte.
+/// Returns whether the bytes are the samples of a sample record, after its type byte.
 fn are_based_samples(bytes: &[u8]) -> bool
     ensures { result ≡ is_some (sample_entries bytes.now) }
 {
@@ -86,7 +86,7 @@ fn are_based_samples(bytes: &[u8]) -> bool
     are_samples(base, start, rest)
 }
 
-/// Whether the bytes have the form of a record.
+/// Returns whether the bytes have the form of a record.
 pub(crate) fn is_record(bytes: &[u8]) -> bool
     ensures { result ≡ is_some (record_entries bytes.now) }
 {

@@ -7,23 +7,23 @@ use std::alloc::{AllocError, Global};
 use std::collections::VecDeque;
 use std::marker::Model;
 
-/// No count reaches this. Where it would, memory is said to have run out.
+/// No count reaches this. If one would, the call reports that memory ran out.
 pub(crate) const COUNT_END: u64 = 1 << 60;
 
-/// A segment that waits.
+/// A segment that waits to be read.
 #[derive(Drop)]
 struct Segment {
-    /// How many segments stand before it.
+    /// How many segments come before it.
     number: u64,
     bytes: Vec<u8>,
 }
 
-/// The rest of the segment at hand, and what has come of the segments after it.
+/// The rest of the current segment, and what has come of the segments after it.
 #[derive(Drop)]
 pub(crate) struct Input {
-    /// How many segments stand before the one at hand.
+    /// How many segments come before the current one.
     segment: u64,
-    /// How many of its bytes were passed.
+    /// How many of its bytes were read.
     offset: u64,
     buffer: Vec<u8>,
     /// Where the rest begins in the buffer.
@@ -60,8 +60,8 @@ fn remove_front(buffer: &mut Vec<u8>, count: usize)
     buffer.drain(..count);
 }
 
-/// Moves what is not read to the front, once that is no more than what was read: so each byte that is read pays for one that is moved, and what
-/// is kept is at most twice what is not read.
+/// Moves what is not read to the front, once that is no more than what was read. So each byte that
+/// is read pays for one that is moved, and the buffer is at most twice as long as what is not read.
 fn compact(buffer: &mut Vec<u8>, at: &mut usize)
     requires { at.old ≤ length buffer.old.items }
     ensures within { at.new ≤ length buffer.new.items }
@@ -85,14 +85,14 @@ fn extend_last_segment(later: &mut VecDeque<Segment>, piece: &[u8]) -> Result<()
     later[last].bytes.extend_from_slice(piece)
 }
 
-/// A copy of the bytes.
+/// Returns a copy of the bytes.
 pub(crate) fn copy_of(alloc: Global, bytes: &[u8]) -> Result<Vec<u8>, AllocError>
     ensures { IfOk result (λ v. v.items ≡ bytes.now) }
 {
     bytes.to_vec(alloc)
 }
 
-/// A copy of the segments.
+/// Returns a copy of the segments.
 fn copy_all(alloc: Global, segments: &VecDeque<Segment>) -> Result<VecDeque<Segment>, AllocError>
     ensures { IfOk result (λ d. map waits_as d.items ≡ map waits_as segments.now.items) }
 {
@@ -107,7 +107,7 @@ fn copy_all(alloc: Global, segments: &VecDeque<Segment>) -> Result<VecDeque<Segm
     Ok(copy)
 }
 
-/// How many bytes the segments and `count` more are; `None` if no `usize` has the number.
+/// Returns the number of bytes of the segments plus `count`, or `None` if it does not fit `usize`.
 fn add_bytes(count: usize, segments: &VecDeque<Segment>) -> Option<usize>
     ensures { IfSome result (λ n. n ≡ count + later_bytes (map waits_as segments.now.items)) }
 {
@@ -136,35 +136,36 @@ impl Input {
         }
     }
 
-    /// How many segments stand before the one at hand.
+    /// Returns how many segments come before the current one.
     pub(crate) fn segment(&self) -> u64
         ensures { result ≡ self.now.segment }
     {
         self.segment
     }
 
-    /// How many bytes of the segment at hand were passed.
+    /// Returns how many bytes of the current segment were read.
     pub(crate) fn offset(&self) -> u64
         ensures { result ≡ self.now.offset }
     {
         self.offset
     }
 
-    /// Whether bytes and segments can still be counted.
+    /// Returns whether bytes and segments can still be counted.
     pub(crate) fn can_count(&self) -> bool
         ensures { result ≡ can_count self.now }
     {
         self.offset < COUNT_END && self.ends < COUNT_END
     }
 
-    /// The bytes of the segment at hand that are not read.
+    /// Returns the bytes of the current segment that are not read.
     pub(crate) fn rest(&self) -> &[u8]
         ensures { result.now ≡ self.now.rest }
     {
         &self.buffer[self.at..]
     }
 
-    /// How many bytes are not read, of all segments and of `more`; `None` if no `usize` has the number.
+    /// Returns how many bytes are not read, of all segments and of `more`, or `None` if the number
+    /// does not fit `usize`.
     pub(crate) fn unread(&self, more: usize) -> Option<usize>
         ensures { IfSome result
             (λ n. n ≡ more + length self.now.rest + later_bytes self.now.later) }
@@ -175,7 +176,7 @@ impl Input {
         }
     }
 
-    /// Advances past `count` bytes of the segment at hand.
+    /// Advances past `count` bytes of the current segment.
     pub(crate) fn pass(&mut self, count: usize)
         requires rest { count ≤ length self.old.rest }
         requires counted { can_count self.old ≡ true }
@@ -185,7 +186,7 @@ impl Input {
         self.offset += count as u64;
     }
 
-    /// Whether the segment at hand has ended.
+    /// Returns whether the current segment has ended.
     pub(crate) fn has_ended(&self) -> bool
         ensures { result ≡ has_ended self.now.later self.now.ended }
     {
@@ -212,7 +213,8 @@ impl Input {
         }
     }
 
-    /// Marks the last segment as ended. Where it had ended before, the one between them is empty, and no two ends need to be told apart.
+    /// Marks the last segment as ended. If it had ended before, the segment between the two ends is
+    /// empty, and the two ends need not be distinguished.
     pub(crate) fn end_segment(&mut self)
         ensures { self.new ≡ marked self.old }
     {
@@ -243,7 +245,7 @@ impl Input {
         }
     }
 
-    /// A copy of the input.
+    /// Returns a copy of the input.
     pub(crate) fn copy(&self, alloc: Global) -> Result<Input, AllocError>
         ensures { IfOk result (λ i. i ≡ self.now) }
     {

@@ -1,4 +1,4 @@
-//! What stands at the front of the bytes of a segment.
+//! What comes at the front of the bytes of a segment.
 
 ghost use Rattle.std.specs.Prelude.{◌≡◌, ◌==◌, drop};
 ghost use Rattle.std.specs.List.{list_all};
@@ -10,7 +10,8 @@ use byteorder::{BigEndian, ByteOrder};
 use rw_codes::crc32c;
 use rw_wal_format::{FragmentType, HEADER_BYTES, TailFault};
 
-/// What stands at the front. A `Fragment` has its type, and how many bytes of data follow its header.
+/// What comes at the front. A `Fragment` has its type, and how many bytes of data follow its
+/// header.
 #[derive(Clone, Copy, Debug, PartialEq, Eq, Drop)]
 pub(crate) enum Found {
     Nothing,
@@ -26,7 +27,7 @@ fn are_zero(bytes: &[u8]) -> bool
     bytes.iter().all(|b| *b == 0)
 }
 
-/// The zeros at the end of a page, of which the first `known` were seen before.
+/// Returns the zeros at the end of a page, of which the first `known` were seen before.
 fn zeros(left: usize, known: usize, bytes: &[u8]) -> Found
     requires { KnownZeros left known bytes.now }
     ensures item { zeros_at left bytes.now ≡ item_of (drop 7 bytes.now) result }
@@ -42,7 +43,7 @@ fn zeros(left: usize, known: usize, bytes: &[u8]) -> Found
     }
 }
 
-/// The fault of a type byte that no fragment has.
+/// Returns the fault of a type byte that no fragment has.
 fn wrong_type(b: u8) -> TailFault
     ensures { result ≡ wrong_type_of b }
 {
@@ -53,7 +54,7 @@ fn wrong_type(b: u8) -> TailFault
     }
 }
 
-/// The fragment after its header, with `len` bytes of data and the CRC-32C `crc`.
+/// Returns the fragment after its header, with `len` bytes of data and the CRC-32C `crc`.
 fn data(kind: FragmentType, left: usize, len: u16, crc: u32, rest: &[u8]) -> Found
     ensures item { data_at (kind_of kind) left len crc rest.now ≡ item_of rest.now result }
     ensures fits { DataFits left rest.now result }
@@ -71,7 +72,7 @@ fn data(kind: FragmentType, left: usize, len: u16, crc: u32, rest: &[u8]) -> Fou
     Found::Fragment(kind, len)
 }
 
-/// The fragment after its type byte.
+/// Returns the fragment after its type byte.
 fn fragment(kind: FragmentType, left: usize, bytes: &[u8]) -> Found
     ensures item { fragment_at (kind_of kind) left bytes.now ≡ item_of (drop 6 bytes.now) result }
     ensures fits { FragmentFits left bytes.now result }
@@ -84,7 +85,8 @@ fn fragment(kind: FragmentType, left: usize, bytes: &[u8]) -> Found
     data(kind, left, len, crc, &bytes[6..])
 }
 
-/// What stands at the front of the bytes, with `left` bytes left in its page. Of zeros there, the first `known` were seen before.
+/// Returns what comes at the front of the bytes, with `left` bytes left in its page. Of zeros
+/// there, the first `known` were seen before.
 pub(crate) fn item(left: usize, known: usize, bytes: &[u8]) -> Found
     requires { KnownZeros left known bytes.now }
     ensures item { item_at left bytes.now ≡ item_of (drop 7 bytes.now) result }

@@ -2,12 +2,12 @@
 
 use rw_history::History;
 
-/// A piece of a log: bytes of the segment at hand, or the end of that segment.
+/// A piece of a log: bytes of the current segment, or its end.
 #[derive(Debug, Drop)]
 pub enum Piece {
-    /// The bytes that follow. There may be none.
+    /// The bytes that follow, possibly no bytes.
     Bytes(Vec<u8>),
-    /// The segment at hand has ended.
+    /// The current segment has ended.
     NextSegment,
 }
 

@@ -1,4 +1,4 @@
-//! Reads what stands at the front of some bytes, and returns the bytes after it.
+//! Reads what comes at the front of some bytes, and returns the bytes after it.
 
 ghost use Rattle.std.specs.Prelude.{◌≡◌, ◌≤◌, ◌<◌, ◌+◌, length, MatchOption, IfSome, None, Some};
 ghost use Rattle.std.specs.Int.{cast_signed, w64};
@@ -9,7 +9,7 @@ use byteorder::{BigEndian, ByteOrder};
 use rw_codes::{get_uvarint, get_varint};
 use rw_types::{Entry, Word};
 
-/// A 64-bit number in eight bytes, high byte first.
+/// Returns a 64-bit number in eight bytes, high byte first.
 pub(crate) fn eight(bytes: &[u8]) -> Option<(u64, &[u8])>
     ensures value { MatchOption result (eight_at bytes.now ≡ None)
         (λ x. eight_at bytes.now ≡ Some (x.0, x.1.now)) }
@@ -21,7 +21,7 @@ pub(crate) fn eight(bytes: &[u8]) -> Option<(u64, &[u8])>
     Some((BigEndian::read_u64(bytes), &bytes[8..]))
 }
 
-/// A number of one to ten bytes.
+/// Returns a number of one to ten bytes.
 pub(crate) fn unsigned(bytes: &[u8]) -> Option<(u64, &[u8])>
     ensures value { MatchOption result (found (read_uvarint bytes.now)
         ≡ None) (λ x. found (read_uvarint bytes.now) ≡ Some (x.0, x.1.now)) }
@@ -33,7 +33,7 @@ pub(crate) fn unsigned(bytes: &[u8]) -> Option<(u64, &[u8])>
     }
 }
 
-/// A ZigZag number of one to ten bytes.
+/// Returns a ZigZag number of one to ten bytes.
 pub(crate) fn signed(bytes: &[u8]) -> Option<(i64, &[u8])>
     ensures value { MatchOption result (found (read_varint bytes.now)
         ≡ None) (λ x. found (read_varint bytes.now) ≡ Some (x.0, x.1.now)) }
@@ -45,7 +45,7 @@ pub(crate) fn signed(bytes: &[u8]) -> Option<(i64, &[u8])>
     }
 }
 
-/// A text after its length.
+/// Returns a text after its length.
 pub(crate) fn text(bytes: &[u8]) -> Option<(&[u8], &[u8])>
     ensures value { MatchOption result (text_at bytes.now ≡ None)
         (λ x. text_at bytes.now ≡ Some (x.0.now, x.1.now)) }
@@ -59,7 +59,7 @@ pub(crate) fn text(bytes: &[u8]) -> Option<(&[u8], &[u8])>
     Some((&rest[..len], &rest[len..]))
 }
 
-/// A label: a name and a value.
+/// Returns a label: a name and a value.
 pub(crate) fn label(bytes: &[u8]) -> Option<((&[u8], &[u8]), &[u8])>
     ensures value { MatchOption result (label_at bytes.now ≡ None) (λ x. label_at bytes.now
         ≡ Some ((x.0.0.now, x.0.1.now), x.1.now)) }
@@ -70,7 +70,7 @@ pub(crate) fn label(bytes: &[u8]) -> Option<((&[u8], &[u8]), &[u8])>
     Some(((name, value), rest))
 }
 
-/// A sample, whose reference and timestamp are deltas against `base` and `start`.
+/// Returns a sample, whose reference and timestamp are deltas against `base` and `start`.
 pub(crate) fn sample(base: u64, start: u64, bytes: &[u8]) -> Option<(Entry, &[u8])>
     ensures value { MatchOption result (sample_at base (cast_signed w64 start) bytes.now
         ≡ None) (λ x. sample_at base (cast_signed w64 start) bytes.now ≡ Some (x.0, x.1.now)) }

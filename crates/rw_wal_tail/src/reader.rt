@@ -16,12 +16,13 @@ use crate::input::{COUNT_END, Input, copy_of};
 use crate::item::{Found, item};
 use crate::place::FaultPlace;
 use crate::record::read_record;
+use crate::skips::Skips;
 use rw_types::Entry;
-use rw_wal_format::{FragmentType, HEADER_BYTES, PAGE_BYTES, TailFault};
+use rw_wal_format::{FragmentType, HEADER_BYTES, PAGE_BYTES, SkippedType, TailFault};
 use std::alloc::{AllocError, Global};
 use std::collections::VecDeque;
 
-/// Bytes that are not read yet, the record that is open, and entries that are not given yet.
+/// Bytes that are not read yet, the record that is open, and entries that were not returned yet.
 #[derive(Drop)]
 pub(crate) struct Reader {
     pub(crate) alloc: Global,
@@ -30,17 +31,18 @@ pub(crate) struct Reader {
     pub(crate) left: usize,
     /// How many of the bytes at the front were seen to be zeros of the page's end.
     pub(crate) zeros: usize,
-    /// The data so far of the record that is open. That of one that was read stays here until the next in fragments begins.
-    /// There is room for all bytes that are not read: `feed` makes it.
+    /// The data so far of the record that is open. The data of a record that was read stays here
+    /// until the next record in fragments begins. There is room for all bytes that are not read:
+    /// `feed` reserves it.
     pub(crate) begun: Vec<u8>,
     pub(crate) is_open: bool,
     pub(crate) ready: VecDeque<Entry>,
-    /// How many records were passed over.
-    pub(crate) passed: u64,
+    /// The skipped records.
+    pub(crate) passed: Skips,
     pub(crate) fault: Option<TailFault>,
 }
 
-/// What a step came to.
+/// What a step results in.
 #[derive(Clone, Copy, Debug, PartialEq, Eq)]
 pub(crate) enum Step {
     More,
@@ -49,14 +51,14 @@ pub(crate) enum Step {
     Failed(TailFault),
 }
 
-/// Whether a record is passed over.
+/// Returns whether a record is skipped.
 fn is_skipped(bytes: &[u8]) -> bool
     ensures { result ≡ grammar.is_skipped bytes.now }
 {
     bytes.is_empty() || !(bytes[0] == 1 || bytes[0] == 2)
 }
 
-/// The data of the fragment at the front.
+/// Returns the data of the fragment at the front.
 fn fragment_data(bytes: &[u8], len: usize) -> &[u8]
     requires { 7 + len ≤ length bytes.now }
     ensures { result.now ≡ take len (drop 7 bytes.now) }
@@ -65,29 +67,29 @@ fn fragment_data(bytes: &[u8], len: usize) -> &[u8]
     &data[..len]
 }
 
-/// Reads a whole record into the queue; false where it is not of its form, which is judged before
+/// Reads a whole record into the queue. Returns `false` if it is malformed, which is judged before
 /// memory is taken.
 fn read_whole(
     alloc: Global,
     bytes: &[u8],
     ready: &mut VecDeque<Entry>,
-    passed: &mut u64,
+    passed: &mut Skips,
 ) -> Result<bool, AllocError>
-    requires { passed.old < 2 ^ 60 }
+    requires { length passed.old < 2 ^ 60 }
     ensures ok { IfOk result (λ b. IsRead bytes.now passed.old ready.new.items passed.new b) }
     ensures err { OnErr result ((ready.new.items ≡ []) × (passed.new ≡ passed.old)) }
-    ensures count { passed.new < 2 ^ 60 }
-    ensures certain { OnErr result (HasEntries bytes.now ⊎ (2 ^ 60 ≤ passed.old + 1)) }
+    ensures count { length passed.new < 2 ^ 60 }
+    ensures certain { OnErr result (HasEntries bytes.now ⊎ (2 ^ 60 ≤ length passed.old + 1)) }
 {
     ready.clear();
     if !is_record(bytes) {
         return Ok(false);
     }
     if is_skipped(bytes) {
-        if *passed + 1 == COUNT_END {
+        if passed.len() + 1 == COUNT_END {
             return Err(AllocError);
         }
-        *passed += 1;
+        passed.push(SkippedType::of(bytes));
         return Ok(true);
     }
     if bytes.len() == 1 {
@@ -102,7 +104,7 @@ fn read_whole(
     }
 }
 
-/// A copy of the bytes, with room for `more` bytes.
+/// Returns a copy of the bytes, with room for `more` bytes.
 fn copy_with_room(alloc: Global, bytes: &[u8], more: usize) -> Result<Vec<u8>, AllocError>
     ensures items { IfOk result (λ v. v.items ≡ bytes.now) }
     ensures room { IfOk result (λ v. length bytes.now + more ≤ vec_capacity v) }
@@ -112,7 +114,7 @@ fn copy_with_room(alloc: Global, bytes: &[u8], more: usize) -> Result<Vec<u8>, A
     Ok(copy)
 }
 
-/// A copy of the entries.
+/// Returns a copy of the entries.
 fn copy_ready(alloc: Global, ready: &VecDeque<Entry>) -> Result<VecDeque<Entry>, AllocError>
     ensures { IfOk result (λ d. d.items ≡ ready.now.items) }
 {
@@ -137,12 +139,13 @@ impl Reader {
             begun: Vec::new(alloc),
             is_open: false,
             ready: VecDeque::new(alloc),
-            passed: 0,
+            passed: Skips::new(),
             fault: None,
         }
     }
 
-    /// Takes more bytes of the segment that came last. After a fault they are let go, since nothing more is read.
+    /// Takes more bytes of the segment that came last. After a fault they are dropped, since
+    /// nothing more is read.
     pub(crate) fn feed(&mut self, piece: &[u8]) -> Result<(), AllocError>
         requires { IsReader self.old }
         ensures ok { OnOk result (Takes (bytes piece.now) self.old self.new) }
@@ -162,7 +165,7 @@ impl Reader {
         let Some(unread) = self.input.unread(piece.len()) else {
             return Err(AllocError);
         };
-        // Joining fragments takes no memory later, so that no fault waits for memory.
+        // Joining fragments takes no memory later, so no fault waits for memory.
         self.begun.reserve(unread)?;
         self.input.feed(piece)
     }
@@ -205,7 +208,7 @@ impl Reader {
         Step::Failed(fault)
     }
 
-    /// The first fragment of a record.
+    /// Takes the first fragment of a record.
     fn first(&mut self, len: usize) -> Result<Step, AllocError>
         requires { FoundAt first len self.old }
         ensures same { Same self.old self.new }
@@ -222,7 +225,7 @@ impl Reader {
         Ok(Step::More)
     }
 
-    /// A fragment in the midst of a record.
+    /// Takes a fragment in the middle of a record.
     fn middle(&mut self, len: usize) -> Result<Step, AllocError>
         requires { FoundAt middle len self.old }
         ensures same { Same self.old self.new }
@@ -237,7 +240,7 @@ impl Reader {
         Ok(Step::More)
     }
 
-    /// A record in one fragment.
+    /// Takes a record in one fragment.
     fn full(&mut self, len: usize) -> Result<Step, AllocError>
         requires { FoundAt full len self.old }
         ensures same { Same self.old self.new }
@@ -254,7 +257,7 @@ impl Reader {
         Ok(Step::More)
     }
 
-    /// The last fragment of a record.
+    /// Takes the last fragment of a record.
     fn last(&mut self, len: usize) -> Result<Step, AllocError>
         requires { FoundAt last len self.old }
         ensures same { Same self.old self.new }
@@ -287,7 +290,7 @@ impl Reader {
         Ok(Step::More)
     }
 
-    /// The fragment at the front.
+    /// Takes the fragment at the front.
     fn fragment(&mut self, kind: FragmentType, len: usize) -> Result<Step, AllocError>
         requires { FoundFragment (kind_of kind) len self.old }
         ensures same { Same self.old self.new }
@@ -313,7 +316,7 @@ impl Reader {
         }
     }
 
-    /// The end of what has come of the segment at hand.
+    /// Stops at the end of what has come of the current segment.
     fn pause(&mut self, is_inside: bool) -> Step
         requires { PausesAt is_inside self.old }
         ensures same { Same self.old self.new }
@@ -332,7 +335,7 @@ impl Reader {
         Step::More
     }
 
-    /// Reads what stands at the front.
+    /// Reads what comes at the front.
     fn step(&mut self) -> Result<Step, AllocError>
         requires reader { IsReader self.old }
         requires none_ready { self.old.ready.items ≡ [] }
@@ -365,7 +368,7 @@ impl Reader {
         }
     }
 
-    /// Reads on until an entry is ready or there is none.
+    /// Reads on until an entry is ready or no more can be read.
     pub(crate) fn run(&mut self) -> Result<Step, AllocError>
         requires { IsReader self.old }
         ensures same { Same self.old self.new }
@@ -391,7 +394,7 @@ impl Reader {
         self.ready.pop_front().unwrap()
     }
 
-    /// The segment at hand, and the offset in it of what stands at the front.
+    /// Returns the current segment, and the offset in it of what comes at the front.
     pub(crate) fn place(&self) -> FaultPlace
         ensures { result ≡ front_of self.now.input }
     {
@@ -401,7 +404,7 @@ impl Reader {
         }
     }
 
-    /// A copy of the reader.
+    /// Returns a copy of the reader.
     pub(crate) fn copy(&self) -> Result<Reader, AllocError>
         requires { IsReader self.now }
         ensures same { IfOk result (λ r. Same self.now r) }
@@ -420,7 +423,7 @@ impl Reader {
             begun: copy_with_room(self.alloc, &self.begun, unread)?,
             is_open: self.is_open,
             ready: copy_ready(self.alloc, &self.ready)?,
-            passed: self.passed,
+            passed: self.passed.again(),
             fault: self.fault,
         })
     }

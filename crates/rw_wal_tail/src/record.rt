@@ -69,7 +69,7 @@ fn definition(alloc: Global, bytes: &[u8]) -> Result<(Entry, &[u8]), Unread>
     Ok((Entry::Def { reference, labels }, rest))
 }
 
-/// The definitions of a series record, after its type byte.
+/// Reads the definitions of a series record, after its type byte.
 fn series(alloc: Global, bytes: &[u8], out: &mut VecDeque<Entry>) -> Result<(), Unread>
     requires { out.old.items ≡ [] }
     ensures ok { OnOk result (series_entries bytes.now ≡ Some out.new.items) }
@@ -106,7 +106,7 @@ fn samples(base: u64, start: u64, bytes: &[u8], out: &mut VecDeque<Entry>) -> Re
     Ok(())
 }
 
-/// The samples of a sample record, after its type byte.
+/// Reads the samples of a sample record, after its type byte.
 fn based_samples(bytes: &[u8], out: &mut VecDeque<Entry>) -> Result<(), Unread>
     requires { out.old.items ≡ [] }
     ensures ok { OnOk result (sample_entries bytes.now ≡ Some out.new.items) }

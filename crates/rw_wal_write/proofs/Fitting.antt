@@ -1,4 +1,5 @@
--- A record that has room in a segment leaves its offset within the pages, at a place where a fragment may begin.
+-- A record that has room in a segment leaves its offset within the pages, at a place where a
+-- fragment may begin.
 use Rattle.std.proofs.Common.{◌≡◌, ℕ, zero, suc, ◌+◌, ◌-◌, ◌*◌, ◌/◌, ◌%◌, ◌<◌, ◌≤◌, List, length, take, drop, replicate, Bool, true, false, if◌then◌else◌, ltb, refl, sym, ap, ◌∙◌, subst, inl, inr, arith, lt-ltb, le-ltb, length-append, length-drop}
 use Rattle.std.proofs.lemmas.Bool.{cases_lt}
 use Rattle.std.proofs.lemmas.List.{length-take-le}

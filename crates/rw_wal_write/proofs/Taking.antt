@@ -46,7 +46,7 @@ module _ {W : Type 0} (contents : W → Option (List ℕ)) (has_failed : W → B
     room_left = omega (arith, p.room_left, q.room_left, length-append x y);
   }
 
-  -- one text, and then a beginning of another
+  -- one text, and then a prefix of another
   pub takes_part_after : (a b c : W) (x y : List ℕ) → TakesAll contents has_failed room a b x → TakesPart contents has_failed room b c y → TakesPart contents has_failed room a c (x ++ y)
   takes_part_after a b c x y p q = record {
     taken = length x + q.taken;
@@ -56,7 +56,7 @@ module _ {W : Type 0} (contents : W → Option (List ℕ)) (has_failed : W → B
     lacked = λ h. let l = q.lacked (p.sound h) in omega (arith, l, p.room_left, length-append x y);
   }
 
-  -- a beginning of a text is one of all that would have followed
+  -- a prefix of a text is one of all that would have followed
   pub takes_part_before : (a b : W) (x y : List ℕ) → TakesPart contents has_failed room a b x → TakesPart contents has_failed room a b (x ++ y)
   takes_part_before a b x y p = record {
     taken = p.taken;

@@ -28,7 +28,8 @@ pub next_page : (offset n : ℕ) → n ≡ left_at offset → left_at (offset + 
 next_page offset n e = omega arith
 
 module _ {W : Type 0} (contents : W → Option (List ℕ)) (has_failed : W → Bool) (room : W → ℕ) where
-  -- From `start` on, so much of the whole was written that the offset is `at`, and of the record the rest is left.
+  -- From `start` on, as much of the whole was written as brings the offset to `at`, and of the
+  -- record the rest is left.
   pub record Underway (old now : W) (start at : ℕ) (goes_on : Bool) (rest whole : List ℕ) : Type 0 where
     pub done : List ℕ
     pub fuel : ℕ
@@ -102,7 +103,7 @@ module _ {W : Type 0} (contents : W → Option (List ℕ)) (has_failed : W → B
       subst (λ (m : ℕ). Underway a c start (at + (7 + m)) true later whole) size
       (subst (λ (x : List ℕ). Underway a c start (at + (7 + n)) true x whole) (sym q) (step a b c start at n goes_on rest whole u (sym e) l t'))
 
-  -- a device that fails at such a fragment has a beginning of the whole
+  -- a device that fails at such a fragment has a prefix of the whole
   pub underway_fails : (a b c : W) (start at n : ℕ) (goes_on : Bool) (kind : Kind) (rest part whole : List ℕ) → Underway a b start at goes_on rest whole
       → n ≡ left_at at - 7 → n < length rest → part ≡ take n rest → kind ≡ (if goes_on then middle else first)
       → TakesPart contents has_failed room b c (frame kind part) → TakesPart contents has_failed room a c whole

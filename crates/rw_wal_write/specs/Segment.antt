@@ -8,7 +8,8 @@ use Rattle.rw_wal_write.specs.Sinks.{TakesAll}
 use Rattle.rw_wal_write.specs.declared.log_fault.LogFault.{LogFault}
 use Rattle.rw_wal_write.specs.declared.log_fault.LogFault.TheVariants.{SegmentFull, Device, RecordTooLong}
 
--- the device, the most pages, the bytes that were written, and whether the device has failed at one of them
+-- the device, the most pages, the bytes that were written, and whether the device has failed at one
+-- of them
 pub record Segment (W : Type 0) : Type 0 where
   pub sink : W
   pub pages : ℕ
@@ -22,7 +23,7 @@ pub record IsPlace (pages offset : ℕ) : Type 0 where
   pub within : offset ≤ pages * page_size
   pub header : 7 ≤ page_size - offset % page_size
 
--- why a record of this length is not let in, if it is not
+-- why a record of this length is refused, if it is
 abbrev pub refusal : {W : Type 0} → Segment W → ℕ → Option LogFault
 refusal s len =
     if s.closed then Some Device
@@ -30,7 +31,8 @@ refusal s len =
     else if nat_lt (room page_size s.pages s.offset) len then Some SegmentFull
     else None
 
--- A record was written: its fragments stand behind what was written before, and nothing but the offset has changed.
+-- A record was written: its fragments are after what was written before, and nothing but the
+-- offset has changed.
 pub record IsLogged {W : Type 0} (contents : W → Option (List ℕ)) (has_failed : W → Bool) (room : W → ℕ) (old new : Segment W) (rec : List ℕ) : Type 0 where
   pub bytes : TakesAll contents has_failed room old.sink new.sink (log_bytes page_size old.offset rec)
   pub moved : new ≡ record old { sink = new.sink; offset = old.offset + length (log_bytes page_size old.offset rec) }

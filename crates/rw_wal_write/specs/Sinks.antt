@@ -1,5 +1,6 @@
 -- What a device has taken of a text that it was given.
--- The three functions are those of its trait: what it holds where that is known, whether it has failed, and how many more bytes it surely takes.
+-- The three functions are those of its trait: what it holds if that is known, whether it has
+-- failed, and how many more bytes it is certain to take.
 use Rattle.std.specs.Prelude.{◌≡◌, ℕ, ◌+◌, ◌<◌, ◌≤◌, List, length, take, Option, Result, Bool, true, false, MatchResult}
 use Rattle.std.specs.Io.KnownBytes.{Appends}
 
@@ -9,7 +10,7 @@ pub record TakesAll {W : Type 0} (contents : W → Option (List ℕ)) (has_faile
   pub sound : has_failed old ≡ false → has_failed new ≡ false
   pub room_left : room old ≤ room new + length text
 
--- It took a beginning and has failed, which it does only where it had failed before or lacked room.
+-- It took a prefix and has failed; it fails only if it had failed before or lacked room.
 pub record TakesPart {W : Type 0} (contents : W → Option (List ℕ)) (has_failed : W → Bool) (room : W → ℕ) (old new : W) (text : List ℕ) : Type 0 where
   pub taken : ℕ
   pub within : taken ≤ length text

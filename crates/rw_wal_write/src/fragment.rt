@@ -11,10 +11,10 @@ use rw_codes::crc32c;
 use rw_types::{Failed, Sink, write_all};
 use rw_wal_format::{FragmentType, HEADER_BYTES, PAGE_BYTES};
 
-/// Where fewer bytes than a header's are left in a page, they are zeros.
+/// The bytes at the end of a page that has no room for another header.
 static ZEROS: [u8; 6] = [0; 6];
 
-/// What stands before the data of a fragment.
+/// Returns the header of a fragment with this data.
 #[tactic(auto, unfolding(rw_wal_format::specs::Writing::frame))]
 fn header(kind: FragmentType, part: &[u8]) -> [u8; HEADER_BYTES]
     requires { length part.now < 2 ^ 16 }
@@ -36,7 +36,7 @@ fn put_fragment<W: Sink>(sink: &mut W, kind: FragmentType, part: &[u8]) -> Resul
     write_all(sink, part)
 }
 
-/// Fills the rest of a page with zeros, where no header has room there, and returns how many.
+/// Fills the rest of a page with zeros if it has no room for a header, and returns how many.
 fn put_padding<W: Sink>(sink: &mut W, left: usize) -> Result<usize, Failed>
     ensures bytes { Takes W.contents W.has_failed W.room sink.old sink.new (padding left) result }
     ensures len { IfOk result (λ n. n ≡ length (padding left)) }
@@ -48,7 +48,7 @@ fn put_padding<W: Sink>(sink: &mut W, left: usize) -> Result<usize, Failed>
     Ok(left)
 }
 
-/// How many bytes of data a fragment at this offset has room for.
+/// Returns how many bytes of data a fragment at this offset has room for.
 fn room_in_page(offset: usize) -> usize
     requires { 7 ≤ page_size - offset % page_size }
     ensures { result ≡ page_size - offset % page_size - 7 }
@@ -56,7 +56,8 @@ fn room_in_page(offset: usize) -> usize
     PAGE_BYTES - offset % PAGE_BYTES - HEADER_BYTES
 }
 
-/// Writes the last fragment of a record, and zeros after it where no further fragment has room in the page. Returns how many bytes these are together.
+/// Writes the last fragment of a record, and zeros after it if no further fragment has room in the
+/// page. Returns how many bytes these are together.
 fn put_last<W: Sink>(
     sink: &mut W,
     kind: FragmentType,
@@ -76,7 +77,8 @@ fn put_last<W: Sink>(
     Ok(HEADER_BYTES + part.len() + zeros)
 }
 
-/// Writes a record at an offset as fragments, each the greatest that fits its page, and returns the offset after them.
+/// Writes a record at an offset as fragments, each the greatest that fits its page, and returns the
+/// offset after them.
 pub fn put_record<W: Sink>(sink: &mut W, offset: usize, rec: &[u8]) -> Result<usize, Failed>
     requires some { 0 < length rec.now }
     requires place { 7 ≤ page_size - offset % page_size }

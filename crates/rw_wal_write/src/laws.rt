@@ -8,7 +8,8 @@ ghost use Rattle.rw_wal_write.specs.Segment.{Segment, AreLogged, HasEntries};
 
 use rw_types::Sink;
 
-/// Law: the records of a segment that was written from its beginning on are read back: their entries in their order, and no fault.
+/// Law: the records of a segment that was written from its beginning on are read back: their
+/// entries in their order, and no fault.
 pub fn entries_are_read<W: Sink>()
     ensures { (old new : Segment W) (records : List (List ℕ × List Entry)) → old.offset ≡ 0
         → All HasEntries records

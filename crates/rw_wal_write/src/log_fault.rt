@@ -6,9 +6,10 @@ use std::fmt;
 /// Why a record was not written.
 #[derive(Clone, Copy, Debug, PartialEq, Eq)]
 pub enum LogFault {
-    /// The record does not fit in what is left of the segment. Nothing was written; a shorter one may fit.
+    /// The record does not fit in what is left of the segment. Nothing was written; a shorter one
+    /// may fit.
     SegmentFull = 1,
-    /// The device failed, in this call or an earlier one. It may hold a beginning of the record.
+    /// The device failed, in this call or an earlier one. It may hold a prefix of the record.
     Device = 2,
     /// The record has more than 16 MiB. Nothing was written.
     RecordTooLong = 3,

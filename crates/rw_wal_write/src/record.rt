@@ -11,13 +11,13 @@ use rw_types::{RawLabels, Word};
 use rw_wal_format::RecordType;
 use std::alloc::{AllocError, Global};
 
-/// Room for the labels of a usual series; a longer record grows.
+/// Room for the labels of a usual series; for a longer record the buffer grows.
 const SERIES_BYTES: usize = 256;
 
 /// The type, the first reference and the first timestamp.
 const BASE_BYTES: usize = 17;
 
-/// A sample with two deltas of one byte; a record with greater ones grows.
+/// The bytes of a sample with two deltas of one byte; for greater ones the buffer grows.
 const SAMPLE_BYTES: usize = 10;
 
 /// Appends a number of 64 bits, high byte first.
@@ -55,7 +55,8 @@ fn put_labels(out: &mut Vec<u8>, labels: &[(Vec<u8>, Vec<u8>)]) -> Result<(), Al
     Ok(())
 }
 
-/// The bytes of a series record with one definition: `reference` stands for `labels` (wal.md, "Series records").
+/// Returns the bytes of a series record with one definition: `reference` stands for `labels`
+/// (wal.md, "Series records").
 pub fn series_record(
     alloc: Global,
     reference: u64,
@@ -101,8 +102,8 @@ fn put_samples(
     Ok(())
 }
 
-/// The bytes of a sample record (wal.md, "Sample records") with these samples, each as (reference, timestamp in milliseconds, value). The first
-/// one is the base of all deltas.
+/// Returns the bytes of a sample record (wal.md, "Sample records") with these samples, each as
+/// (reference, timestamp in milliseconds, value). The first one is the base of all deltas.
 pub fn sample_record(alloc: Global, samples: &[(u64, i64, Word)]) -> Result<Vec<u8>, AllocError>
     ensures { IfOk result (λ record_bytes. record_bytes.items ≡ bytes_of_samples samples.now) }
 {

@@ -15,7 +15,7 @@ use std::marker::Model;
 /// The most bytes of a record.
 const MAX_RECORD_BYTES: usize = 16 * 1024 * 1024;
 
-/// The bytes of records that are left in a segment, behind the headers of their fragments.
+/// Returns how many bytes of records have room in the rest of a segment, headers not counted.
 fn room_in(pages: usize, offset: usize) -> usize
     requires { IsPlace pages offset }
     ensures { result ≡ room page_size pages offset }
@@ -25,7 +25,8 @@ fn room_in(pages: usize, offset: usize) -> usize
         + rest / PAGE_BYTES * (PAGE_BYTES - HEADER_BYTES)
 }
 
-/// Writes records to one segment of a log. Contracts see its device, the most pages, its offset, and whether it is closed, as it is after `Device`.
+/// Writes records to one segment of a log. Contracts see its device, the greatest number of pages,
+/// the offset, and whether it is closed, as it is after `Device`.
 #[derive(Debug, Drop)]
 pub struct SegmentWriter<W: Sink> {
     sink: W,
@@ -52,7 +53,7 @@ impl<W: Sink> Model for SegmentWriter<W> {
 }
 
 impl<W: Sink> SegmentWriter<W> {
-    /// A writer of an empty segment, which has at most `pages` pages of 32 KiB.
+    /// Returns a writer of an empty segment, which has at most `pages` pages of 32 KiB.
     pub fn new(w: W, pages: usize) -> SegmentWriter<W>
         requires some { 1 ≤ pages }
         requires most { pages ≤ 4096 }
@@ -66,7 +67,8 @@ impl<W: Sink> SegmentWriter<W> {
         }
     }
 
-    /// A writer that goes on with a segment of at most `pages` pages of 32 KiB, of which `offset` bytes are written.
+    /// Returns a writer that continues a segment of at most `pages` pages of 32 KiB, of which
+    /// `offset` bytes are written.
     pub fn resume(w: W, pages: usize, offset: usize) -> SegmentWriter<W>
         requires { IsPlace pages offset }
         ensures { result ≡ record { sink = w; pages = pages; offset = offset; closed = false } }
@@ -79,7 +81,8 @@ impl<W: Sink> SegmentWriter<W> {
         }
     }
 
-    /// The offset, in bytes, behind the records that were written whole, with their headers and zeros.
+    /// Returns the offset, in bytes, after the records that were written whole, with their headers
+    /// and zeros.
     pub fn offset(&self) -> usize
         ensures offset { result ≡ self.now.offset }
         ensures place { IsPlace self.now.pages result }
@@ -87,7 +90,7 @@ impl<W: Sink> SegmentWriter<W> {
         self.offset
     }
 
-    /// The device, failed or not.
+    /// Returns the device, failed or not.
     pub fn into_inner(self) -> W
         ensures sink { result ≡ self.sink }
         ensures failed { self.closed ≡ true → W.has_failed result ≡ true }
@@ -101,14 +104,14 @@ impl<W: Sink> SegmentWriter<W> {
         sink
     }
 
-    /// Writes a record behind those that were written before. This takes no memory.
+    /// Writes a record after those that were written before. This takes no memory.
     ///
-    /// Where several refusals hold, `Device` comes before `RecordTooLong`, and that before `SegmentFull`. After `Device` the writer is closed,
-    /// and each later call returns `Device`.
+    /// If several refusals hold, `Device` comes before `RecordTooLong`, and that before
+    /// `SegmentFull`. After `Device` the writer is closed, and each later call returns `Device`.
     pub fn log(&mut self, rec: &[u8]) -> Result<(), LogFault>
         requires { 0 < length rec.now }
 
-        // What is refused writes nothing and leaves the writer as it was.
+        // A refused record writes nothing and leaves the writer as it was.
         ensures refused { IfSome (refusal self.old (length rec.now)) (λ fault. (result ≡ Err fault)
             × (self.new ≡ self.old)) }
         ensures taken { refusal self.old (length rec.now) ≡ None

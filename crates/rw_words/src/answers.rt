@@ -1,11 +1,11 @@
-//! What an option gives, and what options ask for that several commands have.
+//! The values of options, and of options that several commands share.
 
 use crate::{LogDir, Reporting, SettingsFile};
 use clap::ArgMatches;
 use rw_text::{Address, read_address};
 use rw_types::Bounded;
 
-/// The number that an option gives, or that stands where none is given.
+/// Returns the number that an option gives, or its default.
 pub(crate) fn number_of<const LOW: u64, const HIGH: u64>(
     options: &ArgMatches<'_>,
     name: &str,
@@ -13,12 +13,12 @@ pub(crate) fn number_of<const LOW: u64, const HIGH: u64>(
     Bounded::try_new(options.get_one::<u64>(name)?)
 }
 
-/// The address that an option gives; none where the HOST:PORT is none.
+/// Returns the address that an option gives, or `None` if the value is not a valid HOST:PORT.
 pub(crate) fn address_of<'a>(options: &ArgMatches<'a>, name: &str) -> Option<Address<'a>> {
     read_address(options.get_str(name)?)
 }
 
-/// The folder with a log that an option gives.
+/// Returns the folder with a log that an option gives.
 pub(crate) fn dir_of<'a>(options: &ArgMatches<'a>) -> Option<LogDir<'a>> {
     let path = options.get_str("dir")?;
     Some(LogDir {
@@ -27,7 +27,7 @@ pub(crate) fn dir_of<'a>(options: &ArgMatches<'a>) -> Option<LogDir<'a>> {
     })
 }
 
-/// Which settings are asked for.
+/// Returns which settings are asked for.
 pub(crate) fn settings_of<'a>(options: &ArgMatches<'a>) -> SettingsFile<'a> {
     SettingsFile {
         path: options.get_str("settings"),
@@ -35,7 +35,7 @@ pub(crate) fn settings_of<'a>(options: &ArgMatches<'a>) -> SettingsFile<'a> {
     }
 }
 
-/// What is to be told of the work; none where the HOST:PORT is none.
+/// Returns what is to be reported of the work, or `None` if a value is not a valid HOST:PORT.
 pub(crate) fn reporting_of<'a>(options: &ArgMatches<'a>) -> Option<Reporting<'a>> {
     let metrics = match options.get_str("metrics") {
         Some(value) => Some(read_address(value)?),

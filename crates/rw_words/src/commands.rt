@@ -6,19 +6,19 @@ use clap::builder::ValueParser;
 use clap::{Arg, ArgAction, Command};
 use std::alloc::{AllocError, Global};
 
-/// An argument that takes a number in a range.
+/// Returns an argument that takes a number in a range.
 fn number(arg: Arg<'_>, least: i64, most: i64) -> Arg<'_> {
     arg.value_name("N")
         .value_parser(ValueParser::signed(least, most))
 }
 
-/// An argument that takes a path.
+/// Returns an argument that takes a path.
 fn path<'a>(arg: Arg<'a>, value: &'a str) -> Arg<'a> {
     arg.value_name(value)
         .value_parser(ValueParser::NonEmptyString)
 }
 
-/// An argument that takes one number or more.
+/// Returns an argument that takes one number or more.
 fn numbers<'a>(arg: Arg<'a>, value: &'a str) -> Arg<'a> {
     arg.value_name(value)
         .num_args(1..)
@@ -26,7 +26,7 @@ fn numbers<'a>(arg: Arg<'a>, value: &'a str) -> Arg<'a> {
         .value_parser(ValueParser::unsigned(0, u64::MAX))
 }
 
-/// An argument of this name that takes this.
+/// Returns an argument of this name that takes a value of this kind.
 fn taking<'a>(alloc: Global, name: &'a str, takes: Takes) -> Arg<'a> {
     let plain = Arg::new(alloc, name);
     match takes {
@@ -42,7 +42,7 @@ fn taking<'a>(alloc: Global, name: &'a str, takes: Takes) -> Arg<'a> {
     }
 }
 
-/// An argument that has this to do with others.
+/// Returns an argument with this dependency on others.
 fn bound<'a>(arg: Arg<'a>, bond: Bond) -> Result<Arg<'a>, AllocError> {
     match bond {
         Bond::Required => Ok(arg.required(true)),
@@ -52,7 +52,7 @@ fn bound<'a>(arg: Arg<'a>, bond: Bond) -> Result<Arg<'a>, AllocError> {
     }
 }
 
-/// The argument of a row.
+/// Returns the argument of a row.
 fn arg_of<'a>(alloc: Global, option: &Opt) -> Result<Arg<'a>, AllocError> {
     let mut arg = taking(alloc, option.name, option.takes).help(option.help);
     for bond in option.bonds {
@@ -61,7 +61,7 @@ fn arg_of<'a>(alloc: Global, option: &Opt) -> Result<Arg<'a>, AllocError> {
     Ok(arg)
 }
 
-/// The arguments of rows.
+/// Returns the arguments of rows.
 fn args_of<'a>(alloc: Global, options: &[Opt]) -> Result<Vec<Arg<'a>>, AllocError> {
     let mut args = Vec::with_capacity(alloc, options.len())?;
     for option in options {
@@ -70,7 +70,7 @@ fn args_of<'a>(alloc: Global, options: &[Opt]) -> Result<Vec<Arg<'a>>, AllocErro
     Ok(args)
 }
 
-/// The command of a row.
+/// Returns the command of a row.
 fn command_of<'a>(alloc: Global, words: &Words) -> Result<Command<'a>, AllocError> {
     let args = args_of(alloc, words.options)?;
     Command::new(alloc, words.name)
@@ -79,7 +79,7 @@ fn command_of<'a>(alloc: Global, words: &Words) -> Result<Command<'a>, AllocErro
         .args(args)
 }
 
-/// The commands of rows.
+/// Returns the commands of rows.
 fn commands_of<'a>(alloc: Global, rows: &[&Words]) -> Result<Vec<Command<'a>>, AllocError> {
     let mut commands = Vec::with_capacity(alloc, rows.len())?;
     for words in rows {
@@ -88,7 +88,7 @@ fn commands_of<'a>(alloc: Global, rows: &[&Words]) -> Result<Vec<Command<'a>>, A
     Ok(commands)
 }
 
-/// The program without its commands.
+/// Returns the program without its commands.
 fn program<'a>(alloc: Global) -> Command<'a> {
     Command::new(alloc, "rwship")
         .version("0.2.0")
@@ -97,7 +97,7 @@ fn program<'a>(alloc: Global) -> Command<'a> {
         .subcommand_required(true)
 }
 
-/// All commands.
+/// Returns all commands.
 pub fn command_line<'a>(alloc: Global) -> Result<Command<'a>, AllocError> {
     let commands = commands_of(alloc, &commands())?;
     program(alloc).subcommands(commands)

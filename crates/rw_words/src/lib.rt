@@ -1,4 +1,4 @@
-//! The command line: what each command is called, which options it takes, and what the words ask for.
+//! The command line: the commands, their options, and the task that the arguments ask for.
 #![tactic(auto)]
 
 mod answers;
@@ -20,33 +20,33 @@ use std::alloc::{AllocError, Global};
 /// Which settings are asked for.
 #[derive(Clone, Copy)]
 pub struct SettingsFile<'a> {
-    /// The path of the file; none stands for the defaults.
+    /// The path of the file, or `None` for the defaults.
     pub path: Option<&'a str>,
-    /// Whether each of its faults is told.
+    /// Whether each of its faults is explained.
     pub is_explained: bool,
 }
 
 /// How long connections are served.
 #[derive(Clone, Copy)]
 pub enum Until<'a> {
-    /// So many have come, and have ended.
+    /// Until this many have come, and have ended.
     Connections(Bounded<1, 1_000>),
-    /// Standard input has ended.
+    /// Until standard input ends.
     InputEnds,
-    /// The file is there.
+    /// Until the file exists.
     FileIs(&'a str),
 }
 
-/// How a log is followed that a server writes to.
+/// How a log is followed to which a server is writing.
 #[derive(Clone, Copy)]
 pub struct Following<'a> {
-    /// It ends once this file is there; without one, once standard input has ended.
+    /// It ends once this file exists, or, without one, once standard input ends.
     pub stop_file: Option<&'a str>,
-    /// So many milliseconds lie between two looks for more.
+    /// Look for new records every `poll_ms` milliseconds.
     pub poll_ms: Bounded<10, 60_000>,
-    /// So many milliseconds may a sample wait for a full batch.
+    /// Flush a partial batch after this many milliseconds.
     pub flush_ms: Bounded<10, 3_600_000>,
-    /// So many milliseconds lie between two times that the number of shards is asked for within a segment.
+    /// Adjust the number of shards every `reshard_ms` milliseconds within a segment.
     pub reshard_ms: Bounded<10, 3_600_000>,
 }
 
@@ -61,18 +61,18 @@ pub struct LogDir<'a> {
 /// How far a log is read.
 #[derive(Clone, Copy)]
 pub enum Reading<'a> {
-    /// To the end that it has.
+    /// To its present end.
     Whole,
     /// While it grows, until a stop.
     Follow(Following<'a>),
 }
 
-/// What is told of the work while it goes on.
+/// What is reported of the work while it goes on.
 #[derive(Clone, Copy)]
 pub struct Reporting<'a> {
-    /// Whether a line of progress a second is written to standard error.
+    /// Whether a line of progress is written to standard error every second.
     pub has_progress: bool,
-    /// Where the metrics are served.
+    /// The address at which the metrics are served.
     pub metrics: Option<Address<'a>>,
 }
 
@@ -84,10 +84,12 @@ pub struct Sending<'a> {
     pub to: Address<'a>,
     pub reading: Reading<'a>,
     pub reporting: Reporting<'a>,
-    /// Whether a complete report that names dropped samples is a fault.
+    /// Whether dropped samples in a complete report are a fault.
     pub fails_on_drop: bool,
     /// Whether a folder without a segment is a fault.
     pub fails_on_empty: bool,
+    /// Whether a record that is skipped and may hold samples is a fault.
+    pub fails_on_skip: bool,
     /// How many bytes the body of a batch may take; none for no limit.
     pub max_batch_bytes: Option<u64>,
 }
@@ -104,13 +106,13 @@ pub struct Receiving<'a> {
     pub reporting: Reporting<'a>,
 }
 
-/// What the words ask for. A file or a folder is a path.
+/// What the arguments ask for. A file or a folder is a path.
 #[derive(Clone, Copy)]
 pub enum Task<'a> {
     /// One log segment in; its body out.
     Body {
         hex: bool,
-        /// Whether it is told where the segment is damaged.
+        /// Whether the damage of a segment is explained.
         is_explained: bool,
     },
     /// Log text in; one segment out, or numbered segments into `dir`.
@@ -118,7 +120,7 @@ pub enum Task<'a> {
         hex: bool,
         pages: Bounded<1, 4096>,
         dir: Option<&'a str>,
-        /// Whether it is told what is wrong with a line.
+        /// Whether the fault of a line is explained.
         is_explained: bool,
     },
     /// One log segment in, or all segments of `dir`; the series plan out.
@@ -160,7 +162,7 @@ pub enum Task<'a> {
     },
 }
 
-/// The value of an option that is to be a HOST:PORT and is none.
+/// Returns the value of an option that has to be a HOST:PORT and is not a valid one.
 fn bad_value<'a>(options: &ArgMatches<'a>, option: &str) -> Option<&'a str> {
     let value = options.get_str(option)?;
     if read_address(value).is_some() {
@@ -169,7 +171,7 @@ fn bad_value<'a>(options: &ArgMatches<'a>, option: &str) -> Option<&'a str> {
     Some(value)
 }
 
-/// The option and the value of a HOST:PORT that is none, if the options have one.
+/// Returns the option and the value that is not a valid HOST:PORT, if the options have one.
 fn bad_option<'a>(options: &ArgMatches<'a>) -> Option<(&'static str, &'a str)> {
     for option in ["to", "listen", "metrics"] {
         if let Some(value) = bad_value(options, option) {
@@ -179,13 +181,13 @@ fn bad_option<'a>(options: &ArgMatches<'a>) -> Option<(&'static str, &'a str)> {
     None
 }
 
-/// The option and the value of a HOST:PORT that is none, if the words have one.
+/// Returns the option and the value that is not a valid HOST:PORT, if the arguments have one.
 pub fn bad_address<'a>(words: &ArgMatches<'a>) -> Option<(&'static str, &'a str)> {
     let (_, options) = words.subcommand()?;
     bad_option(options)
 }
 
-/// What the options of `inspect` ask for.
+/// Returns what the options of `inspect` ask for.
 fn inspect_task<'a>(options: &ArgMatches<'a>) -> Task<'a> {
     let dir = dir_of(options);
     let is_explained = options.get_flag("explain");
@@ -199,7 +201,7 @@ fn inspect_task<'a>(options: &ArgMatches<'a>) -> Task<'a> {
     }
 }
 
-/// The positions that the words ask for, in their order.
+/// Returns the positions that the arguments ask for, in their order.
 pub fn positions_of(alloc: Global, words: &ArgMatches<'_>) -> Result<Vec<u64>, AllocError> {
     let mut positions = Vec::new(alloc);
     if let Some((_, options)) = words.subcommand() {
@@ -214,7 +216,7 @@ pub fn positions_of(alloc: Global, words: &ArgMatches<'_>) -> Result<Vec<u64>, A
     Ok(positions)
 }
 
-/// What the options of `log` ask for.
+/// Returns what the options of `log` ask for.
 fn log_task<'a>(options: &ArgMatches<'a>) -> Option<Task<'a>> {
     Some(Task::Log {
         hex: options.get_flag("hex"),
@@ -224,7 +226,7 @@ fn log_task<'a>(options: &ArgMatches<'a>) -> Option<Task<'a>> {
     })
 }
 
-/// What the options of `body` ask for.
+/// Returns what the options of `body` ask for.
 fn body_task<'a>(options: &ArgMatches<'a>) -> Task<'a> {
     Task::Body {
         hex: options.get_flag("hex"),
@@ -232,7 +234,7 @@ fn body_task<'a>(options: &ArgMatches<'a>) -> Task<'a> {
     }
 }
 
-/// What the options of a command ask for that has no `--settings`.
+/// Returns what the options of a command ask for that has no `--settings`.
 fn plain_task<'a>(name: &str, options: &ArgMatches<'a>) -> Option<Task<'a>> {
     if name == "body" {
         Some(body_task(options))
@@ -245,7 +247,7 @@ fn plain_task<'a>(name: &str, options: &ArgMatches<'a>) -> Option<Task<'a>> {
     }
 }
 
-/// What the options of `plan` ask for.
+/// Returns what the options of `plan` ask for.
 fn plan_task<'a>(settings: SettingsFile<'a>, options: &ArgMatches<'a>) -> Task<'a> {
     Task::Plan {
         settings,
@@ -254,7 +256,7 @@ fn plan_task<'a>(settings: SettingsFile<'a>, options: &ArgMatches<'a>) -> Task<'
     }
 }
 
-/// What the options of a command ask for.
+/// Returns what the options of a command ask for.
 fn task_named<'a>(name: &str, options: &ArgMatches<'a>) -> Option<Task<'a>> {
     let settings = settings_of(options);
     if name == "plan" {
@@ -272,7 +274,8 @@ fn task_named<'a>(name: &str, options: &ArgMatches<'a>) -> Option<Task<'a>> {
     }
 }
 
-/// What the words ask for; none where a HOST:PORT is none, which `bad_address` tells.
+/// Returns what the arguments ask for, or `None` if a value is not a valid HOST:PORT, which
+/// `bad_address` returns.
 pub fn task_of<'a>(words: &ArgMatches<'a>) -> Option<Task<'a>> {
     let (name, options) = words.subcommand()?;
     task_named(name, options)

@@ -1,10 +1,10 @@
-//! What the words of the command `receive` ask for.
+//! The arguments of the command `receive`.
 
 use crate::answers::{address_of, number_of, reporting_of};
 use crate::{Receiving, SettingsFile, Task, Until};
 use clap::ArgMatches;
 
-/// How long connections are to be served.
+/// Returns how long connections are to be served.
 fn until_of<'a>(options: &ArgMatches<'a>) -> Option<Until<'a>> {
     if !options.get_flag("until-eof") {
         return Some(Until::Connections(number_of(options, "connections")?));
@@ -15,7 +15,7 @@ fn until_of<'a>(options: &ArgMatches<'a>) -> Option<Until<'a>> {
     }
 }
 
-/// What the options of `receive` ask for.
+/// Returns what the options of `receive` ask for.
 pub(crate) fn receive_task<'a>(
     settings: SettingsFile<'a>,
     options: &ArgMatches<'a>,

@@ -1,10 +1,10 @@
-//! What the words of the command `send` ask for.
+//! The arguments of the command `send`.
 
 use crate::answers::{address_of, dir_of, number_of, reporting_of};
 use crate::{Following, Reading, Sending, SettingsFile, Task};
 use clap::ArgMatches;
 
-/// How far the log is to be read.
+/// Returns how far the log is to be read.
 fn reading_of<'a>(options: &ArgMatches<'a>) -> Option<Reading<'a>> {
     if !options.get_flag("follow") {
         return Some(Reading::Whole);
@@ -17,7 +17,7 @@ fn reading_of<'a>(options: &ArgMatches<'a>) -> Option<Reading<'a>> {
     }))
 }
 
-/// What the options of `send` ask for.
+/// Returns what the options of `send` ask for.
 pub(crate) fn send_task<'a>(
     settings: SettingsFile<'a>,
     options: &ArgMatches<'a>,
@@ -39,6 +39,7 @@ pub(crate) fn send_task<'a>(
             reporting,
             fails_on_drop: options.get_flag("fail-on-drop"),
             fails_on_empty: options.get_flag("fail-on-empty"),
+            fails_on_skip: options.get_flag("fail-on-skip"),
             max_batch_bytes: options.get_one::<u64>("max-batch-bytes"),
         },
     })

@@ -9,7 +9,7 @@ pub(crate) enum Takes {
     Nothing,
     /// Any text, shown by this name.
     Text(&'static str),
-    /// A path, which is no empty word.
+    /// A path, which is not empty.
     Path(&'static str),
     /// A path without the name of an option before it.
     Place(&'static str),
@@ -292,6 +292,12 @@ static SEND: Words = Words {
             help: "End with status 1 if DIR has no segment",
         },
         Opt {
+            name: "fail-on-skip",
+            takes: Takes::Nothing,
+            bonds: &[],
+            help: "End with status 1 if records were skipped that may hold samples, as of histograms",
+        },
+        Opt {
             name: "max-batch-bytes",
             takes: Takes::Number(1, 1_099_511_627_776),
             bonds: &[],
@@ -358,7 +364,7 @@ fn receive() -> &'static Words {
     &RECEIVE
 }
 
-/// All commands.
+/// Returns all commands.
 pub(crate) fn commands() -> [&'static Words; 8] {
     [
         body(),

@@ -120,7 +120,7 @@ mark_unsettled c ended e f = rw e (ap (λ b. cond b c.builder []) (mark_due c en
 mark_growing : (c : Core) (ended : Bool) → is_empty c.batch ≡ true → nat_le c.full (length c.builder) ≡ false → growing (with_mark c ended) ≡ []
 mark_growing c ended e f = rw e (ap (λ b. cond b [] c.builder) (mark_due c ended f) ∙ closed_rest c.builder)
 
--- the transcript where nothing is due
+-- the transcript if nothing is due
 still : (n : ℕ) (items : List Item) (es : List Exchange) (w : Working) → IsWorked n items es w → can_take w.core ≡ true → IsTranscriptOf w.core.target n items es [] w.core.builder w.core.resolved w.ledger.names
 still n items es w h can =
     let p = can_take-parts w.core can in
@@ -247,7 +247,7 @@ module _ (target : Target) (epoch shard n : ℕ) (items : List Item) (es : List 
   replied : (status : ℕ) → can_send c ≡ true → working (reply (batch_id c.batch) status sent) (reply_names (batch_id c.batch) status sent l) ≡ settled_by (judgement_of status) status
   replied status can = rw (sent_answers can) refl
 
-  -- the transcript where a batch is open
+  -- the transcript if a batch is open
   open' : IsWorked n items es (working c l) → is_empty c.batch ≡ false → IsTranscriptOf c.target n items es c.batch [] c.resolved l.names
   open' h e =
       subst (λ (r : List Placed). IsTranscriptOf c.target n items es c.batch r c.resolved l.names) (growing-open c e)

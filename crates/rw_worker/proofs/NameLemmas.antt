@@ -15,7 +15,7 @@ use Rattle.rw_worker.specs.Transcript.{Settled, samples_of, names_after, with_na
 use Rattle.rw_types.proofs.TimeLemmas.{nat_cmp-apart}
 use Rattle.rw_shard_core.proofs.NamingLemmas.{AreInRow-rest}
 
--- all these samples stand before this position
+-- all these samples are before this position
 abbrev pub AreBelow : ℕ → List Placed → Type 0
 AreBelow p [] = Unit {0}
 AreBelow p (x ∷ xs) = (x.place.pos < p) × AreBelow p xs
@@ -36,7 +36,7 @@ first_below : (x : Placed) (zs : List Placed) (y : Placed) (ys : List Placed) �
 first_below x [] y ys h = h.0.1
 first_below x (z ∷ zs) y ys h = let a = h.0.1 in let b = first_below z zs y ys h.1 in omega arith
 
--- samples in a row stand before the next one
+-- samples in a row are before the next one
 row_below : (xs : List Placed) (y : Placed) (ys : List Placed) → AreInRow (xs ++ y ∷ ys) → AreBelow y.place.pos xs
 row_below [] y ys h = tt
 row_below (x ∷ []) y ys h = (h.0.1, tt)
@@ -67,7 +67,7 @@ all_unnamed done names none y [] rest below row (suc k) d lt = absurd (omega ari
 all_unnamed done names none y (z ∷ zs) rest below row (suc k) d lt =
     all_unnamed done names none z zs rest (below_more y.place.pos z.place.pos done row.0.1 below) row.1 k d (omega arith)
 
--- where those alone are named that stand before all others of a row, none of these is
+-- if those alone are named that are before all others of a row, none of these is
 pub unnamed : (done batch rest : List Placed) (names : FinMap nat_cmp Reason) → ((p : ℕ) → AreBelow p done → get names p ≡ None) → AreInRow (done ++ (batch ++ rest)) → All (λ p. get names p ≡ None) (positions batch)
 unnamed done [] rest names none row = λ k d lt. absurd (omega arith)
 unnamed done (y ∷ ys) rest names none row = all_unnamed done names none y ys rest (row_below done y (ys ++ rest) row) (AreInRow-rest done (y ∷ (ys ++ rest)) row)

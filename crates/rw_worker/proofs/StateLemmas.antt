@@ -158,7 +158,7 @@ module _ {T P : Type 0} (tells : T → Type 0) (seen : T → List Exchange) (wai
     retries = more.retries ∙ ap (λ n. counted_to (retries_after n more.step)) h.retries ∙ counted-after (retries_of 0 h.steps) more.step ∙ ap counted_to (sym (retries-push 0 h.steps more.step));
   }
 
-  -- memory was refused, and it waited
+  -- memory ran out, and it waited
   pub steps-waited : (drain : Draining) (s v : Sending T) (p q : P) → Going drain s p → can_take s.core ≡ false → v.core ≡ s.core → v.ledger ≡ s.ledger → v.transport ≡ s.transport → v.retries ≡ s.retries → v.backoff ≡ s.backoff
       → Adds (waits p) (waits q) (paused p) (paused q) (s.backoff.0 ∷ []) → Stepped s v p q
   steps-waited drain s v p q h full core ledger transport retries backoff waited = record {
@@ -411,7 +411,7 @@ module _ {T P : Type 0} (tells : T → Type 0) (seen : T → List Exchange) (wai
       reports (report_of e stopped gone s) p h.steps h.some h.made (h.counted ∙ ap (λ (w : Working). length w.core.resolved) (sym h.now)) (ap (λ (w : Working). w.ledger.names) (sym h.now))
       (λ going orderly. ap (λ (w : Working). w.core.resolved) h.now ∙ whole going orderly) hard still reason last h.waited
 
-  -- the state where the end is open
+  -- the state if the end is open
   pub opened : (i : Intake) (d : Draining) (s : Sending T) (p : P) → At i s p → i ≡ intake.Open d → Going d s p
   opened i d s p h is = subst (λ (x : Draining). Going x s p) (ap intake_drain is) h.sending
 

@@ -1,4 +1,5 @@
--- How the samples of a queue are cut into batches (remote_write configuration, "max_samples_per_send"): a batch ends when it is full, or at a mark.
+-- How the samples of a queue are cut into batches (remote_write configuration,
+-- "max_samples_per_send"): a batch ends when it is full, or at a mark.
 use Rattle.std.specs.Prelude.{ℕ, nat_le, List, [], ◌∷◌, ◌++◌, length, fold, if◌then◌else◌}
 use Rattle.rw_plain_queue.specs.Items.{Placed}
 use Rattle.rw_plain_queue.specs.declared.item.Item.{Item}

@@ -47,7 +47,7 @@ StopsAtHard (end.Ended Reshard d) steps = ⊤
 StopsAtHard (end.Ended Hard d) steps = (before : List Step) × (steps ≡ before ++ Takes (item.End Hard) ∷ [])
 StopsAtHard (end.Killed d) steps = ⊤
 
--- the End that is told of is the last item that was taken
+-- the End that is reported is the last item that was taken
 abbrev pub IsLast : TakingEnd → Type 0
 IsLast (end.Ended kind d) = (before : List Item) × (d.taken ≡ before ++ item.End kind ∷ [])
 IsLast (end.Killed d) = ⊤
@@ -56,16 +56,16 @@ abbrev pub intake_drain : Intake → Draining
 intake_drain (intake.Open d) = d
 intake_drain (intake.Ended kind d) = d
 
--- the end that is given back where nothing more is taken
+-- the end that is given back if nothing more is taken
 abbrev pub given_back : Intake → TakingEnd
 given_back (intake.Open d) = end.Killed d
 given_back (intake.Ended kind d) = end.Ended kind d
 
--- what a worker reports that stops as it is
+-- what a worker reports that stops in its present state
 abbrev pub report_of : {T : Type 0} → TakingEnd → Option StopRead → Option ℕ → Sending T → WorkerReport T
 report_of end stopped gone s = record { end = end; resolved = s.resolved; stopped = stopped; gone = gone; ledger = s.ledger; transport = s.transport }
 
--- behind an End that is not hard, what was taken is closed: a builder that is not due is empty
+-- after an End that is not hard, what was taken is closed: a builder that is not due is empty
 abbrev pub IsClosed : Intake → Core → Type 0
 IsClosed (intake.Open d) c = ⊤
 IsClosed (intake.Ended Hard d) c = ⊥
@@ -73,7 +73,8 @@ IsClosed (intake.Ended Orderly d) c = is_due c ≡ false → c.builder ≡ []
 IsClosed (intake.Ended Reshard d) c = is_due c ≡ false → c.builder ≡ []
 
 module _ {T : Type 0} (tells : T → Type 0) (seen : T → List Exchange) (setup : Setup) (begun : T) where
-  -- these steps were made: they took what the end of the queue gave, and added their exchanges to those of the transport
+  -- these steps were made: they took what the end of the queue gave, and added their exchanges to
+  -- those of the transport
   pub record HasMade (drain : Draining) (transport : T) (steps : List Step) : Type 0 where
     pub queue_is : drain.queue ≡ setup.queue
     pub history : IsHistory setup.queue.epoch setup.queue.shard drain.taken
@@ -81,7 +82,8 @@ module _ {T : Type 0} (tells : T → Type 0) (seen : T → List Exchange) (setup
     pub items : items_of steps ≡ drain.taken
     pub adds : Adds (tells begun) (tells transport) (seen begun) (seen transport) (exchanges_of steps)
 
-  -- What a worker reports. The state of its shard is that after its steps, of which the exchanges are the transcript of what was taken. No more than a batch of that is not resolved.
+  -- What a worker reports. The state of its shard is that after its steps, of which the exchanges
+  -- are the transcript of what was taken. No more than a batch of that is not resolved.
   pub record IsReport (r : WorkerReport T) : Type 0 where
     pub steps : List Step
     pub made : HasMade (drain_of r.end) r.transport steps
@@ -96,7 +98,7 @@ module _ {T : Type 0} (tells : T → Type 0) (seen : T → List Exchange) (setup
     pub still : IsStill r.stopped r.gone r.resolved
     pub reason : HasReason r.end r.stopped r.gone
 
--- a count of 64 bits, which stays where it is greatest
+-- a count of 64 bits, which stays at the greatest number
 abbrev pub counted_to : ℕ → ℕ
 counted_to n = min n (2 ^ 64 - 1)
 
@@ -143,7 +145,7 @@ module _ {T P : Type 0} (tells : T → Type 0) (seen : T → List Exchange) (wai
       pub report : IsReport tells seen setup begun r
       pub waited : HasPaused pause report.steps
 
-    -- so far after a step, or what is then to be reported
+    -- this state after a step, or what is then to be reported
     abbrev pub IsProgress : Progress → Sending T → P → Type 0
     IsProgress (Goes i) s pause = IsState i s pause
     IsProgress (Stops end stopped gone) s pause = HasRun (report_of end stopped gone s) pause
@@ -163,7 +165,7 @@ abbrev pub IsNotStopped : Progress → Type 0
 IsNotStopped (Goes i) = ⊤
 IsNotStopped (Stops end stopped _) = stopped ≡ None
 
--- a worker that tells of a stop flag read this one, and has done nothing since
+-- a worker that reports a stop flag read this one, and has done nothing since
 abbrev pub IsStoppedAt : {T : Type 0} → ℕ → Intake → Sending T → Progress → Sending T → Type 0
 IsStoppedAt flag i s (Goes j) v = ⊤
 IsStoppedAt flag i s (Stops end stopped _) v = IfSome stopped (λ (f : StopRead). (f ≡ record { flag = flag; resolved = s.resolved }) × (end ≡ given_back i) × (v ≡ s))

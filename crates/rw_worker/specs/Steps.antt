@@ -29,10 +29,11 @@ pub data Step : Type 0 where
   Takes : Item → Step
   Freezes : Step
   Sends : Exchange → Step
-  Waits : Step  -- memory was refused
+  Waits : Step  -- memory ran out
 
--- When a step may be made: only a builder that is due is frozen, and memory is asked for where something is to be
--- frozen or sent. What is sent is the request of the open batch, whose body reads again as its message.
+-- When a step may be made: only a builder that is due is frozen, and memory is asked for if
+-- something is to be frozen or sent. What is sent is the request of the open batch, whose body
+-- reads again as its message.
 abbrev pub MayStep : Step → Core → Type 0
 MayStep (Takes x) c = (can_take c ≡ true) × MayTake x c
 MayStep Freezes c = (is_due c ≡ true) × (can_freeze c ≡ true)
@@ -50,7 +51,7 @@ after_step Freezes w = working (freeze w.core) (freeze_room w.core w.ledger)
 after_step (Sends e) w = answered e.answer (working (send w.core) w.ledger)
 after_step Waits w = w
 
--- steps one after the other, each where it may be made
+-- steps one after the other, each if it may be made
 abbrev pub AreSteps : Working → List Step → Type 0
 AreSteps w [] = ⊤
 AreSteps w (s ∷ ss) = MayStep s w.core × AreSteps (after_step s w) ss
@@ -81,8 +82,9 @@ unsettled c = if is_empty c.batch then (if is_due c then c.builder else []) else
 abbrev pub growing : Core → List Placed
 growing c = if is_empty c.batch then (if is_due c then [] else c.builder) else []
 
--- The exchanges are the transcript of the items: they settle the batches in order, but for one at most, of which tries alone were made, and the rest waits for more.
--- What is resolved is what they settle, and the samples of the refused batches are named.
+-- The exchanges are the transcript of the items: they settle the batches in order, except at most
+-- one, of which there were only tries, and the rest waits for more. What is resolved is what they
+-- settle, and the samples of the refused batches are named.
 pub record IsTranscriptOf (target : Target) (n : ℕ) (items : List Item) (exchanges : List Exchange) (unsent rest resolved : List Placed) (names : FinMap nat_cmp Reason) : Type 0 where
   pub settled : List Settled
   pub batches : cut n items ≡ cutting (map (λ (b : Settled). b.samples) settled ++ one_of unsent) rest

@@ -13,7 +13,7 @@ pub record StopRead : Type 0 where
   pub flag : ℕ
   pub resolved : ℕ
 
--- the front of the queue is taken; or the feeder is gone, and so many samples are resolved
+-- the front of the queue is taken; or the feeder is gone, and this many samples are resolved
 abbrev pub TakesNext : Draining → ℕ → Next → Type 0
 TakesNext d resolved (Item x after) = TakesFront d (taken.Item x after)
 TakesNext d resolved (End kind after) = TakesFront d (taken.End kind after)

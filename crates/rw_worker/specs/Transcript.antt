@@ -1,4 +1,5 @@
--- The exchanges of one sender (Remote-Write 1.0, "Retries & backoff"): a request that is answered by 429 or 5xx, or by nothing, is sent again; any other answer is final.
+-- The exchanges of one sender (Remote-Write 1.0, "Retries & backoff"): a request that is answered
+-- by 429 or 5xx, or by nothing, is sent again; any other answer is final.
 use Rattle.std.specs.Prelude.{◌≡◌, ℕ, Bool, true, false, List, [], ◌∷◌, ◌++◌, fold, Result, Ok, Err, ⊤}
 use Rattle.std.specs.Ordering.{nat_cmp}
 use Rattle.std.specs.FinMap.{FinMap, empty}
@@ -87,6 +88,6 @@ with_names names b = names_after (judgement_of b.status) b names
 abbrev pub names_of : List Settled → FinMap nat_cmp Reason
 names_of bs = fold with_names empty bs
 
--- who tells now told before, and this was added to what it tells
+-- what records now recorded before, and this was added to its record
 abbrev pub Adds : {X : Type 0} → Type 0 → Type 0 → List X → List X → List X → Type 0
 Adds before now old new added = now → before × (new ≡ old ++ added)

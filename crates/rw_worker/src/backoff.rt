@@ -35,14 +35,14 @@ impl Backoff {
         }
     }
 
-    /// The pause where memory was refused.
+    /// Returns the pause after memory ran out.
     pub(crate) fn least(&self) -> u64
         ensures { result ≡ self.now.0 }
     {
         self.least
     }
 
-    /// The pause before a retry, counted from 0.
+    /// Returns the pause before a retry, counted from 0.
     pub(crate) fn before(&self, retry: u64) -> u64
         ensures { result ≡ delay_of self.now.0 self.now.1 retry }
     {

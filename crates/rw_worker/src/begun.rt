@@ -13,7 +13,7 @@ use std::sync::Wait;
 use std::thread;
 use std::thread::{Promise, PromisedHandle, Threads};
 
-/// What a worker began with, by which its report is promised. It takes no bytes.
+/// What a worker began with, which its report refers to. It takes no bytes.
 #[derive(Drop)]
 pub struct Begun<T> {
     pub worker: Snapshot<Worker>,
@@ -28,9 +28,9 @@ impl<T: Transport> Promise<WorkerReport<T>> for Begun<T> {
     ghost kept_by = { λ b r. IsReport T.tells T.seen b.worker.value b.transport.value r × IfSome r.stopped (λ stopped. stopped.flag ≡ b.stop.value) };
 }
 
-/// Runs a worker in a thread of its own. Its report comes when the thread is joined.
+/// Runs a worker in its own thread. Its report comes when the thread is joined.
 ///
-/// Where memory or a thread is refused the worker and its end of the queue are dropped.
+/// If memory runs out or no thread can be made, the worker and its end of the queue are dropped.
 pub fn spawn<
     T: Transport + Send + Drop + 'static,
     P: Pause + Send + Drop + 'static,

@@ -1,4 +1,4 @@
-//! What a transport tells of its exchanges.
+//! The record that a transport keeps of its exchanges.
 
 ghost use Rattle.std.specs.Prelude.{◌≡◌};
 ghost use Rattle.rw_worker.specs.Transcript.{exchange_of};
@@ -7,7 +7,7 @@ use crate::transport::{Lost, Reply};
 use rw_history::History;
 use std::marker::Model;
 
-/// A request and its answer, for contracts alone. A transport that tells of its exchanges has a
+/// A request and its answer, for contracts alone. A transport that records its exchanges has a
 /// `History` of these. It keeps no byte of the request.
 #[derive(Drop)]
 pub struct Exchanged {

@@ -1,4 +1,4 @@
-//! A feeder that was found gone.
+//! The end of a worker whose feeder is gone.
 
 ghost use Rattle.rw_worker.specs.Stops.{TakesNext};
 
@@ -7,8 +7,8 @@ use rw_shard_queue::{Drain, Ended, Item, Killed, Kind, Open, Taken};
 use std::marker::Model;
 use std::sync::Wait;
 
-/// The feeder of a queue was found gone. Contracts see how many samples the worker that found it
-/// had resolved then.
+/// The feeder of a queue was found gone. Contracts see how many samples the worker that found this
+/// had resolved by then.
 #[derive(Drop)]
 pub struct FeederGone {
     resolved: u64,
@@ -30,8 +30,8 @@ pub(crate) enum Next {
     Gone(Drain<Killed>, FeederGone),
 }
 
-/// Takes the next item of a worker's queue. It may wait for one. If the feeder is gone, gives the
-/// end of the queue up. This alone makes a `FeederGone`.
+/// Takes the next item of a worker's queue. It may wait for one. If the feeder is gone, it gives
+/// the end of the queue up. Only this call makes a `FeederGone`.
 pub(crate) fn take_next<T, R: Wait>(rt: &R, drain: Drain<Open>, sending: &Sending<T>) -> Next
     ensures { TakesNext drain sending.now.resolved result }
 {

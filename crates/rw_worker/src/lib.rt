@@ -1,4 +1,5 @@
-//! The worker of a shard: it takes what comes out of the shard's queue, and sends it batch by batch.
+//! The worker of a shard: it takes what comes out of the shard's queue, and sends it batch by
+//! batch.
 #![tactic(auto)]
 
 mod backoff;

@@ -12,7 +12,7 @@ use rw_retry::Judgement;
 use rw_shard_core::{Attempt, ShardCore};
 use std::alloc::AllocError;
 
-/// Notes the answer to the attempt that is under way: whether it settles the batch.
+/// Notes the answer to the attempt that is under way, and returns whether it settles the batch.
 fn note(core: &mut ShardCore, ledger: &mut Ledger, id: BatchId, answer: Result<Reply, Lost>) -> bool
     requires waiting { awaits core.old ≡ true }
     requires id { id ≡ batch_id core.old.batch }
@@ -32,7 +32,8 @@ fn note(core: &mut ShardCore, ledger: &mut Ledger, id: BatchId, answer: Result<R
     }
 }
 
-/// Sends the open batch once: whether the answer settles it. Where memory is refused nothing changes.
+/// Sends the open batch once, and returns whether the answer settles it. If memory runs out,
+/// nothing changes.
 pub(crate) fn send_once<T: Transport>(
     core: &mut ShardCore,
     ledger: &mut Ledger,

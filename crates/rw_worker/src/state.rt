@@ -1,4 +1,4 @@
-//! How far a worker is.
+//! The state of a worker between two steps.
 
 ghost use Rattle.std.specs.Prelude.{◌≡◌};
 ghost use Rattle.rw_worker.specs.Report.{given_back, report_of};
@@ -31,7 +31,7 @@ pub(crate) enum Intake {
 }
 
 impl Intake {
-    /// Takes nothing more.
+    /// Stops taking items.
     pub(crate) fn close(self) -> TakingEnd
         ensures { result ≡ given_back self }
     {
@@ -50,9 +50,9 @@ pub(crate) struct Sending<T> {
     pub(crate) backoff: Backoff,
     /// How many samples are resolved.
     pub(crate) resolved: u64,
-    /// Told the same.
+    /// The same number, shared with other threads.
     pub(crate) tally: Tally,
-    /// How often the open batch was sent in vain.
+    /// How often the open batch was sent without success.
     pub(crate) retries: u64,
     pub(crate) transport: T,
 }
@@ -83,7 +83,7 @@ impl<T: Drop> Sending<T> {
     }
 }
 
-/// What a step gives.
+/// What a step results in.
 #[derive(Drop)]
 pub(crate) enum Progress {
     /// There is more to do.

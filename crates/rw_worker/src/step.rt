@@ -14,7 +14,7 @@ use crate::transport::{Pause, Transport};
 use rw_shard_queue::{Drain, Item, Kind, Open};
 use std::sync::Wait;
 
-/// Freezes the builder, which is due. Where memory is refused it waits.
+/// Freezes the builder, which is due. If memory runs out, it waits.
 fn freeze<T: Transport, P: Pause>(
     _start: &Start<T, P>,
     _intake: &Intake,
@@ -38,7 +38,7 @@ fn freeze<T: Transport, P: Pause>(
     }
 }
 
-/// Sends the open batch once. Where that was in vain, or memory is refused, it waits.
+/// Sends the open batch once. If that does not settle it, or memory runs out, it waits.
 fn send<T: Transport, P: Pause>(
     _start: &Start<T, P>,
     _intake: &Intake,
@@ -73,7 +73,7 @@ fn send<T: Transport, P: Pause>(
     }
 }
 
-/// Stops where the stop flag was read as set.
+/// Stops because the stop flag was read as set.
 fn give_up<T: Transport, P: Pause>(
     _start: &Start<T, P>,
     intake: Intake,
@@ -130,7 +130,8 @@ fn take<T: Transport, P: Pause, R: Wait>(
     }
 }
 
-/// Takes the next item, where all that was taken is sent or waits for more. Behind an End everything is resolved.
+/// Takes the next item if all that was taken is sent or waits for more. After an End everything is
+/// resolved.
 fn go_on<T: Transport, P: Pause, R: Wait>(
     rt: &R,
     start: &Start<T, P>,
@@ -159,7 +160,8 @@ fn go_on<T: Transport, P: Pause, R: Wait>(
     }
 }
 
-/// Makes one step: the next item is taken, or a builder that is due is frozen, or its batch is sent.
+/// Makes one step: the next item is taken, or a builder that is due is frozen, or its batch is
+/// sent.
 pub(crate) fn step<T: Transport, P: Pause, R: Wait>(
     rt: &R,
     start: &Start<T, P>,

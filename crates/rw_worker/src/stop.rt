@@ -8,16 +8,16 @@ use std::marker::Model;
 use std::sync::Arc;
 use std::sync::atomic::{AtomicBool, Ordering};
 
-/// A flag that tells workers to stop. Contracts see which flag it is, and nothing of how it stands.
+/// A flag that makes workers stop. Contracts see which flag it is, and nothing of its state.
 #[derive(Drop)]
 pub struct StopFlag {
     is_set: Arc<AtomicBool>,
-    /// For contracts alone, which know no more of it than that shares of one flag have the same.
+    /// For contracts alone, which know only that shares of one flag have the same name.
     name: u64,
 }
 
-/// A stop flag was read as set. Contracts see which flag, and how many samples the worker that read
-/// it had resolved then.
+/// Says that a stop flag was read as set. Contracts see which flag, and how many samples the worker
+/// that read it had resolved by then.
 #[derive(Drop)]
 pub struct Stopped {
     flag: u64,
@@ -41,13 +41,14 @@ impl Model for Stopped {
 }
 
 impl StopFlag {
-    /// A flag that is not set.
+    /// Returns a flag that is not set.
     pub fn new(alloc: Global) -> Result<StopFlag, AllocError> {
         let is_set = Arc::new(alloc, AtomicBool::new(false))?;
         Ok(StopFlag { is_set, name: 0 })
     }
 
-    /// Another share of this flag. It takes no memory, and is refused where there are too many shares already.
+    /// Returns another share of this flag. It takes no memory, and fails if there are too many
+    /// shares already.
     pub fn share(&self) -> Result<StopFlag, AllocError>
         ensures { IfOk result (λ f. f ≡ self.now) }
     {
@@ -58,12 +59,12 @@ impl StopFlag {
         })
     }
 
-    /// Sets the flag, for good.
+    /// Sets the flag. Nothing clears it.
     pub fn set(&self) {
         self.is_set.store(true, Ordering::SeqCst);
     }
 
-    /// Reads the flag for a worker. This alone makes a `Stopped`.
+    /// Reads the flag for a worker. Only this call makes a `Stopped`.
     pub(crate) fn read<T>(&self, sending: &Sending<T>) -> Option<Stopped>
         ensures { IfSome result
             (λ s. s ≡ record { flag = self.now; resolved = sending.now.resolved }) }

@@ -1,18 +1,18 @@
-//! How far a worker has come, for those who only want to know.
+//! The progress of a worker, for readers in other threads.
 
 use std::alloc::{AllocError, Global};
 use std::sync::Arc;
 use std::sync::atomic::{AtomicBool, AtomicU64, Ordering};
 
-/// What a worker has told.
+/// The progress that a worker shares.
 #[derive(Drop)]
 struct Told {
     resolved: AtomicU64,
     is_sending: AtomicBool,
 }
 
-/// How many samples a worker has resolved, and whether it has a batch to send, as far as it has told. This is advice: nothing is claimed of it, and nothing that is promised
-/// stands on it.
+/// How many samples a worker has resolved, and whether it has a batch to send, as of its last
+/// update. This is best effort: no clause says anything about it, and no promise depends on it.
 #[derive(Drop)]
 pub struct Tally {
     told: Arc<Told>,
@@ -29,29 +29,30 @@ impl Tally {
         })
     }
 
-    /// Another share of this tally. It takes no memory, and is refused where there are too many shares already.
+    /// Returns another share of this tally. It takes no memory, and fails if there are too many
+    /// shares already.
     pub(crate) fn share(&self) -> Result<Tally, AllocError> {
         let told = self.told.clone()?;
         Ok(Tally { told })
     }
 
-    /// Tells whether a batch was cut, which is to be sent.
+    /// Records whether a batch was cut that is to be sent.
     pub(crate) fn tell_cut(&self, is_cut: bool) {
         self.told.is_sending.store(is_cut, Ordering::Relaxed);
     }
 
-    /// Tells that the batch was answered for, and how many samples are resolved with it.
+    /// Records that the batch was acknowledged, and how many samples are resolved with it.
     pub(crate) fn tell(&self, resolved: u64) {
         self.told.resolved.store(resolved, Ordering::Relaxed);
         self.told.is_sending.store(false, Ordering::Relaxed);
     }
 
-    /// How many samples were told last.
+    /// Returns the number of resolved samples as of the last update.
     pub fn read(&self) -> u64 {
         self.told.resolved.load(Ordering::Relaxed)
     }
 
-    /// Whether a batch is on its way, or tried again.
+    /// Returns whether a batch is being sent, or waits to be sent again.
     pub fn is_sending(&self) -> bool {
         self.told.is_sending.load(Ordering::Relaxed)
     }

@@ -1,4 +1,4 @@
-//! What a worker sends over, and what it waits by.
+//! The transport that a worker sends over, and the pause by which it waits.
 
 ghost use Rattle.std.specs.Prelude.{◌≡◌, List, [], ◌∷◌, ◌++◌};
 ghost use Rattle.rw_worker.specs.Transcript.{Exchange, exchange_of};
@@ -30,10 +30,11 @@ pub trait Transport {
     ghost use Rattle.std.specs.Prelude.{◌≡◌, ℕ, List, [], ◌∷◌, ◌++◌};
     ghost use Rattle.rw_worker.specs.Transcript.{Exchange, exchange_of};
 
-    /// It was made for the worker of this shard of this epoch, the epoch first. One that serves all workers says so of each.
+    /// `is_for epoch shard t` says that the transport `t` was made for that worker. One that serves
+    /// every worker holds for all of them.
     ghost is_for: { ℕ → ℕ → Self → Type 0 };
 
-    /// It has told of each exchange so far. A transport need not tell of any.
+    /// Whether it has recorded each exchange so far. A transport need not record any.
     ghost tells: { Self → Type 0 };
 
     /// The exchanges so far.
@@ -48,13 +49,13 @@ pub trait Transport {
 pub trait Pause {
     ghost use Rattle.std.specs.Prelude.{◌≡◌, ℕ, List, [], ◌∷◌, ◌++◌};
 
-    /// It has told of each pause so far. One need not tell of any.
+    /// Whether it has recorded each pause so far. It need not record any.
     ghost tells: { Self → Type 0 };
 
     /// The pauses so far, in milliseconds.
     ghost paused: { Self → List ℕ };
 
-    /// Waits for so many milliseconds.
+    /// Waits for `ms` milliseconds.
     fn pause(&mut self, ms: u64)
         ensures { tells self.new
             → tells self.old × (paused self.new ≡ paused self.old ++ ms ∷ []) };

@@ -53,7 +53,8 @@ impl Model for Worker {
 }
 
 impl Worker {
-    /// The worker of the shard `shard` of the epoch `epoch`. Where memory is refused its end of the queue comes back.
+    /// Returns the worker of the shard `shard` of the epoch `epoch`. If memory runs out, its end of
+    /// the queue comes back.
     pub fn new(
         alloc: Global,
         config: &Config,
@@ -87,7 +88,7 @@ impl Worker {
         }
     }
 
-    /// Where it tells how many samples it has resolved.
+    /// Returns a share of the tally in which it counts resolved samples.
     pub fn tally(&self) -> Result<Tally, AllocError> {
         self.tally.share()
     }
@@ -96,7 +97,8 @@ impl Worker {
     /// feeder. After it has read the stop flag as set or found its feeder gone, it resolves nothing
     /// more.
     ///
-    /// It waits between two attempts of a batch, twice as long each time up to the longest pause, and for the least one where memory was refused.
+    /// It waits between two attempts of a batch, twice as long each time up to the longest pause,
+    /// and for the shortest one if memory ran out.
     pub fn run<T: Transport + Drop, P: Pause, R: Wait>(
         self,
         rt: &R,
@@ -125,7 +127,7 @@ impl Worker {
         unreachable!()
     }
 
-    /// The state before the first step.
+    /// Returns the state before the first step.
     fn begin<T: Transport, P: Pause>(self, transport: T, _pause: &P) -> (Intake, Sending<T>)
         ensures { IsState T.tells T.seen P.tells P.paused self transport _pause.now result.0
             result.1 _pause.now }

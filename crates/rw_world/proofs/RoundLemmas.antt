@@ -47,7 +47,7 @@ newest_more id sent i d lt =
     let n : 0 + length (take i sent) ≡ i = let l = length_taken sent i lt in omega (arith, l) in
     ap (λ rs. newest_from id 0 rs 0) (take_more sent i d lt) ∙ newest_snoc id 0 (take i sent) (get_or sent i d) 0 ∙ pick_same (same_id id (get_or sent i d).id) (0 + length (take i sent)) i (newest_from id 0 (take i sent) 0) n
 
--- the last of so many requests is it, or is passed
+-- the last of these requests is it, or is skipped
 pub newest_found : (id : BatchId) (sent : List Request) (i k : ℕ) (d : Request) → i ≡ k + 1 → k < length sent → newest_from id 0 sent 0 ≡ newest_from id 0 (take i sent) 0 →
     same_id id (get_or sent k d).id ≡ true → k ≡ newest_from id 0 sent 0
 newest_found id sent i k d n lt e h = sym (e ∙ ap (λ j. newest_from id 0 (take j sent) 0) n ∙ newest_more id sent k d lt ∙ ap (λ b. cond b k (newest_from id 0 (take k sent) 0)) h)
@@ -152,7 +152,8 @@ place_defined c w d e = sym (entry_defined c w (slice_get (log w) w.placed) e) �
 pub place_sampled : (c : Setup) (w : World) (r : ℕ) (t : ℤ) → is_some w.draining ≡ false → ahead_of (slice_get (log w) w.placed) ≡ ahead.Sample r t → can_place_known c w t (known c.choice (take w.placed (log w)) r) ≡ can_place c w
 place_sampled c w r t d e = sym (entry_sampled c w (slice_get (log w) w.placed) r t e) ∙ place_goes c w d
 
--- what is left where nothing may be placed, no batch is open, no builder is due and nothing may be taken
+-- what is left if nothing may be placed, no batch is open, no builder is due and nothing may be
+-- taken
 abbrev pub after_taking : Setup → World → List Event
 after_taking c w = first_of_these (cond (is_finished w || is_some w.draining) (at_first (may_flush c.capacity) (λ i. event.Flush i ∷ []) w) None) (event.Restart ∷ [])
 

@@ -10,13 +10,14 @@ use Rattle.rw_machine.specs.declared.event.Event.TheVariants as event
 use Rattle.rw_machine.specs.declared.event.How.TheVariants.{Plain}
 use Rattle.rw_world_parts.specs.Answering.{IsSentTo}
 
--- the receiver stands where requests are sent, and all of them are requests to it
+-- the receiver is where requests are sent, and all of them are requests to it
 pub record IsServed (target : Target) (host path : List ℕ) (requests : List Request) : Type 0 where
   pub host_is : target.host ≡ host
   pub path_is : target.path ≡ path
   pub sent : All (IsSentTo host path) requests
 
--- what the endpoint answers to these bytes: they are one request, and the head answers its body; or its head is refused with a status
+-- what the endpoint answers to these bytes: they are one request, and the head answers its body; or
+-- its head is refused with a status
 abbrev pub IsAnswerTo : List ℕ → ℕ → State → List ℕ → Answer → Type 0
 IsAnswerTo path limit h bytes a =
     ((body : List ℕ) × IsOneRequest path limit bytes body × (a ≡ answer h body))

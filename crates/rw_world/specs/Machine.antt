@@ -42,7 +42,7 @@ setup_of c l = record {
   busy = l.busy_first;
 }
 
--- the End that a shard is put, or else a Flush
+-- the End that a shard is put, or otherwise a Flush
 abbrev pub mark_kind : World → Option Kind
 mark_kind w = if is_finished w then Some kind.Orderly else if is_some w.draining then Some kind.Reshard else None
 
@@ -62,7 +62,7 @@ abbrev pub is_arrive : Event → Bool
 is_arrive (event.Arrive k how) = true
 is_arrive e = false
 
--- a Feed, a Place, a Freeze, a Send, an Arrive and a Restart may be refused memory; no other event is
+-- only a Feed, a Place, a Freeze, a Send, an Arrive and a Restart may run out of memory
 abbrev pub takes_memory : Event → Bool
 takes_memory (event.Feed piece) = true
 takes_memory event.Place = true
@@ -95,7 +95,7 @@ pub record IsSampleNext (m : Machine) (s : RoutedSample) : Type 0 where
   pub numbered : HasNumber (series_of m.setup.choice (placed_entries m)) (arc_value s.labels) s.series
   pub pos_is : s.pos ≡ m.world.placed
 
--- it is put, where there is room
+-- it is put, if there is room
 abbrev pub with_sample : Machine → RoutedSample → Machine
 with_sample m s = record m { world = place_as m.setup m.world s.t s.word (Sends (arc_value s.labels)) }
 

@@ -8,7 +8,7 @@ use Rattle.rw_machine.specs.Promises.{CanWork, IsInOrder, IsOfPlaced, OwedRises,
 use Rattle.rw_world.specs.Arriving.{AnswersBytes}
 use Rattle.rw_world.specs.Machine.{Machine}
 
--- there are events that led to it, from a beginning that leaves room to work
+-- there are events that led to it, from a start that leaves room to work
 pub record IsReached (m : Machine) : Type 0 where
   pub can : CanWork m.setup
   pub events : List Event
@@ -23,7 +23,7 @@ pub record NamesItsRefusals (c : Setup) (w : World) : Type 0 where
 
 -- What every schedule keeps.
 pub record IsKept (c : Setup) (w : World) : Type 0 where
-  pub in_order : IsInOrder c w  -- of each label set a beginning of its logged samples has arrived, each once, less the named ones
+  pub in_order : IsInOrder c w  -- a prefix of the samples of each label set has arrived
   pub of_placed : IsOfPlaced c w  -- none of them before it was placed
   pub owed_rises : OwedRises c w  -- what is owed of the placed ones rises strictly in time
   pub rises : EachRises w.head.store  -- and so does what has arrived
@@ -37,7 +37,7 @@ pub record IsKept (c : Setup) (w : World) : Type 0 where
   pub one_batch : HasOneBatchEachId w
   pub bytes : CarriesEachBatch c w  -- what is sent is the request of a batch, as bytes
   pub same_bytes : SendsSameBytes w
-  pub answers : AnswersBytes c w  -- and what arrives is answered as the endpoint answers these bytes
+  pub answers : AnswersBytes c w  -- and it is answered as the endpoint answers these bytes
   pub one_fate : NeverTakesAndRefuses c w
   pub resolved : StoresResolved c w
   pub lists : HasShardLists c w

@@ -1,4 +1,4 @@
-//! A request arrives.
+//! The arrival of a request.
 
 ghost use Rattle.std.specs.Prelude.{◌≡◌, ◌<◌, length, slice_get, OnOk, OnErr};
 ghost use Rattle.std.specs.Option.{option_map};
@@ -15,7 +15,7 @@ use rw_world_parts::{Answer, answer_to};
 use std::alloc::AllocError;
 
 impl Engine {
-    /// What arrives is answered as the endpoint answers its bytes.
+    /// Law: what arrives is answered as the endpoint answers its bytes.
     pub(crate) fn answers_bytes(&self)
         ensures { AnswersBytes self.now.setup self.now.world }
     {
@@ -24,7 +24,7 @@ impl Engine {
         requests_are_read();
     }
 
-    /// The bytes of the request with this number.
+    /// Returns the bytes of the request with this number, if there is one.
     pub(crate) fn request(&self, k: usize) -> Option<&[u8]>
         ensures { option_map (λ b. b.now) result
             ≡ option_map (λ (r : Request). r.bytes) (slice_get self.now.world.requests k) }
@@ -35,7 +35,7 @@ impl Engine {
         }
     }
 
-    /// The receiver judges this request.
+    /// Lets the receiver judge this request.
     fn judge(&mut self, k: usize) -> Result<(), AllocError>
         requires { k < length self.old.world.requests }
         ensures ok { OnOk result (self.new
@@ -53,7 +53,7 @@ impl Engine {
         Ok(())
     }
 
-    /// The receiver answers this request with a status, and its head does not see it.
+    /// Lets the receiver answer this request with a status, without a look at its head.
     fn turn_away(&mut self, k: usize, status: StatusCode) -> Result<(), AllocError>
         requires { k < length self.old.world.requests }
         ensures ok { OnOk result (self.new
@@ -69,7 +69,7 @@ impl Engine {
         Ok(())
     }
 
-    /// The request with this number arrives, if there is one.
+    /// Lets the request with this number arrive, if there is one.
     pub(crate) fn arrive(&mut self, k: u64, how: How) -> Result<(), AllocError>
         ensures ok { OnOk result (self.new
             ≡ record self.old {

@@ -20,11 +20,11 @@ use std::marker::Model;
 #[derive(Drop)]
 pub(crate) struct Engine {
     pub(crate) alloc: Global,
-    /// The shards at the beginning.
+    /// The number of shards at the start.
     pub(crate) shards: Bounded<1, 1_000>,
     /// The host of the receiver.
     pub(crate) host: HostName,
-    /// The limits of the receiver, which stands at the target's path.
+    /// The limits of the receiver, which is at the target's path.
     pub(crate) limits: Limits,
     pub(crate) log: Log,
     pub(crate) placed: u64,
@@ -82,7 +82,7 @@ impl Model for Engine {
 }
 
 impl Engine {
-    /// Before the first event.
+    /// Returns the engine before the first event.
     pub(crate) fn new(alloc: Global, config: Config, limits: Limits) -> Result<Engine, AllocError>
         ensures start { IfOk result (λ w. w
             ≡ record { setup = setup_of config limits; world = start (setup_of config limits) }) }
@@ -128,7 +128,7 @@ impl Engine {
         })
     }
 
-    /// Whether all that is to be sent was placed.
+    /// Returns whether all that is to be sent was placed.
     pub(crate) fn is_finished(&self) -> bool
         ensures { result ≡ is_finished self.now.world }
     {
@@ -138,7 +138,7 @@ impl Engine {
         }
     }
 
-    /// Whether there is a report.
+    /// Returns whether there is a report.
     pub(crate) fn is_over(&self) -> bool
         ensures { result ≡ is_over self.now.world }
     {
@@ -151,14 +151,16 @@ impl Engine {
         self.senders.are_drained()
     }
 
-    /// The samples that the receiver holds of a label set in order, as (timestamp in milliseconds, value).
+    /// Returns the samples that the receiver holds of a label set in order, as (timestamp in
+    /// milliseconds, value).
     pub(crate) fn received(&self, labels: &LabelSet) -> Result<Vec<(i64, Word)>, AllocError>
         ensures { IfOk result (λ v. v.items ≡ list_of self.now.world.head.store labels.now) }
     {
         self.head.samples(labels)
     }
 
-    /// The label sets of which the receiver holds samples, by byte order of their lists of (name, value). This takes no memory.
+    /// Returns the label sets of which the receiver holds samples, by byte order of their lists of
+    /// (name, value). This takes no memory.
     pub(crate) fn label_sets(&self) -> LabelSets<'_>
         ensures list { result ≡ label_sets self.now.world.head.store }
         ensures fits { length result < 2 ^ 63 }
@@ -166,14 +168,14 @@ impl Engine {
         self.head.label_sets()
     }
 
-    /// How many samples were placed whose series the rules drop.
+    /// Returns how many samples were placed whose series the rules drop.
     pub(crate) fn filtered(&self) -> u64
         ensures { result ≡ self.now.world.filtered }
     {
         self.router.filtered()
     }
 
-    /// The dropped samples.
+    /// Returns the dropped samples.
     pub(crate) fn ledger(&self) -> &Ledger
         ensures { result.now.names ≡ self.now.world.names }
     {

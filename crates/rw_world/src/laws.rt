@@ -10,7 +10,8 @@ ghost use Rattle.rw_world.specs.Arriving.{AnswersRead};
 use rw_machine::requests_carry_their_batches;
 use rw_roundtrip::requests_are_read;
 
-/// What any schedule has sent is answered as the endpoint answers its bytes, where a receiver reads its body as the message of its batch.
+/// Law: what any schedule has sent is answered as the endpoint answers its bytes, if a receiver
+/// reads its body as the message of its batch.
 pub fn requests_are_answered_as_bytes()
     ensures { (c : Setup) (events : List Event) → is_host_name c.target.host ≡ true
         → is_request_path c.target.path ≡ true

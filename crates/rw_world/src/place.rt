@@ -1,4 +1,4 @@
-//! The next entry of the log is placed.
+//! The placing of the next entry of the log.
 
 ghost use Rattle.std.specs.Prelude.{◌≡◌, ◌<◌, ◌^◌, suc, OnOk, OnErr};
 ghost use Rattle.std.specs.FinMap.{insert};
@@ -11,7 +11,7 @@ use rw_series_cache::{Routed, RoutedSample};
 use std::alloc::AllocError;
 
 impl Engine {
-    /// The next entry is a sample that is dropped.
+    /// Names the next entry, a sample, as dropped.
     fn name_next(&mut self, reason: Reason) -> Result<(), AllocError>
         requires next { IsDroppedNext self.old reason }
         requires small { self.old.world.placed < 2 ^ 60 }
@@ -30,7 +30,7 @@ impl Engine {
         Ok(())
     }
 
-    /// The next entry is this sample, which is put where there is room.
+    /// Puts the next entry, this sample, if there is room.
     fn put_next(&mut self, sample: RoutedSample) -> Result<(), AllocError>
         requires next { IsSampleNext self.old sample }
         requires small { self.old.world.placed < 2 ^ 60 }
@@ -54,7 +54,7 @@ impl Engine {
         Ok(())
     }
 
-    /// The next entry is placed, where there is one and it may be.
+    /// Places the next entry, if there is one and it may be placed.
     pub(crate) fn place(&mut self) -> Result<(), AllocError>
         ensures ok { OnOk result
             (self.new ≡ record self.old { world = place self.old.setup self.old.world }) }

@@ -11,7 +11,7 @@ use crate::engine::Engine;
 use rw_shard_core::Outcome;
 use std::alloc::AllocError;
 
-/// Whether the position is one of these.
+/// Returns whether the position is one of these.
 fn stands(positions: &[u64], pos: u64) -> bool
     requires { IsNonDecreasing positions.now }
     ensures { result ≡ list_any (λ p. p == pos) positions.now }
@@ -20,7 +20,7 @@ fn stands(positions: &[u64], pos: u64) -> bool
 }
 
 impl Engine {
-    /// The positions of the samples that were put and are not resolved.
+    /// Returns the positions of the samples that were put and are not resolved.
     fn pending(&self) -> Result<Vec<u64>, AllocError>
         ensures { IfOk result
             (λ v. v.items ≡ filter (is_pending self.now.world) (up_to self.now.world.placed)) }
@@ -35,7 +35,7 @@ impl Engine {
         Ok(samples)
     }
 
-    /// How the work has ended, once it has.
+    /// Returns how the work has ended, once it has.
     pub(crate) fn report(&self) -> Result<Option<Outcome>, AllocError>
         ensures { IfOk result (λ r. option_map ending_of r ≡ report self.now.world) }
     {

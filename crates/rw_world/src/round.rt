@@ -37,7 +37,7 @@ fn is_same(a: BatchId, b: BatchId) -> bool
     a.epoch == b.epoch && a.shard == b.shard && a.seq == b.seq
 }
 
-/// The number of the newest request with this id.
+/// Returns the number of the newest request with this id.
 fn newest(requests: &[Sent], id: BatchId) -> u64
     ensures { result ≡ newest_from id 0 requests.now 0 }
 {
@@ -53,7 +53,8 @@ fn newest(requests: &[Sent], id: BatchId) -> u64
 }
 
 impl Engine {
-    /// Whether a sample of this reference and timestamp may be placed: only one that is sent needs room.
+    /// Returns whether a sample of this reference and timestamp may be placed. Only one that is
+    /// sent needs room.
     fn can_place_known(&self, reference: u64, t: i64) -> bool
         ensures { result
             ≡ can_place_known self.now.setup self.now.world t
@@ -68,7 +69,7 @@ impl Engine {
         }
     }
 
-    /// Whether the next entry may be placed.
+    /// Returns whether the next entry may be placed.
     fn can_place(&self) -> bool
         ensures { result ≡ can_place self.now.setup self.now.world }
     {
@@ -106,7 +107,8 @@ impl Engine {
         self.senders.first_flushing()
     }
 
-    /// The open batch of this shard is sent, or where it waits its newest request arrives and is replied to.
+    /// Returns the next event for this shard's open batch: it is sent, or, if it waits, its newest
+    /// request arrives and is replied to.
     fn exchange(&self, i: usize) -> Next
         requires { IsOpen (slice_get self.now.world.shards i) }
         ensures { events_of result
@@ -118,7 +120,7 @@ impl Engine {
         }
     }
 
-    /// Whether each shard is to be put its End.
+    /// Returns whether each shard is to be put its End.
     fn is_ending(&self) -> bool
         ensures { result ≡ (is_finished self.now.world || is_some self.now.world.draining) }
     {
@@ -128,7 +130,8 @@ impl Engine {
         self.draining.is_some()
     }
 
-    /// A mark is put where one is to come and there is room for it, or else the next shards take over.
+    /// Returns the next mark, if one is to come and there is room for it, or else the change to the
+    /// next shards.
     fn mark(&self) -> Next
         ensures { events_of result
             ≡ first_of_these (if is_finished self.now.world || is_some self.now.world.draining
@@ -145,7 +148,7 @@ impl Engine {
         }
     }
 
-    /// What comes next.
+    /// Returns what comes next.
     fn next(&self) -> Next
         ensures { events_of result ≡ next_events self.now.setup self.now.world }
     {
@@ -164,7 +167,7 @@ impl Engine {
         self.mark()
     }
 
-    /// This reply arrives.
+    /// Lets this reply arrive.
     fn hear(&mut self, k: u64)
         ensures { self.new
             ≡ record self.old { world = happens self.old.setup self.old.world (event.Reply k) } }
@@ -175,7 +178,7 @@ impl Engine {
         self.reply(k);
     }
 
-    /// No more is read.
+    /// Stops the reading of the log.
     fn shut(&mut self)
         ensures { self.new
             ≡ record self.old { world = happens self.old.setup self.old.world event.Close } }
@@ -186,7 +189,7 @@ impl Engine {
         self.close();
     }
 
-    /// The events of a round. Where memory is refused none of them has happened.
+    /// Plays the events of a round. If memory runs out, none of them has happened.
     fn play(&mut self, next: Next) -> Result<(), AllocError>
         ensures ok { OnOk result (self.new
             ≡ record self.old { world = run self.old.setup (events_of next) self.old.world }) }
@@ -207,7 +210,8 @@ impl Engine {
         }
     }
 
-    /// Rounds of an orderly shutdown until there is a report. Where memory is refused to one of them those before it were played.
+    /// Plays rounds of an orderly shutdown until there is a report. If memory runs out in one of
+    /// them, those before it were played.
     pub(crate) fn settle(&mut self) -> Result<(), AllocError>
         ensures over { OnOk result (is_over self.new.world ≡ true) }
         ensures rounds { HasSettled self.old self.new }

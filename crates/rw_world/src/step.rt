@@ -1,4 +1,4 @@
-//! One event.
+//! A single event.
 
 ghost use Rattle.std.specs.Prelude.{◌≡◌, true, false, not, ◌&&◌, Some, None, slice_get, IsOk, OnOk, OnErr};
 ghost use Rattle.rw_machine.specs.Shards.{shard_take, shard_freeze, shard_lost};
@@ -12,7 +12,7 @@ use rw_plain_queue::Kind;
 use rw_wal_tail::Piece;
 use std::alloc::AllocError;
 
-/// Whether the event is a request's arrival.
+/// Returns whether the event is a request's arrival.
 fn is_arrive(event: &Event) -> bool
     ensures { result ≡ is_arrive event.now }
 {
@@ -23,7 +23,7 @@ fn is_arrive(event: &Event) -> bool
 }
 
 impl Engine {
-    /// The End that a shard is to be put, or none where that is a Flush.
+    /// Returns the kind of the End that a shard is to be put, or `None` if the mark is a Flush.
     fn mark_kind(&self) -> Option<Kind>
         ensures { result ≡ mark_kind self.now.world }
     {
@@ -133,7 +133,8 @@ impl Engine {
         self.draining = Some(n);
     }
 
-    /// Whether the shards at hand have nothing left, and not all that is to be sent was placed.
+    /// Returns whether the current shards have nothing left, and not all that is to be sent was
+    /// placed.
     fn may_restart(&self) -> bool
         ensures { result ≡ (not (is_finished self.now.world) && all_drained self.now.world) }
     {
@@ -159,7 +160,7 @@ impl Engine {
         Ok(())
     }
 
-    /// What one event does while there is no report.
+    /// Does what one event does while there is no report.
     fn act(&mut self, event: &Event) -> Result<(), AllocError>
         ensures ok { OnOk result
             (self.new ≡ record self.old { world = act self.old.setup self.old.world event.now }) }
@@ -204,7 +205,7 @@ impl Engine {
         }
     }
 
-    /// One event.
+    /// Lets one event happen.
     pub(crate) fn happen(&mut self, event: &Event) -> Result<(), AllocError>
         ensures ok { OnOk result (self.new
             ≡ record self.old { world = happens self.old.setup self.old.world event.now }) }

@@ -26,7 +26,8 @@ use std::marker::Model;
 
 /// A sender, the network and a receiving head on one thread, moved by events.
 ///
-/// Contracts see what it was set to and what it has come to. The receiver stands at the path of the sender's target.
+/// Contracts see what it was set to and what it has come to. The receiver is at the path of the
+/// sender's target.
 #[derive(Drop)]
 pub struct World {
     engine: Engine,
@@ -47,14 +48,14 @@ impl Model for World {
     ghost invariant = { λ w. IsReached w.engine };
 }
 
-/// Memory was refused to the event at this place, from 0.
+/// Memory ran out in the event at this index, counted from 0.
 #[derive(Clone, Copy, Debug, PartialEq, Eq)]
 pub struct Refused {
     pub at: usize,
 }
 
 impl World {
-    /// Before the first event.
+    /// Returns a world before the first event.
     pub fn new(alloc: Global, config: Config, limits: Limits) -> Result<World, AllocError>
         ensures { IfOk result
             (λ w. w ≡ record {
@@ -75,7 +76,7 @@ impl World {
         self.engine.happen(event)
     }
 
-    /// What holds of every world.
+    /// Law: what is true of every world.
     pub fn promises(&self)
         ensures { IsKept self.now.setup self.now.world }
     {
@@ -88,14 +89,14 @@ impl World {
         shards_keep_their_lists();
     }
 
-    /// One event. Where memory is refused the world is as it was.
+    /// Lets one event happen. If memory runs out, the world is as it was.
     pub fn step(&mut self, event: Event) -> Result<(), AllocError>
         ensures ok { OnOk result
             (self.new ≡ record self.old { world = happens self.old.setup self.old.world event }) }
         ensures err { OnErr result (self.new ≡ self.old) }
-        // What takes no memory is never refused.
+        // An event that takes no memory never fails.
         ensures never { takes_memory event ≡ false → IsOk result }
-        // What holds of every world.
+        // What is true of every world.
         ensures kept { IsKept self.new.setup self.new.world }
     {
         let result = self.happen(&event);
@@ -103,7 +104,8 @@ impl World {
         result
     }
 
-    /// Events, one after the other. Where one is refused the world is that after the events before it.
+    /// Lets events happen, one after the other. If one fails, the world is as it was after the
+    /// events before it.
     fn run_all(&mut self, events: &[Event]) -> Result<(), Refused>
         ensures ok { OnOk result
             (self.new ≡ record self.old { world = run self.old.setup events.now self.old.world }) }
@@ -123,7 +125,8 @@ impl World {
         Ok(())
     }
 
-    /// Events, one after the other. Where one is refused the world is that after the events before it.
+    /// Lets events happen, one after the other. If one fails, the world is as it was after the
+    /// events before it.
     pub fn run(&mut self, events: &[Event]) -> Result<(), Refused>
         ensures ok { OnOk result
             (self.new ≡ record self.old { world = run self.old.setup events.now self.old.world }) }
@@ -133,7 +136,7 @@ impl World {
               world = run self.old.setup
                   (take r.at events.now) self.old.world;
             })) }
-        // What holds of every world.
+        // What is true of every world.
         ensures kept { IsKept self.new.setup self.new.world }
     {
         let result = self.run_all(events);
@@ -141,7 +144,7 @@ impl World {
         result
     }
 
-    /// Rounds of an orderly shutdown until there is a report.
+    /// Plays rounds of an orderly shutdown until there is a report.
     fn shut_down(&mut self) -> Result<(), AllocError>
         ensures rounds { HasShutDown self.old self.new }
         ensures settled { OnOk result (IsSettled self.old.setup self.old.world self.new.world) }
@@ -151,15 +154,17 @@ impl World {
         self.engine.settle()
     }
 
-    /// An orderly shutdown: no more is read, all that was read is placed and sent, and this is how the work has ended. Where memory is refused the world is that after some of its rounds, and a call that comes later goes on from there.
+    /// Shuts the sender down in order: no more is read, all that was read is placed and sent.
+    /// Returns how the work has ended. If memory runs out, some of the rounds were played, and a
+    /// later call goes on from there.
     pub fn settle(&mut self) -> Result<Outcome, AllocError>
         ensures rounds { HasShutDown self.old self.new }
         ensures report { IfOk result (λ o. report self.new.world ≡ Some (ending_of o)) }
-        // All is through, or the log is damaged.
+        // Everything is resolved, or the log is damaged.
         ensures settled { OnOk result (IsSettled self.old.setup self.old.world self.new.world) }
         // A world that has its report stays as it is.
         ensures stays { is_over self.old.world ≡ true → self.new ≡ self.old }
-        // What holds of every world.
+        // What is true of every world.
         ensures kept { IsKept self.new.setup self.new.world }
     {
         let result = self.shut_down();
@@ -171,27 +176,30 @@ impl World {
         }
     }
 
-    /// How the work has ended, once it has. Of a world that was stopped this looks each placed entry up among the samples that are not resolved.
+    /// Returns how the work has ended, once it has. If the world was stopped, this looks each
+    /// placed entry up among the samples that are not resolved.
     pub fn report(&self) -> Result<Option<Outcome>, AllocError>
         ensures report { IfOk result (λ r. option_map ending_of r ≡ report self.now.world) }
-        // What holds of every world.
+        // What is true of every world.
         ensures kept { IsKept self.now.setup self.now.world }
     {
         self.promises();
         self.engine.report()
     }
 
-    /// The samples that the receiver holds of a label set in order, as (timestamp in milliseconds, value).
+    /// Returns the samples that the receiver holds of a label set in order, as (timestamp in
+    /// milliseconds, value).
     pub fn received(&self, labels: &LabelSet) -> Result<Vec<(i64, Word)>, AllocError>
         ensures list { IfOk result (λ v. v.items ≡ list_of self.now.world.head.store labels.now) }
-        // What holds of every world.
+        // What is true of every world.
         ensures kept { IsKept self.now.setup self.now.world }
     {
         self.promises();
         self.engine.received(labels)
     }
 
-    /// The label sets of which the receiver holds samples, by byte order of their lists of (name, value). This takes no memory.
+    /// Returns the label sets of which the receiver holds samples, by byte order of their lists of
+    /// (name, value). This takes no memory.
     pub fn label_sets(&self) -> LabelSets<'_>
         ensures list { result ≡ label_sets self.now.world.head.store }
         ensures fits { length result < 2 ^ 63 }
@@ -199,25 +207,26 @@ impl World {
         self.engine.label_sets()
     }
 
-    /// The bytes of the request with this number, from 0, of all that were sent: what goes over the network.
+    /// Returns the bytes of the request with this number, from 0, of all that were sent: what goes
+    /// over the network.
     pub fn request(&self, k: usize) -> Option<&[u8]>
         ensures bytes { option_map (λ b. b.now) result
             ≡ option_map (λ (r : Request). r.bytes) (slice_get self.now.world.requests k) }
-        // What holds of every world.
+        // What is true of every world.
         ensures kept { IsKept self.now.setup self.now.world }
     {
         self.promises();
         self.engine.request(k)
     }
 
-    /// How many samples were placed whose series the rules drop.
+    /// Returns how many samples were placed whose series the rules drop.
     pub fn filtered(&self) -> u64
         ensures { result ≡ self.now.world.filtered }
     {
         self.engine.filtered()
     }
 
-    /// The dropped samples.
+    /// Returns the dropped samples.
     pub fn ledger(&self) -> &Ledger
         ensures { result.now.names ≡ self.now.world.names }
     {

@@ -37,7 +37,7 @@ short_if : (b : Bool) (h : State) (k : ℕ) (a : Answer) → (a.status ≡ 503 �
 short_if true h k a f e = let no_way : 429 ≡ 503 = e in absurd (omega arith)
 short_if false h k a f e = f e
 
--- where the answer is 503 the head stays
+-- if the answer is 503 the head stays
 plain_short : (h : State) (m : WriteRequest) → (answer_to h (Ok m)).status ≡ 503 → (answer_to h (Ok m)).head ≡ h
 plain_short h m e = short_if (nat_lt 0 h.busy) h (h.busy - 1) (answered h (judged_body h (Ok m))) (judged_short h (taken_all h.limits (Ok h.store) m)) e
 

@@ -27,7 +27,8 @@ position_seen q hs = position_same (λ (h : Held). h.shard) (λ (h : Held). q h.
 pub position_flushing : (capacity : ℕ) (hs : List Held) → ((i : ℕ) (h : Held) → slice_get hs i ≡ Some h → h.capacity ≡ capacity) → position (λ (h : Held). may_flush h.capacity h.shard) hs ≡ position (may_flush capacity) (map (λ (h : Held). h.shard) hs)
 position_flushing capacity hs e = position_same (λ (h : Held). h.shard) (λ (h : Held). may_flush h.capacity h.shard) (may_flush capacity) hs (λ (i : ℕ) (h : Held) (at : slice_get hs i ≡ Some h). ap (λ k. may_flush k h.shard) (e i h at))
 
--- where one of two lists is empty, the second has something where the first is empty and both together are not
+-- if one of two lists is empty, the second has something if the first is empty and both
+-- together are not
 pub builder_some : {X : Type 0} (xs ys : List X) → (is_empty xs || is_empty ys) ≡ true → not (is_empty xs) ≡ true → not (is_empty ys) ≡ false
 builder_some [] ys e o = absurd (cc)
 builder_some (x ∷ xs) [] e o = refl

@@ -79,6 +79,6 @@ any_pending pos (h ∷ hs) =
     ∙ ap (λ b. b || list_any (λ (p : ℕ). p == pos) (all_pending hs)) (any_position pos (pending h.shard))
     ∙ ap (λ b. list_any (λ (x : Placed). x.place.pos == pos) (pending h.shard) || b) (any_pending pos hs)
 
--- in whatever order, a position is among them where a shard has it
+-- in whatever order, a position is among them if a shard has it
 pub all_found : (pos : ℕ) (hs : List Held) (xs ys : List ℕ) → xs ≡ all_pending hs → IsPermutation xs ys → list_any (λ (p : ℕ). p == pos) ys ≡ list_any (λ s. list_any (λ (x : Placed). x.place.pos == pos) (pending s)) (map (λ (h : Held). h.shard) hs)
 all_found pos hs xs ys e moved = sym (list_any-IsPermutation (λ (p : ℕ). p == pos) xs ys moved) ∙ ap (list_any (λ (p : ℕ). p == pos)) e ∙ any_pending pos hs

@@ -26,7 +26,7 @@ last_of-append [] y = refl
 last_of-append (x ∷ []) y = refl
 last_of-append (x ∷ w ∷ ws) y = last_of-append (w ∷ ws) y
 
--- the row of a beginning, and the step behind it
+-- the row of a beginning, and the step after it
 next_after : (xs : List Placed) (x : Placed) (ys : List Placed) → AreInRow (xs ++ x ∷ ys) → IfSome (last_of xs) (λ y. IsNext y x)
 next_after [] x ys h = tt
 next_after (y ∷ []) x ys h = h.0
@@ -107,7 +107,7 @@ taken_front q q' x k n e =
       killed = ap (λ (p : Queue). p.killed) a;
     }
 
--- what was put, where this All-one is the next to be taken
+-- what was put, if this All-one is the next to be taken
 split_put : (q q' : Queue) (x : Item) → Front q q' x → samples_in (put_in q) ≡ samples_in q.taken ++ (samples_in (x ∷ []) ++ samples_in q'.items)
 split_put q q' x f =
     samples_in-append q.taken q.items ∙ ap (λ ys. samples_in q.taken ++ samples_in ys) f.items ∙ ap (λ zs. samples_in q.taken ++ zs) (samples_in-append (x ∷ []) q'.items)

@@ -14,7 +14,8 @@ pub record IsSentTo (host path : List ℕ) (s : Request) : Type 0 where
   pub bytes : s.bytes ≡ request_of host path (body_of s.batch)
   pub read : IsReadAgain s.batch
 
--- a receiver's answer to the body of a batch: 413 Content Too Large over its limit, or what the head answers to the message
+-- a receiver's answer to the body of a batch: 413 Content Too Large over its limit, or what the
+-- head answers to the message
 abbrev pub answer_within : ℕ → State → List Placed → Answer
 answer_within limit h batch =
     if nat_lt limit (length (body_of batch)) then record { status = 413; head = h }

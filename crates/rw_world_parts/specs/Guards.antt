@@ -12,7 +12,7 @@ is_open s = not (is_empty s.core.batch)
 abbrev pub is_ready : Shard → Bool
 is_ready s = is_due s.core && not (is_empty s.core.builder)
 
--- something stands in the queue that may be taken
+-- something is in the queue that may be taken
 abbrev pub may_take : Shard → Bool
 may_take s = can_take s.core && not (is_empty s.queue)
 

@@ -48,7 +48,7 @@ samples_of (One x) = 1
 samples_of FlushMark = 0
 samples_of (EndMark kind) = 0
 
--- the sample that a shard is handed next
+-- the sample that a shard is given next
 abbrev pub sample_for : Shard → ℕ → ℕ → ℤ → ℕ → Labels → Placed
 sample_for s pos series t word l = record {
   place = record { epoch = s.core.epoch; shard = s.core.shard; seq = length s.put; pos = pos; series = series };
@@ -61,11 +61,12 @@ sample_for s pos series t word l = record {
 abbrev pub AreNamed : Core → List Placed → Type 0
 AreNamed c xs = All (λ (x : Placed). (x.place.epoch ≡ c.epoch) × (x.place.shard ≡ c.shard)) xs
 
--- the last of so many samples has the number before theirs
+-- the last of this many samples has the number before theirs
 abbrev pub IsCounted : List Placed → Type 0
 IsCounted xs = IfSome (last_of xs) (λ (y : Placed). y.place.seq + 1 ≡ length xs)
 
--- The core has taken what was taken out of the queue, and what was put is one row of this shard's samples.
+-- The core has taken what was taken out of the queue, and what was put is one sequence of this
+-- shard's samples.
 pub record IsShard (q : Queue) (c : Core) (count taken : ℕ) : Type 0 where
   pub not_closed : q.closed ≡ false
   pub not_killed : q.killed ≡ false

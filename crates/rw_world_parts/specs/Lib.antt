@@ -1,6 +1,5 @@
 pub mod Held
 pub mod Sending
-pub mod Reading
 pub mod Positions
 pub mod Answering
 pub mod Guards

@@ -5,7 +5,7 @@ use Rattle.rw_types.specs.declared.entry.Entry.TheVariants.{Def, Sample}
 use Rattle.rw_world_parts.specs.declared.log.Ahead.{Ahead}
 use Rattle.rw_world_parts.specs.declared.log.Ahead.TheVariants as ahead
 
--- what stands at a position of a log
+-- what is at a position of a log
 abbrev pub ahead_of : Option Entry → Ahead
 ahead_of None = ahead.Nothing
 ahead_of (Some (Def r l)) = ahead.Definition

@@ -1,4 +1,5 @@
--- The shards of an epoch and the names of the dropped samples: what the machine sees of them, and what holds of them.
+-- The shards of an epoch and the names of the dropped samples: what the machine sees of them, and
+-- what holds of them.
 use Rattle.std.specs.Prelude.{◌≡◌, ℤ, ℕ, zero, suc, ◌+◌, ◌<◌, ◌≤◌, Bool, true, false, nat_lt, nat_eq, if◌then◌else◌, List, [], ◌∷◌, ◌++◌, length, Option, Some, None, All, slice_get}
 use Rattle.std.specs.Ordering.{nat_cmp}
 use Rattle.std.specs.FinMap.{FinMap, get}
@@ -15,7 +16,7 @@ use Rattle.rw_machine.specs.Steps.{change, names_after}
 use Rattle.rw_machine.specs.Worlds.{Request}
 use Rattle.rw_world_parts.specs.Held.{Held, sent_by}
 
--- nothing at the position `next` or behind it was put or named
+-- nothing at the position `next` or after it was put or named
 pub record Sending : Type 0 where
   pub target : Target
   pub capacity : ℕ
@@ -31,7 +32,7 @@ new_held target capacity batch epoch i zero = []
 new_held target capacity batch epoch i (suc n) =
     record { capacity = capacity; shard = new_shard (new_core target epoch i batch) } ∷ new_held target capacity batch epoch (suc i) n
 
--- how often a number stands in a list
+-- how often a number is in a list
 abbrev pub times : ℕ → List ℕ → ℕ
 times p [] = 0
 times p (q ∷ qs) = (if nat_eq p q then 1 else 0) + times p qs
@@ -66,7 +67,8 @@ pub record IsShardAt (target : Target) (capacity batch epoch next i : ℕ) (h : 
   pub number : h.shard.core.shard ≡ i
   pub below : All (λ (x : Placed). x.place.pos < next) h.shard.put
 
--- What holds of the shards: each position waits in one place at most, and then it is not named; and there is room for the names of all open batches.
+-- What is true of the shards: each position waits in at most one place, and then it is not named;
+-- and there is room for the names of all open batches.
 pub record IsSending (target : Target) (capacity batch epoch : ℕ) (hs : List Held) (next : ℕ) (l : Named) : Type 0 where
   pub batch_some : 0 < batch
   pub batch_most : batch ≤ 10000
@@ -93,7 +95,7 @@ abbrev pub room_at : ℕ → Option Shard → Bool
 room_at capacity None = false
 room_at capacity (Some s) = has_room capacity s
 
--- the sample that this shard is handed next
+-- the sample that this shard is given next
 abbrev pub sample_at : Sending → ℕ → ℕ → ℕ → ℤ → ℕ → Labels → Shard → Placed
 sample_at v i pos series t word l s = record {
   place = record { epoch = v.epoch; shard = i; seq = length s.put; pos = pos; series = series };
@@ -102,7 +104,7 @@ sample_at v i pos series t word l s = record {
   labels = l;
 }
 
--- a sample is put into this shard's queue, where it takes one more
+-- a sample is put into this shard's queue, if it takes one more
 abbrev pub put_to : Sending → ℕ → ℕ → ℕ → ℤ → ℕ → Labels → Option Shard → Sending
 put_to v i pos series t word l None = v
 put_to v i pos series t word l (Some s) =

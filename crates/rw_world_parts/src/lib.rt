@@ -1,4 +1,5 @@
-//! What the program of the machine is made of: the log, the shards, what is sent and answered, and the receiver.
+//! The parts of the machine's program: the log, the shards, what is sent and answered, and the
+//! receiver.
 #![tactic(auto)]
 
 mod log;

@@ -1,10 +1,10 @@
-//! The log, as it was read so far.
+//! The log, as far as it was read.
 
 ghost use Rattle.std.specs.Prelude.{◌≡◌, ◌<◌, ◌+◌, ◌^◌, ◌++◌, ◌∷◌, [], Some, length, take, slice_get, IfOk, OnOk, OnErr};
 ghost use Rattle.rw_wal_format.specs.Laws.{Extends};
 ghost use Rattle.rw_wal_format.specs.Pieces.{entries, fault, reading, page_size};
 ghost use Rattle.rw_wal_tail.specs.Fed.{piece_of};
-ghost use Rattle.rw_world_parts.specs.Reading.{Drains, HasRead};
+ghost use Rattle.rw_wal_tail.specs.Taking.{HasTaken, HasTakenAll};
 ghost use Rattle.rw_world_parts.specs.Positions.{ahead_of};
 
 use rw_types::Entry;
@@ -25,16 +25,16 @@ pub struct Log {
 impl Model for Log {
     ghost use Rattle.std.specs.Prelude.{List};
     ghost use Rattle.rw_wal_format.specs.Pieces.{Piece};
-    ghost use Rattle.rw_world_parts.specs.Reading.{HasRead};
+    ghost use Rattle.rw_wal_tail.specs.Taking.{HasTakenAll};
 
     ghost Value = { List Piece };
 
     ghost view = { λ l. l.tail.pieces };
 
-    ghost invariant = { λ l. HasRead l.tail l.entries.items l.fault };
+    ghost invariant = { λ l. HasTakenAll l.tail l.entries.items l.fault };
 }
 
-/// What stands at a position of a log.
+/// What comes at a position of a log.
 #[derive(Clone, Copy)]
 pub enum Ahead {
     /// No entry: the log is not read that far, or ends there.
@@ -45,7 +45,7 @@ pub enum Ahead {
     Sample(u64, i64),
 }
 
-/// What an entry is.
+/// Returns what an entry is.
 fn ahead_of(entry: &Entry) -> Ahead
     ensures { result ≡ ahead_of (Some entry.now) }
 {
@@ -55,10 +55,10 @@ fn ahead_of(entry: &Entry) -> Ahead
     }
 }
 
-/// Takes all entries that there are, behind those that were taken, and answers the fault after them.
+/// Takes all entries that there are, after those that were taken, and returns the fault after them.
 fn drain(tail: &mut Tail, entries: &mut Vec<Entry>) -> Result<Option<TailFault>, AllocError>
-    requires { Drains tail.old entries.old.items }
-    ensures ok { IfOk result (λ f. HasRead tail.new entries.new.items f) }
+    requires { HasTaken tail.old entries.old.items }
+    ensures ok { IfOk result (λ f. HasTakenAll tail.new entries.new.items f) }
     ensures pieces { tail.new.pieces ≡ tail.old.pieces }
     ensures begins { take (length entries.old.items) entries.new.items ≡ entries.old.items }
 {
@@ -79,7 +79,7 @@ fn drain(tail: &mut Tail, entries: &mut Vec<Entry>) -> Result<Option<TailFault>,
 }
 
 impl Log {
-    /// A log of which no piece has come.
+    /// Returns a log of which no piece has come.
     pub fn new(alloc: Global) -> Log
         ensures { result ≡ [] }
     {
@@ -114,7 +114,7 @@ impl Log {
         }
     }
 
-    /// How many entries there are.
+    /// Returns how many entries there are.
     pub fn len(&self) -> u64
         ensures len { result ≡ length (entries self.now) }
         ensures small { result < 2 ^ 60 }
@@ -122,7 +122,7 @@ impl Log {
         self.tail.entries_read()
     }
 
-    /// The entry at a position.
+    /// Returns the entry at a position.
     pub fn entry(&self, pos: u64) -> Result<Option<Entry>, AllocError>
         ensures { IfOk result (λ e. e ≡ slice_get (entries self.now) pos) }
     {
@@ -132,7 +132,7 @@ impl Log {
         }
     }
 
-    /// What stands at a position.
+    /// Returns what comes at a position.
     pub fn ahead(&self, pos: u64) -> Ahead
         ensures { result ≡ ahead_of (slice_get (entries self.now) pos) }
     {
@@ -142,7 +142,7 @@ impl Log {
         }
     }
 
-    /// The fault at which reading ended, if it did.
+    /// Returns the fault at which reading ended, if it did.
     pub fn fault(&self) -> Option<TailFault>
         ensures { result ≡ fault self.now }
     {

@@ -1,4 +1,4 @@
-//! The receiver answers requests.
+//! The receiver's answers to requests.
 
 ghost use Rattle.std.specs.Prelude.{◌≡◌, IfOk, OnOk, OnErr};
 ghost use Rattle.rw_world_parts.specs.Answering.{IsSentTo, IsReplied, answer_within};
@@ -10,10 +10,10 @@ use rw_roundtrip::{exchange, requests_are_read};
 use rw_types::{HostName, RequestPath};
 use std::alloc::{AllocError, Global};
 
-/// No request is longer. Where one would be, memory is said to have run out.
+/// No request is longer. If one would be, the call reports that memory ran out.
 const MOST_BYTES: usize = 1 << 62;
 
-/// These limits, with another path.
+/// Returns these limits with another path.
 pub fn limits_at(alloc: Global, limits: Limits, path: &RequestPath) -> Result<Limits, AllocError>
     ensures { IfOk result (λ l. l ≡ record limits { path = path.now }) }
 {
@@ -30,7 +30,7 @@ pub fn limits_at(alloc: Global, limits: Limits, path: &RequestPath) -> Result<Li
     }
 }
 
-/// A copy of a host.
+/// Returns a copy of a host.
 pub fn copy_of(alloc: Global, host: &HostName) -> Result<HostName, AllocError>
     ensures { IfOk result (λ h. h ≡ host.now) }
 {
@@ -40,7 +40,7 @@ pub fn copy_of(alloc: Global, host: &HostName) -> Result<HostName, AllocError>
     }
 }
 
-/// What the receiver replies to a request.
+/// Returns what the receiver replies to a request.
 fn ask(
     alloc: Global,
     sent: &Sent,
@@ -62,7 +62,7 @@ fn ask(
     exchange(alloc, request, head, limits)
 }
 
-/// The receiver's answer to a request. Where memory runs out there is none.
+/// Returns the receiver's answer to a request, or an error if memory runs out.
 pub fn answer_to(
     alloc: Global,
     sent: &Sent,

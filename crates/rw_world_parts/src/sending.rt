@@ -33,7 +33,7 @@ pub struct Shards {
     batch: usize,
     epoch: u64,
     shards: Vec<WorldShard>,
-    /// Nothing at this position or behind it was put or named.
+    /// Nothing at this position or after it was put or named.
     next: u64,
     ledger: Ledger,
 }
@@ -63,10 +63,11 @@ impl Model for Shards {
         s.ledger };
 }
 
-/// No shard is put more samples. Where one would be, memory is said to have run out.
+/// The most samples that a shard is put. If there would be more, the call reports that memory ran
+/// out.
 const MOST_SAMPLES: u64 = 1 << 60;
 
-/// New shards of an epoch.
+/// Returns new shards of an epoch.
 fn new_shards(
     alloc: Global,
     target: &Target,
@@ -128,35 +129,35 @@ fn first_flushing(shards: &[WorldShard]) -> Option<usize>
 }
 
 impl Shards {
-    /// The first shard whose batch is open.
+    /// Returns the first shard whose batch is open.
     pub fn first_open(&self) -> Option<usize>
         ensures { result ≡ position is_open self.now.shards }
     {
         first_open(&self.shards)
     }
 
-    /// The first shard whose builder is due and has samples.
+    /// Returns the first shard whose builder is due and has samples.
     pub fn first_due(&self) -> Option<usize>
         ensures { result ≡ position is_ready self.now.shards }
     {
         first_due(&self.shards)
     }
 
-    /// The first shard that may take what stands in its queue.
+    /// Returns the first shard that may take what is in its queue.
     pub fn first_taking(&self) -> Option<usize>
         ensures { result ≡ position may_take self.now.shards }
     {
         first_taking(&self.shards)
     }
 
-    /// The first shard into whose queue a mark may be put.
+    /// Returns the first shard into whose queue a mark may be put.
     pub fn first_flushing(&self) -> Option<usize>
         ensures { result ≡ position (may_flush self.now.capacity) self.now.shards }
     {
         first_flushing(&self.shards)
     }
 
-    /// The id of this shard's open batch that waits for its reply.
+    /// Returns the id of this shard's open batch that waits for its reply.
     pub fn waiting_id(&self, i: usize) -> Option<BatchId>
         ensures { result ≡ waiting_id_at (slice_get self.now.shards i) }
     {
@@ -166,7 +167,7 @@ impl Shards {
         self.shards[i].waiting_id()
     }
 
-    /// A mark is put into this shard's queue, where one may be.
+    /// Puts a mark into this shard's queue, if one may be put.
     pub fn flush(&mut self, i: usize, kind: Option<Kind>)
         ensures { self.new
             ≡ record self.old {
@@ -180,7 +181,7 @@ impl Shards {
         self.shards[i].flush(kind);
     }
 
-    /// This shard takes the front of its queue.
+    /// Lets this shard take the front of its queue.
     pub fn take(&mut self, i: usize)
         ensures { self.new ≡ record self.old { shards = change i shard_take self.old.shards } }
     {
@@ -190,7 +191,7 @@ impl Shards {
         self.shards[i].take();
     }
 
-    /// This shard's builder becomes its open batch.
+    /// Makes this shard's builder its open batch.
     pub fn freeze(&mut self, i: usize) -> Result<(), AllocError>
         ensures ok { OnOk result
             (self.new ≡ record self.old { shards = change i shard_freeze self.old.shards }) }
@@ -203,7 +204,7 @@ impl Shards {
         Ok(())
     }
 
-    /// This shard gives up its attempt.
+    /// Lets this shard give up its attempt.
     pub fn lose(&mut self, i: usize)
         ensures { self.new ≡ record self.old { shards = change i shard_lost self.old.shards } }
     {
@@ -213,7 +214,7 @@ impl Shards {
         self.shards[i].lose();
     }
 
-    /// This shard sends its open batch, if it may.
+    /// Lets this shard send its open batch, if it may.
     pub fn send(&mut self, i: usize) -> Result<Option<Sent>, AllocError>
         ensures sent { IfOk result (λ r. r ≡ sent_at (slice_get self.old.shards i)) }
         ensures read { IfOk result
@@ -240,7 +241,7 @@ impl Shards {
         self.shards[i].reply(id, status, &mut self.ledger);
     }
 
-    /// Whether this shard's queue takes one more item.
+    /// Returns whether this shard's queue takes one more item.
     pub fn has_room(&self, i: usize) -> bool
         ensures { result ≡ room_at self.now.capacity (slice_get self.now.shards i) }
     {
@@ -250,7 +251,7 @@ impl Shards {
         self.shards[i].has_room()
     }
 
-    /// Puts a sample into this shard's queue, where it takes one more.
+    /// Puts a sample into this shard's queue, if it takes one more.
     pub fn put(
         &mut self,
         i: usize,
@@ -294,7 +295,7 @@ impl Shards {
         Ok(())
     }
 
-    /// How many shards there are.
+    /// Returns how many shards there are.
     pub fn len(&self) -> usize
         ensures len { result ≡ length self.now.shards }
         ensures some { 1 ≤ result }
@@ -302,14 +303,14 @@ impl Shards {
         self.shards.len()
     }
 
-    /// Whether all shards are drained.
+    /// Returns whether all shards are drained.
     pub fn are_drained(&self) -> bool
         ensures { result ≡ list_all is_drained self.now.shards }
     {
         all_drained(&self.shards)
     }
 
-    /// The positions of the samples that were put and are not resolved, in order.
+    /// Returns the positions of the samples that were put and are not resolved, in order.
     pub fn pending(&self) -> Result<Vec<u64>, AllocError>
         ensures found { IfOk result (λ v. (pos : ℕ)
             → list_any (λ p. p == pos) v.items
@@ -323,14 +324,14 @@ impl Shards {
         Ok(positions)
     }
 
-    /// The dropped samples.
+    /// Returns the dropped samples.
     pub fn ledger(&self) -> &Ledger
         ensures { result.now.names ≡ self.now.names }
     {
         &self.ledger
     }
 
-    /// The first shards.
+    /// Returns the first shards.
     pub fn new(
         alloc: Global,
         target: Target,
@@ -365,7 +366,7 @@ impl Shards {
         })
     }
 
-    /// The shards of the next epoch take over.
+    /// Lets the shards of the next epoch take over.
     pub fn restart(&mut self, shards: usize) -> Result<(), AllocError>
         requires some { 1 ≤ shards }
         requires most { shards ≤ 1000 }

@@ -44,7 +44,7 @@ impl Model for Answer {
 }
 
 impl Sent {
-    /// The batch of an attempt.
+    /// Returns the batch of an attempt.
     pub(crate) fn of(attempt: Attempt, samples: History<Item>) -> Sent
         ensures { result
             ≡ record { id = attempt.id; batch = samples_in samples; bytes = attempt.request } }
@@ -57,14 +57,14 @@ impl Sent {
         }
     }
 
-    /// The id of the batch.
+    /// Returns the id of the batch.
     pub fn id(&self) -> BatchId
         ensures { result ≡ self.now.id }
     {
         self.id
     }
 
-    /// The bytes of the request.
+    /// Returns the bytes of the request.
     pub fn request(&self) -> &[u8]
         ensures { result.now ≡ self.now.bytes }
     {
@@ -73,21 +73,21 @@ impl Sent {
 }
 
 impl Answer {
-    /// A reply to this batch.
+    /// Returns a reply to this batch.
     pub fn new(id: BatchId, status: StatusCode) -> Answer
         ensures { result ≡ record { id = id; status = status } }
     {
         Answer { id, status }
     }
 
-    /// The id of the batch.
+    /// Returns the id of the batch.
     pub fn id(&self) -> BatchId
         ensures { result ≡ self.now.id }
     {
         self.id
     }
 
-    /// The status of the reply.
+    /// Returns the status of the reply.
     pub fn status(&self) -> StatusCode
         ensures { result ≡ self.now.status }
     {

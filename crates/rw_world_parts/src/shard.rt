@@ -22,7 +22,7 @@ use std::alloc::{AllocError, Global};
 use std::marker::Model;
 use std::sync::Arc;
 
-/// A shard: its queue, and the core behind it.
+/// A shard: its queue, and the core that takes from it.
 #[derive(Drop)]
 pub(crate) struct WorldShard {
     queue: PlainQueue,
@@ -66,7 +66,7 @@ fn sample_item(place: Place, t: i64, word: Word, labels: Arc<LabelSet>) -> Item
     Item::Sample(place, t, word, labels)
 }
 
-/// How many samples an item is.
+/// Returns how many samples an item is.
 fn samples_of(item: &Item) -> u64
     ensures count { result ≡ samples_of (queued_of item.now) }
     ensures most { result ≤ 1 }
@@ -113,7 +113,7 @@ fn add_queued(queue: &PlainQueue, positions: &mut Vec<u64>) -> Result<(), AllocE
 }
 
 impl WorldShard {
-    /// A shard to which nothing was put.
+    /// Returns a shard to which nothing was put.
     pub(crate) fn new(
         alloc: Global,
         target: &Target,
@@ -141,14 +141,14 @@ impl WorldShard {
         })
     }
 
-    /// Whether the queue takes one more item.
+    /// Returns whether the queue takes one more item.
     pub(crate) fn has_room(&self) -> bool
         ensures { result ≡ has_room self.now.capacity self.now.shard }
     {
         self.queue.refusal().is_none()
     }
 
-    /// How many samples were put.
+    /// Returns how many samples were put.
     pub(crate) fn count(&self) -> u64
         ensures count { result ≡ length self.now.shard.put }
         ensures few { result ≤ 2 ^ 60 }
@@ -195,7 +195,8 @@ impl WorldShard {
         self.end_put = true;
     }
 
-    /// Puts a mark while the End was not put and there is room: the End of this kind, or else a Flush.
+    /// Puts a mark while the End was not put and there is room: the End of this kind, or else a
+    /// Flush.
     pub(crate) fn flush(&mut self, kind: Option<Kind>)
         ensures { self.new
             ≡ record self.old { shard = flushed self.old.capacity kind self.old.shard } }
@@ -209,7 +210,7 @@ impl WorldShard {
         }
     }
 
-    /// The core takes the front of the queue, where it may take something.
+    /// Takes the front of the queue into the core, if it may take something.
     pub(crate) fn take(&mut self)
         ensures { self.new ≡ record self.old { shard = shard_take self.old.shard } }
     {
@@ -223,7 +224,7 @@ impl WorldShard {
         self.core.take(item);
     }
 
-    /// The builder becomes the open batch, where none is open.
+    /// Makes the builder the open batch, if none is open.
     pub(crate) fn freeze(&mut self, ledger: &mut Ledger) -> Result<(), AllocError>
         ensures ok { OnOk result
             (self.new ≡ record self.old { shard = shard_freeze self.old.shard }) }
@@ -270,7 +271,7 @@ impl WorldShard {
         self.core.reply(id, status, ledger);
     }
 
-    /// Whether the End was taken, and each sample that was put is resolved.
+    /// Returns whether the End was taken, and each sample that was put is resolved.
     pub(crate) fn is_drained(&self) -> bool
         ensures { result ≡ is_drained self.now.shard }
     {
@@ -293,14 +294,14 @@ impl WorldShard {
         add_queued(&self.queue, positions)
     }
 
-    /// Whether a batch is open.
+    /// Returns whether a batch is open.
     pub(crate) fn is_open(&self) -> bool
         ensures { result ≡ is_open self.now.shard }
     {
         self.core.batch_id().is_some()
     }
 
-    /// Whether the builder is due and has samples.
+    /// Returns whether the builder is due and has samples.
     pub(crate) fn is_due(&self) -> bool
         ensures { result ≡ is_ready self.now.shard }
     {
@@ -314,7 +315,7 @@ impl WorldShard {
         !self.core.is_empty()
     }
 
-    /// Whether the core may take what stands in the queue.
+    /// Returns whether the core may take what is in the queue.
     pub(crate) fn may_take(&self) -> bool
         ensures { result ≡ may_take self.now.shard }
     {
@@ -324,7 +325,7 @@ impl WorldShard {
         self.queue.len() > 0
     }
 
-    /// Whether a mark may be put.
+    /// Returns whether a mark may be put.
     pub(crate) fn may_flush(&self) -> bool
         ensures { result ≡ may_flush self.now.capacity self.now.shard }
     {
@@ -334,7 +335,7 @@ impl WorldShard {
         self.has_room()
     }
 
-    /// The id of the open batch that waits for its reply.
+    /// Returns the id of the open batch that waits for its reply.
     pub(crate) fn waiting_id(&self) -> Option<BatchId>
         ensures { result ≡ waiting_id self.now.shard }
     {

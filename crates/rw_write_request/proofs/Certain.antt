@@ -1,4 +1,4 @@
--- Want of memory is no fault of bytes.
+-- Out of memory is not a fault of the bytes.
 use Rattle.std.proofs.Common.{◌≡◌, ◌≢◌, ◌⊎◌, ℕ, List, Result, Ok, Err, inl, inr}
 use Rattle.std.specs.Prelude.{IfErr}
 use Rattle.rw_codes.specs.declared.code_fault.CodeFault.{CodeFault}

@@ -73,7 +73,7 @@ Left-other kind rest next f ones twos fields e n1 n2 l =
     let two : length (contents 2 l.after) ≡ length (contents 2 h.others) = ap (λ (fs : List Field). length (contents 2 fs)) h.is ∙ passed 2 f h.others n2 in
     record { after = h.others; are = h.are; one = omega (arith, one, l.one); two = omega (arith, two, l.two) }
 
--- where no field is, none is left
+-- if no field is, none is left
 ended : (kind : Kind) (rest : List ℕ) (fault : WireFault) (after : List Field) → field_at kind rest ≡ Err fault → AreFieldsOf kind rest after → after ≡ []
 ended kind rest fault [] e are = refl
 ended kind rest fault (g ∷ gs) e are =

@@ -12,7 +12,7 @@ pub is_found : (bytes : List ℕ) (r : Result WriteRequest WireFault) → GivesO
 is_found bytes (Ok m) h = request-takes bytes m h
 is_found bytes (Err e) h = tt
 
--- a fault that is no want of memory is not there where the bytes are read
+-- a fault that is not out of memory is not there if the bytes are read
 is_memory : (e : WireFault) (m : WriteRequest) (total : Result WriteRequest WireFault) → total ≡ Ok m → (e ≢ OutOfMemory → total ≡ Err e) → e ≡ OutOfMemory
 is_memory OutOfMemory m total ok h = cc
 is_memory Truncated m total ok h = absurd (let bad = h (λ e. cc) in cc)

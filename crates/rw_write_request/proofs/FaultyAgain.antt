@@ -59,7 +59,7 @@ content_wire wire bytes e (inr (inr (inr h))) = inr h.0
 
 -- ---- the tag
 
--- behind the test of the number, a wire type that there is leads to the test of a known field
+-- after the test of the number, a wire type that there is leads to the test of a known field
 judged-known : (kind : Kind) (number wire : ℕ) → 0 < number → IsWire wire → judged kind number wire ≡ known_judged (known_wire kind number) wire
 unfolding judged
 judged-known kind number wire some (inl lt) =

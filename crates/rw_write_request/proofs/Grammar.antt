@@ -17,7 +17,7 @@ use Rattle.rw_write_request.proofs.Results.{bind_ok, bind-is, guard_ok, chosen, 
 use Rattle.rw_write_request.proofs.Loop.{field-shorter, more, done}
 use Rattle.rw_write_request.proofs.Varints.{Uvarint, uvarint-takes, uvarint-again}
 
--- ---- so many bytes
+-- ---- a number of bytes
 
 pub bytes-take : (n : ℕ) (bytes : List ℕ) (x : List ℕ × List ℕ) → bytes_at n bytes ≡ Ok x → (bytes ≡ x.0 ++ x.1) × (length x.0 ≡ n)
 bytes-take n bytes x e =

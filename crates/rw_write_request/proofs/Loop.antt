@@ -76,7 +76,7 @@ field_again most other kind step so_far bytes (Ok f) h le1 le2 again =
     let l2 : length f.1 ≤ other = omega arith in
     step_again most other kind step f.1 (step so_far f.0) (λ n. again n f.1 l1 l2)
 
--- the bound on the number of fields does not matter where it is at least the number of bytes
+-- the bound on the number of fields does not matter if it is at least the number of bytes
 pub enough : {X : Type 0} (most other : ℕ) (kind : Kind) (step : X → Field → Result X WireFault) (so_far : X) (bytes : List ℕ) → length bytes ≤ most → length bytes ≤ other → fields_in most kind step so_far bytes ≡ fields_in other kind step so_far bytes
 unfolding fields_in
 enough zero zero kind step so_far bytes le1 le2 = refl

@@ -356,7 +356,7 @@ request-again bytes m h =
 pub same_message : (bytes : List ℕ) (one other : WriteRequest) → Spells bytes one → Spells bytes other → one ≡ other
 same_message bytes one other h k = ok_is one other (sym (request-again bytes one h) ∙ request-again bytes other k)
 
--- what was read of a series stays, and samples come behind it
+-- what was read of a series stays, and samples come after it
 pub samples-longer : (bytes : List ℕ) (before whole : TimeSeries) → series_on before bytes ≡ Ok whole → (more : List Sample) × (whole.samples ≡ before.samples ++ more)
 samples-longer bytes before whole e =
     let t = read-takes kinds.TimeSeries series_step before bytes whole e in

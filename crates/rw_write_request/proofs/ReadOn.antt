@@ -1,4 +1,4 @@
--- A message part by part, and a series behind its head.
+-- A message part by part, and a series after its head.
 use Rattle.std.proofs.Common.{◌≡◌, ◌≢◌, ℕ, ◌<◌, ◌≤◌, true, false, eqb, List, [], ◌∷◌, ◌++◌, length, Result, Ok, Err, refl, sym, ap, ◌∙◌, append_assoc, append-nil, length-append, inl, inr, eq-eqb, arith}
 use Rattle.std.specs.Prelude.{IfOk}
 use Rattle.std.proofs.lemmas.Bool.{ne_eqb}
@@ -104,7 +104,7 @@ behind_head head tail labels e =
     let t = read-takes kinds.TimeSeries series_step none head s e in
     reads_on kinds.TimeSeries series_step none s head tail t.fields t.spelled t.wires t.folded
 
--- a series that is read goes on behind each of its fields
+-- a series that is read goes on after each of its fields
 pub goes_further : (s : TimeSeries) (f : Field) (bytes after : List ℕ) (whole : TimeSeries) → 0 < length bytes → field_at kinds.TimeSeries bytes ≡ Ok (f, after) → series_on s bytes ≡ Ok whole
     → (next : TimeSeries) × (series_step s f ≡ Ok next) × (series_on next after ≡ Ok whole)
 goes_further s f bytes after whole lt at is = bind_ok (series_step s f) (λ next. series_on next after) whole (sym (more kinds.TimeSeries series_step s bytes f after lt at) ∙ is)

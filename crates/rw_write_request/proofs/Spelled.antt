@@ -281,7 +281,7 @@ sample-field-parts s =
 pub sample-field-length : (s : Sample) → length (sample_field s) ≤ 22
 sample-field-length s = subst (λ (w : List ℕ). length w ≤ 22) (sym (sample-field-parts s)) (omega (arith, sample-length s))
 
--- ---- a timestamp is passed on as the 64 bits that it has
+-- ---- a timestamp is kept as the 64 bits that it has
 
 pub same-sample : (w : ℕ) (t : ℤ) → FitsSigned w64 t → sample (w, cast_signed w64 (cast_unsigned w64 t)) ≡ sample (w, t)
 same-sample w t fits = ap (λ (z : ℤ). sample (w, z)) (to_z-of_z w64 t fits)

@@ -1,5 +1,5 @@
--- The canonical spelling of a message: fields in number order, repeated ones in list order, the shortest
--- varints, and neither a scalar whose bits are all zero nor an empty string.
+-- The canonical spelling of a message: fields in number order, repeated ones in list order, the
+-- shortest varints, and neither a scalar whose bits are all zero nor an empty string.
 use Rattle.std.specs.Prelude.{ℕ, ◌+◌, ◌==◌, if◌then◌else◌, ℤ, List, [], ◌++◌, length}
 use Rattle.std.specs.Int.{w64, to_le_bytes, cast_unsigned}
 use Rattle.std.specs.List.{flat_map}
@@ -38,6 +38,6 @@ series_field s = bytes_field 1 (series s)
 abbrev pub canon : WriteRequest → List ℕ
 canon m = flat_map series_field m
 
--- what stands before the sample fields of a series whose sample fields take n bytes
+-- what comes before the sample fields of a series whose sample fields take n bytes
 unfoldable pub series_head : Labels → ℕ → List ℕ
 series_head ls n = tag 1 2 ++ uvarint (length (label_fields ls) + n) ++ label_fields ls

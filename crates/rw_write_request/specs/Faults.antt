@@ -1,5 +1,5 @@
--- The first fault of a message (Protocol Buffers encoding): what stands before it are whole and sound fields, and the
--- fault is that of the field there.
+-- The first fault of a message (Protocol Buffers encoding): the fields before it are whole and
+-- sound, and it is the fault of the field there.
 use Rattle.std.specs.Prelude.{◌≡◌, ◌≢◌, ◌⊎◌, ℕ, ◌+◌, ◌*◌, ◌<◌, List, [], ◌++◌, length, Option, Some, IfSome, Err, IsUtf8}
 use Rattle.std.specs.List.{AllByRecursion}
 use Rattle.rw_codes.specs.Varint.{read_uvarint}
@@ -12,7 +12,7 @@ use Rattle.rw_write_request.specs.Fields.{Content, Bytes, Field, IsUvarint, IsFi
 use Rattle.rw_write_request.specs.Spells.{AreFieldsOf, IsText, SpellsLabel, SpellsSample, SpellsSeries}
 use Rattle.rw_write_request.specs.Read.{varint_fault}
 
--- no varint stands at the front
+-- no varint is at the front
 abbrev pub VarintFault : List ℕ → WireFault → Type 0
 VarintFault bytes e = (f : CodeFault) × (read_uvarint bytes ≡ Err f) × (e ≡ varint_fault f)
 
@@ -20,7 +20,7 @@ VarintFault bytes e = (f : CodeFault) × (read_uvarint bytes ≡ Err f) × (e �
 abbrev pub TooFew : ℕ → List ℕ → WireFault → Type 0
 TooFew n bytes e = (length bytes < n) × (e ≡ Truncated)
 
--- a length, and fewer bytes behind it
+-- a length, and fewer bytes after it
 pub record LengthFault (bytes : List ℕ) (e : WireFault) : Type 0 where
   pub len : List ℕ
   pub rest : List ℕ
@@ -29,7 +29,7 @@ pub record LengthFault (bytes : List ℕ) (e : WireFault) : Type 0 where
   pub is_len : IsUvarint len n
   pub few : TooFew n rest e
 
--- what a field of this wire type holds is not all there
+-- what a field of this wire type holds is not complete
 abbrev pub ContentFault : ℕ → List ℕ → WireFault → Type 0
 ContentFault wire bytes e =
     ((wire ≡ 0) × VarintFault bytes e)
@@ -37,7 +37,7 @@ ContentFault wire bytes e =
     ⊎ (((wire ≡ 2) × (VarintFault bytes e ⊎ LengthFault bytes e))
     ⊎ ((wire ≡ 5) × TooFew 4 bytes e)))
 
--- a wire type that there is
+-- a wire type that exists
 abbrev pub IsWire : ℕ → Type 0
 IsWire wire = (wire < 3) ⊎ (wire ≡ 5)
 
@@ -45,7 +45,8 @@ IsWire wire = (wire < 3) ⊎ (wire ≡ 5)
 abbrev pub IsMisfit : Option ℕ → ℕ → Type 0
 IsMisfit known wire = (w : ℕ) × (known ≡ Some w) × (wire ≢ w)
 
--- a tag that no field has: its number is 0, or else there is no such wire type, or else a known field has another one
+-- a tag that no field has: its number is 0, or otherwise there is no such wire type, or otherwise a
+-- known field has another one
 abbrev pub TagFault : Kind → ℕ → ℕ → WireFault → Type 0
 TagFault kind number wire e =
     ((number ≡ 0) × (e ≡ FieldZero))
@@ -56,7 +57,7 @@ TagFault kind number wire e =
 abbrev pub IsTag : Kind → ℕ → ℕ → Type 0
 IsTag kind number wire = (0 < number) × IfSome (known_wire kind number) (λ w. wire ≡ w)
 
--- behind a tag: it may not stand there, or what it announces is not all there
+-- after a tag: it is not allowed there, or what it announces is not complete
 pub record TaggedFault (kind : Kind) (bytes : List ℕ) (e : WireFault) : Type 0 where
   pub tag : List ℕ
   pub rest : List ℕ
@@ -67,11 +68,11 @@ pub record TaggedFault (kind : Kind) (bytes : List ℕ) (e : WireFault) : Type 0
   pub is_tag : IsUvarint tag (number * 8 + wire)
   pub fault : TagFault kind number wire e ⊎ (IsTag kind number wire × ContentFault wire rest e)
 
--- no field stands at the front
+-- no field is at the front
 abbrev pub FieldFault : Kind → List ℕ → WireFault → Type 0
 FieldFault kind bytes e = VarintFault bytes e ⊎ TaggedFault kind bytes e
 
--- a whole field stands at the front, which has a fault inside
+-- a whole field is at the front, which has a fault inside
 pub record InnerFault (Inner : Field → WireFault → Type 0) (kind : Kind) (bytes : List ℕ) (e : WireFault) : Type 0 where
   pub front : List ℕ
   pub rest : List ℕ

@@ -1,5 +1,5 @@
--- Reading a message from left to right, with the first fault that is met. A nested message is read before what
--- follows it.
+-- Reading a message from left to right, with the first fault that is met. A nested message is read
+-- before what follows it.
 use Rattle.std.specs.Prelude.{◌≡◌, ◌≢◌, ℕ, zero, suc, ◌/◌, ◌%◌, nat_lt, ◌==◌, if◌then◌else◌, ℤ, pos, List, [], ◌∷◌, ◌++◌, length, take, drop, Option, Some, None, Result, Ok, Err}
 use Rattle.std.specs.Int.{w32, w64, from_le_bytes, cast_signed}
 use Rattle.std.specs.Str.{is_utf8}
@@ -24,12 +24,12 @@ abbrev pub GivesOrMemory : {X Y : Type 0} → (X → Y) → Result X WireFault �
 GivesOrMemory view (Ok x) read = read ≡ Ok (view x)
 GivesOrMemory view (Err e) read = e ≢ OutOfMemory → read ≡ Err e
 
--- What a function that judges bytes returned says of reading them: they are read, or this is the fault.
+-- What a function that judges bytes says about reading them: they are read, or this is the fault.
 abbrev pub Judges : {X : Type 0} → Result (Unit {0}) WireFault → Result X WireFault → Type 0
 Judges {X} (Ok u) read = (x : X) × (read ≡ Ok x)
 Judges {X} (Err e) read = read ≡ Err e
 
--- what a varint that can't be read says of its message
+-- what a varint that cannot be read says about its message
 abbrev pub varint_fault : CodeFault → WireFault
 varint_fault Short = Truncated
 varint_fault TooBig = VarintTooBig
@@ -42,7 +42,7 @@ in_message (Err e) = Err (varint_fault e)
 abbrev pub uvarint_at : List ℕ → Result (ℕ × List ℕ) WireFault
 uvarint_at bytes = in_message (read_uvarint bytes)
 
--- so many bytes
+-- this many bytes
 abbrev pub bytes_at : ℕ → List ℕ → Result (List ℕ × List ℕ) WireFault
 bytes_at n bytes = if nat_lt (length bytes) n then Err Truncated else Ok (take n bytes, drop n bytes)
 
@@ -75,8 +75,8 @@ field_at kind bytes = do
   content ← content_at wire tag.1
   Ok (record { number = tag.0 / 8; content = content.0 }, content.1)
 
--- Field after field until the bytes end: each step adds a field to what was read so far. There are at most
--- as many fields as bytes.
+-- Field after field until the bytes end: each step adds a field to what was read so far. There are
+-- at most as many fields as bytes.
 unfoldable pub fields_in : {X : Type 0} → ℕ → Kind → (X → Field → Result X WireFault) → X → List ℕ → Result X WireFault
 fields_in most kind step so_far [] = Ok so_far
 fields_in zero kind step so_far (b ∷ bytes) = Err Truncated

@@ -1,5 +1,5 @@
--- What a message's bytes mean (Protocol Buffers encoding): fields in any order, unknown ones skipped, the last
--- of a scalar or string counts, and one that is absent is zero or empty.
+-- What a message's bytes mean (Protocol Buffers encoding): fields in any order, unknown ones
+-- skipped, the last of a scalar or string counts, and one that is absent is zero or empty.
 use Rattle.std.specs.Prelude.{◌≡◌, ℕ, List, [], ◌∷◌, IsUtf8}
 use Rattle.std.specs.Int.{w64, cast_signed}
 use Rattle.std.specs.List.{AllByRecursion}
@@ -14,7 +14,7 @@ pub record AreFieldsOf (kind : Kind) (bytes : List ℕ) (fields : List Field) : 
   pub spelled : AreFields bytes fields
   pub wires : AllByRecursion (HasKnownWire kind) fields
 
--- the last of them, or what stands for none
+-- the last of them, or the value for an absent field
 abbrev pub last_or : {X : Type 0} → X → List X → X
 last_or none [] = none
 last_or none (x ∷ xs) = last_or x xs

@@ -1,4 +1,4 @@
--- Series of the program, without where they lie in memory.
+-- Series of the program, without their places in memory.
 use Rattle.std.specs.Prelude.{List, map, String}
 use Rattle.std.specs.Global.{Global}
 use Rattle.rw_types.specs.Labels.{text_label}

@@ -1,4 +1,5 @@
--- What can be spelled: strings are UTF-8, words and timestamps have 64 bits, and so has the whole length.
+-- What can be spelled: strings are UTF-8, words and timestamps have 64 bits, and so has the whole
+-- length.
 use Rattle.std.specs.Prelude.{◌^◌, ◌<◌, length, IsUtf8, FitsSigned}
 use Rattle.std.specs.Int.{w64}
 use Rattle.std.specs.List.{AllByRecursion}

@@ -12,7 +12,7 @@ use std::fmt;
 /// Why bytes are not a message: the first fault in reading order.
 #[derive(Clone, Copy, Debug, PartialEq, Eq)]
 pub enum WireFault {
-    /// Memory ran out. Nothing is said of the bytes.
+    /// Memory ran out. This says nothing about the bytes.
     OutOfMemory = 0,
     /// A varint, a length-delimited field or a fixed-size number passes the end of its message.
     Truncated = 1,

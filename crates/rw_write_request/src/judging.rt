@@ -1,4 +1,4 @@
-//! Messages, judged where they stand: no memory is taken.
+//! Judges whether bytes are a message, and takes no memory.
 
 ghost use Rattle.std.specs.Prelude.{◌≡◌, ◌≢◌, Ok, Err, OnOk, IfErr};
 ghost use Rattle.rw_write_request.specs.Message.{TimeSeries, WriteRequest};
@@ -24,7 +24,7 @@ fn check_label(held: WireValue<'_>) -> Result<(), WireFault>
     }
 }
 
-/// Judges a field of a series, whatever stands before it.
+/// Judges a field of a series, whatever comes before it.
 #[tactic(auto, unfolding(crate::specs::Read::series_step))]
 fn check_series_part(part: Part<'_>) -> Result<(), WireFault>
     ensures { (series : TimeSeries) → Judges result (series_step series (field_view part.entry)) }
@@ -51,13 +51,13 @@ fn check_series(bytes: &[u8]) -> Result<(), WireFault>
     Ok(())
 }
 
-/// Judges bytes as `decode` does, and makes no message of them. This takes no memory.
+/// Judges bytes as `decode` does, without making the message. This takes no memory.
 pub fn check_message(bytes: &[u8]) -> Result<(), WireFault>
-    // They spell a message.
+    // The bytes spell a message.
     ensures found { OnOk result ((m : WriteRequest) × (read bytes.now ≡ Ok m)) }
     // The fault is the first one in reading order.
     ensures fault { IfErr result (λ e. read bytes.now ≡ Err e) }
-    // Memory is none of the faults.
+    // The fault is never out of memory.
     ensures certain { IfErr result (λ e. e ≢ OutOfMemory) }
 {
     let mut rest = bytes;

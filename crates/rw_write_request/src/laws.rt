@@ -11,7 +11,7 @@ ghost use Rattle.rw_write_request.specs.declared.fault.WireFault.{WireFault};
 ghost use Rattle.rw_write_request.specs.Valid.{IsMessage};
 ghost use Rattle.rw_write_request.specs.Canon.{canon, sample_field, sample_fields, series_field, series_head};
 
-/// Law: bytes are read as a message exactly where they spell it.
+/// Law: bytes are read as a message exactly if they spell it.
 pub fn reads_spellings()
     ensures { (bytes : List ℕ) (message : WriteRequest)
         → (read bytes ≡ Ok message) ↔ Spells bytes message }
@@ -23,7 +23,8 @@ pub fn one_message()
         → one ≡ other }
 {}
 
-/// Law: bytes are refused exactly by their first fault: before it stand whole and sound fields, and it is the fault of the field there.
+/// Law: bytes are refused exactly by their first fault: the fields before it are whole and sound,
+/// and it is the fault of the field there.
 pub fn faults_are_first()
     ensures { (bytes : List ℕ) (fault : WireFault)
         → (read bytes ≡ Err fault) ↔ RequestFault bytes fault }
@@ -39,7 +40,8 @@ pub fn canonical_is_read()
     ensures { (message : WriteRequest) → IsMessage message → read (canon message) ≡ Ok message }
 {}
 
-/// Law: the field of a series is its head, which needs the length of the sample fields, and then the sample fields.
+/// Law: the field of a series is its head, which depends on the length of the sample fields, and
+/// then the sample fields.
 pub fn series_in_parts()
     ensures { (labels : List Label) (samples : List Sample)
         → series_field (record { labels = labels; samples = samples })

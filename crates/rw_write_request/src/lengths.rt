@@ -49,8 +49,8 @@ pub(crate) fn parts_len(labels: &[(String, String)], samples: &[(Word, i64)]) ->
     labels.checked_add(samples)
 }
 
-/// The length of what stands before the sample fields of a series with these labels, where these fields take `len` bytes; `None` where both
-/// together do not fit 64 bits.
+/// Returns the length of what comes before the sample fields of a series with these labels, if
+/// these fields take `len` bytes, or `None` if both together do not fit 64 bits.
 #[tactic(auto, unfolding(crate::specs::Canon::series_head))]
 pub fn series_head_len(labels: &LabelSet, len: usize) -> Option<usize>
     ensures some { IfSome result (λ n. n ≡ length (series_head labels.now len)) }
@@ -61,7 +61,8 @@ pub fn series_head_len(labels: &LabelSet, len: usize) -> Option<usize>
     fields.checked_add(1 + uvarint_len(inner as u64))
 }
 
-/// The length of the field of a series with these labels and samples, in the canonical spelling; `None` where it does not fit 64 bits.
+/// Returns the length of the field of a series with these labels and samples, in the canonical
+/// spelling, or `None` if it does not fit 64 bits.
 #[tactic(auto, unfolding(crate::specs::Canon::series_field))]
 pub fn series_field_len(labels: &[(String, String)], samples: &[(Word, i64)]) -> Option<usize>
     ensures some { IfSome result
@@ -94,7 +95,8 @@ fn all_series_len(list: &[Series]) -> Option<usize>
     Some(total)
 }
 
-/// How many bytes `encode` writes for the message; `None` where the number does not fit 64 bits.
+/// Returns how many bytes `encode` writes for the message, or `None` if the number does not fit 64
+/// bits.
 pub fn encoded_len(message: &Message) -> Option<usize>
     ensures some { IfSome result (λ n. n ≡ length (canon message.now)) }
     ensures none { IfNone result (2 ^ 64 ≤ length (canon message.now)) }

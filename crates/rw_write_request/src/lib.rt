@@ -1,5 +1,6 @@
-//! Messages of Remote-Write 1.0 in the wire format of Protocol Buffers ("Encoding"). Timestamps are milliseconds since the Unix epoch, and values
-//! are the 64 bits of doubles, which are not interpreted.
+//! Messages of Remote-Write 1.0 in the wire format of Protocol Buffers ("Encoding"). Timestamps are
+//! milliseconds since the Unix epoch, and values are the 64 bits of doubles, which are not
+//! interpreted.
 #![tactic(auto)]
 
 mod fault;

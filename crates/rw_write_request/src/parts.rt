@@ -1,4 +1,5 @@
-//! Messages, read part by part: their series one after the other, and the samples of a series whose labels are known by its first bytes.
+//! Reads messages part by part: their series one after the other, and the samples of a series whose
+//! labels are known by its first bytes.
 
 ghost use Rattle.std.specs.Prelude.{◌≡◌, ◌≢◌, ℕ, ◌<◌, ◌≤◌, ◌+◌, ◌++◌, List, None, Ok, Err, false, length, IfOk, IfErr, IfSome, OnOk};
 ghost use Rattle.rw_types.specs.Labels.{Labels};
@@ -21,13 +22,14 @@ const MOST_SAMPLES: usize = 4096;
 /// How many fields of a series are read at a time.
 const MOST_FIELDS: usize = 4096;
 
-/// The field at the front of a message's bytes: the bytes of its series, where it is one, and the bytes behind it.
+/// Returns the first field of a message's bytes: the bytes of its series, if it is one, and the
+/// bytes after it.
 pub fn message_part(bytes: &[u8]) -> Result<(Option<&[u8]>, &[u8]), WireFault>
     requires { 0 < length bytes.now }
     // A series is read, and then the rest.
     ensures series { IfOk result (λ x. IfSome x.0 (λ s. (m : WriteRequest)
         → read_on m bytes.now ≡ with_series m (read_series s.now) x.1.now)) }
-    // Any other field is passed over.
+    // Any other field is skipped.
     ensures other { IfOk result
         (λ x. x.0 ≡ None → (m : WriteRequest) → read_on m bytes.now ≡ read_on m x.1.now) }
     ensures fault { IfErr result (λ e. (m : WriteRequest) → read_on m bytes.now ≡ Err e) }
@@ -43,7 +45,7 @@ pub fn message_part(bytes: &[u8]) -> Result<(Option<&[u8]>, &[u8]), WireFault>
     }
 }
 
-/// How many labels a series has, where the bytes are one. This takes no memory.
+/// Returns how many labels a series has, if the bytes are a series. This takes no memory.
 pub fn label_count(bytes: &[u8]) -> usize
     ensures { IfOk (read_series bytes.now) (λ s. result ≡ length s.labels) }
 {
@@ -51,7 +53,7 @@ pub fn label_count(bytes: &[u8]) -> usize
     labels
 }
 
-/// The bytes of a series before its first sample, or before a fault.
+/// Returns the bytes of a series before its first sample, or before a fault.
 pub fn head_of(bytes: &[u8]) -> &[u8]
     ensures { (rest : List ℕ) × (bytes.now ≡ result.now ++ rest) }
 {
@@ -66,7 +68,7 @@ pub fn head_of(bytes: &[u8]) -> &[u8]
     head
 }
 
-/// Adds the sample of a field that is no label, if it is one.
+/// Adds the sample of a field if it holds one; the field is not a label.
 #[tactic(auto, unfolding(crate::specs::Read::series_step))]
 fn add_sample(samples: &mut Vec<(Word, i64)>, part: Part<'_>) -> Result<(), WireFault>
     requires { part.number ≢ 1 }
@@ -83,12 +85,13 @@ fn add_sample(samples: &mut Vec<(Word, i64)>, part: Part<'_>) -> Result<(), Wire
     Ok(())
 }
 
-/// Overwrites `samples` with those of a series, from the bytes behind a head of it. It is not done, and the answer is false, where a label stands
-/// there or a field follows 4,096 samples.
+/// Overwrites `samples` with those of a series, from the bytes after its head. The answer is
+/// `false` if a label comes there or a field follows 4,096 samples; the caller then has to read it
+/// another way.
 pub fn read_samples(samples: &mut Vec<(Word, i64)>, bytes: &[u8]) -> Result<bool, WireFault>
     ensures given { (head : List ℕ) (labels : Labels) → IsHeadOf head labels
         → SamplesGive result labels samples.new.items (read_series (head ++ bytes.now)) }
-    // Where no label stands there, fewer than 4,096 samples are not too many.
+    // If no label comes there, a series of fewer than 4,096 samples is read.
     ensures enough { (head : List ℕ) (whole : TimeSeries) → IsHeadOf head whole.labels
         → read_series (head ++ bytes.now) ≡ Ok whole → length whole.samples < 4096
         → result ≢ Ok false }
@@ -107,7 +110,7 @@ pub fn read_samples(samples: &mut Vec<(Word, i64)>, bytes: &[u8]) -> Result<bool
     Ok(true)
 }
 
-/// Adds the label of a field, if it is one. A sample is judged alone.
+/// Adds the label of a field if it holds one. A sample is only judged.
 #[tactic(auto, unfolding(crate::specs::Read::series_step))]
 fn add_label(
     alloc: Global,
@@ -133,7 +136,8 @@ fn add_label(
     Ok(())
 }
 
-/// The labels of the series that the bytes spell, or the first fault in reading order. Its samples are judged too, and take no memory.
+/// Returns the labels of the series that the bytes spell, or the first fault in reading order. Its
+/// samples are judged too, and take no memory.
 pub fn read_labels(alloc: Global, bytes: &[u8]) -> Result<Vec<(String, String)>, WireFault>
     ensures found { IfOk result (λ labels. (samples : List Sample)
         × (read_series bytes.now ≡ Ok (series_of labels.items samples))) }
@@ -149,7 +153,7 @@ pub fn read_labels(alloc: Global, bytes: &[u8]) -> Result<Vec<(String, String)>,
     Ok(labels)
 }
 
-/// Adds the sample of a field of a series that is sound, if it is one.
+/// Adds the sample of a field of a sound series if it holds one.
 #[tactic(auto, unfolding(crate::specs::Read::series_step))]
 fn add_next(samples: &mut Vec<(Word, i64)>, part: Part<'_>) -> Result<(), WireFault>
     ensures found { OnOk result ((labels : Labels) (before : List Sample) (next : TimeSeries)
@@ -166,8 +170,8 @@ fn add_next(samples: &mut Vec<(Word, i64)>, part: Part<'_>) -> Result<(), WireFa
     Ok(())
 }
 
-/// Overwrites `samples` with the next ones of a series, those of at most 4,096 fields, and gives the bytes behind them. Labels are passed over: where
-/// they are no labels, nothing is said of what is read.
+/// Overwrites `samples` with the next ones of a series, those of at most 4,096 fields, and returns
+/// the bytes after them. Labels are skipped without a check.
 pub fn next_samples<'a>(
     samples: &mut Vec<(Word, i64)>,
     bytes: &'a [u8],

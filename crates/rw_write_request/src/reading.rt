@@ -35,7 +35,7 @@ pub struct Part<'a> {
     pub held: WireValue<'a>,
 }
 
-/// The varint at the front, and the bytes after it.
+/// Returns the varint at the front, and the bytes after it.
 #[tactic(auto, unfolding(crate::specs::Read::in_message))]
 fn uvarint_at(bytes: &[u8]) -> Result<(u64, &[u8]), WireFault>
     ensures { Gives (λ x. (x.0, x.1.now)) result (uvarint_at bytes.now) }
@@ -120,7 +120,7 @@ pub(crate) fn field_at(kind: Kind, bytes: &[u8]) -> Result<(Part<'_>, &[u8]), Wi
     Ok((Part { number, held }, rest))
 }
 
-/// How many fields have the number 1, and how many the number 2, before the first fault.
+/// Returns how many fields have the number 1, and how many the number 2, before the first fault.
 pub(crate) fn field_counts(kind: Kind, bytes: &[u8]) -> (usize, usize)
     ensures { (fields : List Field) → AreFieldsOf kind bytes.now fields
         → (result.0 ≡ length (contents 1 fields)) × (result.1 ≡ length (contents 2 fields)) }
@@ -139,7 +139,8 @@ pub(crate) fn field_counts(kind: Kind, bytes: &[u8]) -> (usize, usize)
     (ones, twos)
 }
 
-/// Room for `count` items, each of which stands in some of the bytes, and for no more than there are bytes.
+/// Reserves room for `count` items, each of which is in some of the bytes, and for at most as many
+/// as there are bytes.
 fn room_for<T>(alloc: Global, count: usize, bytes: &[u8]) -> Result<Vec<T>, AllocError>
     ensures items { IfOk result (λ v. v.items ≡ []) }
     ensures room { IfOk result (λ v. vec_capacity v ≤ length bytes.now) }
@@ -178,7 +179,7 @@ fn set_label<'a>(label: (&'a str, &'a str), part: Part<'a>) -> Result<(&'a str, 
     }
 }
 
-/// The last name and the last value that the bytes of a label have.
+/// Returns the last name and the last value that the bytes of a label have.
 pub(crate) fn label_texts(bytes: &[u8]) -> Result<(&str, &str), WireFault>
     ensures { Gives (λ x. (x.0.now, x.1.now)) result (read_label bytes.now) }
 {
@@ -298,7 +299,8 @@ fn add_to_series(
     Ok(())
 }
 
-/// The series that the bytes spell, or the first fault in reading order. Where memory runs out nothing is kept.
+/// Returns the series that the bytes spell, or the first fault in reading order. If memory runs
+/// out, nothing is kept.
 pub fn read_series(alloc: Global, bytes: &[u8]) -> Result<Series, WireFault>
     ensures { GivesOrMemory (λ s. s) result (read_series bytes.now) }
 {
@@ -350,8 +352,9 @@ fn read_message(alloc: Global, bytes: &[u8]) -> Result<Message, WireFault>
     Ok(Message { series })
 }
 
-/// The message that the bytes spell. Fields may come in any order, and unknown ones are passed over; of a scalar or a string the last one counts,
-/// and one that is absent is zero or empty. Where memory runs out nothing is kept.
+/// Returns the message that the bytes spell. Fields may come in any order, and unknown ones are
+/// skipped; of a scalar or a string the last one counts, and one that is absent is zero or empty.
+/// If memory runs out, nothing is kept.
 pub fn decode(alloc: Global, bytes: &[u8]) -> Result<Message, WireFault>
     // What is read is spelled so.
     ensures found { IfOk result (λ m. Spells bytes.now m) }
@@ -360,7 +363,7 @@ pub fn decode(alloc: Global, bytes: &[u8]) -> Result<Message, WireFault>
         → MatchResult result (λ n. n ≡ m) (λ e. e ≡ OutOfMemory) }
     // Any other fault is the first one in reading order.
     ensures fault { IfErr result (λ e. e ≢ OutOfMemory → read bytes.now ≡ Err e) }
-    // Memory runs out only where a message is spelled.
+    // Memory runs out only if a message is spelled.
     ensures memory { IfErr result
         (λ e. e ≡ OutOfMemory → (m : WriteRequest) × (read bytes.now ≡ Ok m)) }
 {

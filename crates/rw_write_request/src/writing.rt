@@ -1,4 +1,4 @@
-//! The canonical spelling of messages, written into room that was made before.
+//! Writes the canonical spelling of messages, into room that was made before.
 
 ghost use Rattle.std.specs.Prelude.{◌≡◌, ◌≤◌, ◌<◌, ◌+◌, ◌^◌, ◌++◌, length, IfOk};
 ghost use Rattle.std.specs.Vec.{vec_len, vec_capacity};
@@ -42,7 +42,8 @@ fn put_timestamp(out: &mut Vec<u8>, timestamp: i64)
     }
 }
 
-/// Appends the field of a sample in its series, at most 22 bytes, to a vector that has room for it. This takes no memory.
+/// Appends the field of a sample in its series, at most 22 bytes, to a vector that has room for it.
+/// This takes no memory.
 #[tactic(auto, unfolding(crate::specs::Canon::sample_field, crate::specs::Canon::sample))]
 pub fn put_sample_field(out: &mut Vec<u8>, word: Word, timestamp: i64)
     requires room { vec_len out.old + length (sample_field (word, timestamp))
@@ -56,7 +57,8 @@ pub fn put_sample_field(out: &mut Vec<u8>, word: Word, timestamp: i64)
     put_timestamp(out, timestamp);
 }
 
-/// Appends the tag and the length of a series whose label and sample fields take `len` bytes in all, to a vector that has room for them. This takes no memory.
+/// Appends the tag and the length of a series whose label and sample fields take `len` bytes in
+/// all, to a vector that has room for them. This takes no memory.
 pub fn put_series_front(out: &mut Vec<u8>, len: usize)
     requires room { vec_len out.old + 1 + length (uvarint len) ≤ vec_capacity out.old }
     ensures items { out.new.items ≡ out.old.items ++ tag 1 2 ++ uvarint len }
@@ -65,8 +67,8 @@ pub fn put_series_front(out: &mut Vec<u8>, len: usize)
     put_field_front(out, 1, len);
 }
 
-/// Appends what stands before the sample fields of a series with these labels, where these fields take `len` bytes, to a vector that has room for
-/// it. This takes no memory.
+/// Appends what comes before the sample fields of a series with these labels, if these fields take
+/// `len` bytes, to a vector that has room for it. This takes no memory.
 #[tactic(auto, unfolding(crate::specs::Canon::series_head))]
 pub fn put_series_head(out: &mut Vec<u8>, labels: &LabelSet, len: usize)
     requires fits { length (series_head labels.now len) + len < 2 ^ 64 }
@@ -91,7 +93,8 @@ fn put_sample_fields(out: &mut Vec<u8>, samples: &[(Word, i64)])
     }
 }
 
-/// Appends the field of a series with these labels and samples to a vector that has room for it. This takes no memory.
+/// Appends the field of a series with these labels and samples to a vector that has room for it.
+/// This takes no memory.
 #[tactic(auto, unfolding(crate::specs::Canon::series_field, crate::specs::Canon::series))]
 pub fn put_series(out: &mut Vec<u8>, labels: &[(String, String)], samples: &[(Word, i64)])
     requires room { vec_len out.old + length (series_field (series_of labels.now samples.now))
@@ -127,9 +130,10 @@ fn put_all_series(out: &mut Vec<u8>, list: &[Series])
     }
 }
 
-/// The canonical spelling of a message: fields in the order of their numbers, the shortest varints, and neither scalars whose bits are all zero
-/// nor empty strings. It stands in one buffer of exactly its length; an `Err` is for that buffer alone, or for a length that does not fit 64
-/// bits.
+/// Returns the canonical spelling of a message: fields in the order of their numbers, the shortest
+/// varints, and neither scalars whose bits are all zero nor empty strings. It is in one buffer of
+/// exactly its length. An `Err` means that this buffer could not be allocated, or that the length
+/// does not fit 64 bits.
 pub fn encode(alloc: Global, message: &Message) -> Result<Vec<u8>, AllocError>
     ensures canonical { IfOk result (λ v. v.items ≡ canon message.now) }
     // A reader finds the message again.

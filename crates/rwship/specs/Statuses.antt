@@ -1,4 +1,4 @@
--- The exit status of the program where there are no settings, and where a log was followed.
+-- The exit status of the program if the settings cannot be read, and if following a log ended.
 use Rattle.std.specs.Prelude.{ℕ}
 use Rattle.rw_send.specs.declared.follow_fault.FollowFault.{FollowFault}
 use Rattle.rw_send.specs.declared.follow_fault.FollowFault.TheVariants as Follow
@@ -12,7 +12,7 @@ unset_status (Tool f) = exit_status f
 unset_status (Unreadable said) = 4
 unset_status (Settings f notes) = 2
 
--- that of the fault, and 4 where a segment is missing or a stop was asked for at once
+-- that of the fault, and 4 if a segment is missing or a stop was asked for at once
 abbrev pub follow_status : FollowFault → ℕ
 follow_status (Follow.Tool f) = exit_status f
 follow_status (Follow.Missing n) = 4

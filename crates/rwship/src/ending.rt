@@ -1,4 +1,4 @@
-//! How the program ends: what it says of a fault, and its exit status.
+//! How the program ends: what it prints of a fault, and its exit status.
 
 ghost use Rattle.std.specs.Prelude.{◌≡◌, MatchResult};
 ghost use Rattle.std.specs.Process as process;
@@ -15,11 +15,14 @@ use rw_words::bad_address;
 use std::io::{Error, IsTerminal};
 use std::process::ExitCode;
 
-/// The exit status for words and settings that the program does not take.
-const BAD_WORDS: u8 = 2;
+/// The exit status for arguments and settings that are not valid.
+const BAD_ARGUMENTS: u8 = 2;
 
-/// The exit status for dropped samples, where they are a fault.
+/// The exit status for dropped samples, if they are a fault.
 const DROPPED: u8 = 1;
+
+/// The exit status for skipped records that may hold samples, if they are a fault.
+const SKIPPED: u8 = 1;
 
 /// The exit status for a folder without a segment, if that is a fault.
 const EMPTY: u8 = 1;
@@ -27,11 +30,11 @@ const EMPTY: u8 = 1;
 /// The exit status for positions that have no entry.
 const NOT_THERE: u8 = 1;
 
-/// The exit status for work that something outside has ended.
+/// The exit status for work that was ended from outside.
 const CUT_OFF: u8 = 4;
 
-/// Writes the one line of a fault to standard error, and gives its exit status.
-pub fn ended(rt: &HostRuntime, outcome: Result<(), ToolFault>) -> ExitCode
+/// Writes the one line of a fault to standard error, and returns its exit status.
+pub fn report_result(rt: &HostRuntime, outcome: Result<(), ToolFault>) -> ExitCode
     ensures { MatchResult outcome (λ _. process.exit_status result
         ≡ 0) (λ fault. process.exit_status result ≡ exit_status fault) }
 {
@@ -44,12 +47,12 @@ pub fn ended(rt: &HostRuntime, outcome: Result<(), ToolFault>) -> ExitCode
     }
 }
 
-/// Says why a log was followed no further, and gives the exit status.
-pub fn followed(rt: &HostRuntime, fault: FollowFault) -> ExitCode
+/// Reports why following a log ended, and returns the exit status.
+pub fn report_follow_fault(rt: &HostRuntime, fault: FollowFault) -> ExitCode
     ensures { process.exit_status result ≡ follow_status fault }
 {
     match fault {
-        FollowFault::Tool(fault) => ended(rt, Err(fault)),
+        FollowFault::Tool(fault) => report_result(rt, Err(fault)),
         FollowFault::Missing(number) => {
             let _ = eprintln!(rt; "rwship: segment {number} is missing");
             ExitCode::from(CUT_OFF)
@@ -61,43 +64,51 @@ pub fn followed(rt: &HostRuntime, fault: FollowFault) -> ExitCode
     }
 }
 
-/// Says how many samples were dropped, where that is a fault.
-pub fn dropped(rt: &HostRuntime, count: u64) -> ExitCode
+/// Reports how many samples were dropped, if that is a fault.
+pub fn report_dropped(rt: &HostRuntime, count: u64) -> ExitCode
     ensures { process.exit_status result ≡ 1 }
 {
     let _ = eprintln!(rt; "rwship: samples dropped: {count}");
     ExitCode::from(DROPPED)
 }
 
+/// Reports how many records were skipped that may hold samples, if that is a fault.
+pub fn report_skipped(rt: &HostRuntime, count: u64) -> ExitCode
+    ensures { process.exit_status result ≡ 1 }
+{
+    let _ = eprintln!(rt; "rwship: records skipped that may hold samples: {count}");
+    ExitCode::from(SKIPPED)
+}
+
 /// Returns the exit status for a folder without a segment, if that is a fault.
-pub fn empty() -> ExitCode
+pub fn empty_status() -> ExitCode
     ensures { process.exit_status result ≡ 1 }
 {
     ExitCode::from(EMPTY)
 }
 
-/// Says how many positions have no entry.
-pub fn missing(rt: &HostRuntime, count: u64) -> ExitCode
+/// Reports how many positions have no entry.
+pub fn report_missing(rt: &HostRuntime, count: u64) -> ExitCode
     ensures { process.exit_status result ≡ 1 }
 {
     let _ = eprintln!(rt; "rwship: positions without an entry: {count}");
     ExitCode::from(NOT_THERE)
 }
 
-/// On a terminal, says that `--explain` tells more.
+/// On a terminal, writes that `--explain` says more.
 pub fn point_to_explain(rt: &HostRuntime) {
     if rt.stderr().is_terminal() {
         let _ = eprintln!(rt; "  run again with --explain for details");
     }
 }
 
-/// Tells what could not be done with what, and what the system said.
-pub fn tell_device(rt: &HostRuntime, action: &str, name: &str, error: &Error) {
+/// Prints what could not be done with what, and the error of the system.
+pub fn print_device_error(rt: &HostRuntime, action: &str, name: &str, error: &Error) {
     let _ = eprintln!(rt; "  cannot {action} {name}: {error}");
 }
 
 /// Writes a line for each note on settings to standard error.
-fn tell(rt: &HostRuntime, notes: &[SettingsNote]) {
+fn print_notes(rt: &HostRuntime, notes: &[SettingsNote]) {
     for note in notes {
         let place = note.place.as_str();
         let text = note.text.as_str();
@@ -105,23 +116,24 @@ fn tell(rt: &HostRuntime, notes: &[SettingsNote]) {
     }
 }
 
-/// Says that settings cannot be read, and what is wrong with them where that is asked for, and gives the exit status.
-pub fn unset(rt: &HostRuntime, fault: Unset) -> ExitCode
+/// Reports that settings cannot be read and, if that is asked for, what is wrong with them. Returns
+/// the exit status.
+pub fn report_settings_fault(rt: &HostRuntime, fault: Unset) -> ExitCode
     ensures { process.exit_status result ≡ unset_status fault }
 {
     match fault {
-        Unset::Tool(fault) => ended(rt, Err(fault)),
+        Unset::Tool(fault) => report_result(rt, Err(fault)),
         Unset::Settings(fault, notes) => {
             let number = fault.number();
             let _ = eprintln!(rt; "rwship: settings fault {number}");
             if notes.is_empty() {
                 point_to_explain(rt);
             }
-            tell(rt, notes.as_slice());
-            ExitCode::from(BAD_WORDS)
+            print_notes(rt, notes.as_slice());
+            ExitCode::from(BAD_ARGUMENTS)
         }
         Unset::Unreadable(said) => {
-            let status = ended(rt, Err(ToolFault::Device));
+            let status = report_result(rt, Err(ToolFault::Device));
             if said.is_empty() {
                 point_to_explain(rt);
             } else {
@@ -132,32 +144,33 @@ pub fn unset(rt: &HostRuntime, fault: Unset) -> ExitCode
     }
 }
 
-/// The text of the command-line parser: help and version on standard output with status 0, and else what is wrong with the words.
-pub fn unparsed(rt: &HostRuntime, error: clap::Error) -> ExitCode {
+/// Prints the text of the command-line parser: help and version on standard output with status 0,
+/// and otherwise what is wrong with the arguments.
+pub fn report_parse_error(rt: &HostRuntime, error: clap::Error) -> ExitCode {
     if error.kind() == ErrorKind::OutOfMemory {
-        return ended(rt, Err(ToolFault::OutOfMemory));
+        return report_result(rt, Err(ToolFault::OutOfMemory));
     }
     match error.print(rt) {
-        Err(_) if !error.use_stderr() => ended(rt, Err(ToolFault::Device)),
-        _ if error.use_stderr() => ExitCode::from(BAD_WORDS),
+        Err(_) if !error.use_stderr() => report_result(rt, Err(ToolFault::Device)),
+        _ if error.use_stderr() => ExitCode::from(BAD_ARGUMENTS),
         _ => ExitCode::SUCCESS,
     }
 }
 
-/// Says what is wrong with the words.
-pub fn bad_words(rt: &HostRuntime, text: &str) -> ExitCode
+/// Prints what is wrong with the arguments.
+pub fn report_bad_arguments(rt: &HostRuntime, text: &str) -> ExitCode
     ensures { process.exit_status result ≡ 2 }
 {
     let _ = eprintln!(rt; "{text}");
-    ExitCode::from(BAD_WORDS)
+    ExitCode::from(BAD_ARGUMENTS)
 }
 
-/// Says which HOST:PORT is none, in the form of the command-line parser.
-pub fn no_address(rt: &HostRuntime, words: &ArgMatches<'_>) -> ExitCode {
+/// Reports which HOST:PORT is not valid, in the form of the command-line parser.
+pub fn report_bad_address(rt: &HostRuntime, words: &ArgMatches<'_>) -> ExitCode {
     if let Some((option, value)) = bad_address(words) {
         let _ = eprintln!(rt;
             "error: invalid value '{value}' for '--{option} <HOST:PORT>': a host, a colon and a port from 1 to 65535\n"
         );
     }
-    bad_words(rt, "For more information, try '--help'.")
+    report_bad_arguments(rt, "For more information, try '--help'.")
 }

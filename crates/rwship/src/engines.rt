@@ -1,7 +1,7 @@
 //! The commands that read standard input, or a folder, and write what they make of it.
 
-use crate::ending::{ended, unset};
-use crate::explaining::explained;
+use crate::ending::{report_result, report_settings_fault};
+use crate::explaining::report_input_result;
 use crate::input::{Form, Input, Reader};
 use crate::inspecting::{log_fault, note_checkpoint, print_plan};
 use crate::settings::settings_in;
@@ -19,9 +19,9 @@ pub fn body(rt: &HostRuntime, hex: bool, is_explained: bool) -> ExitCode {
         Ok(input) => {
             let mut output = Std::new(rt.stdout());
             let outcome = run_body(rt.alloc(), &mut input.reader(rt), &mut output, hex);
-            explained(rt, &input, outcome)
+            report_input_result(rt, &input, outcome)
         }
-        Err(fault) => ended(rt, Err(fault)),
+        Err(fault) => report_result(rt, Err(fault)),
     }
 }
 
@@ -43,8 +43,8 @@ fn log_from(
     }
 }
 
-/// Writes the log that standard input describes. If that is asked for, prints what is wrong with a
-/// bad line.
+/// Writes the log that standard input describes. If `--explain` was given, prints what is wrong
+/// with a bad line.
 pub fn log(
     rt: &HostRuntime,
     hex: bool,
@@ -55,9 +55,9 @@ pub fn log(
     match Input::open(rt, Form::LogText, is_explained) {
         Ok(input) => {
             let outcome = log_from(rt, &mut input.reader(rt), hex, pages, dir);
-            explained(rt, &input, outcome)
+            report_input_result(rt, &input, outcome)
         }
-        Err(fault) => ended(rt, Err(fault)),
+        Err(fault) => report_result(rt, Err(fault)),
     }
 }
 
@@ -84,9 +84,9 @@ fn plan_segment(rt: &HostRuntime, settings: Settings, hex: bool, is_explained: b
             let mut reader = input.reader(rt);
             let mut output = Std::new(rt.stdout());
             let outcome = run_plan(rt.alloc(), &mut reader, &mut output, settings, hex);
-            explained(rt, &input, outcome)
+            report_input_result(rt, &input, outcome)
         }
-        Err(fault) => ended(rt, Err(fault)),
+        Err(fault) => report_result(rt, Err(fault)),
     }
 }
 
@@ -102,7 +102,7 @@ pub fn plan(
             Some(dir) => plan_folder(rt, dir, settings, file.is_explained),
             None => plan_segment(rt, settings, hex, file.is_explained),
         },
-        Err(fault) => unset(rt, fault),
+        Err(fault) => report_settings_fault(rt, fault),
     }
 }
 
@@ -113,9 +113,9 @@ fn play(rt: &HostRuntime, settings: Settings, is_explained: bool) -> ExitCode {
             let mut reader = input.reader(rt);
             let mut output = Std::new(rt.stdout());
             let outcome = run_replay(rt.alloc(), &mut reader, &mut output, settings);
-            explained(rt, &input, outcome)
+            report_input_result(rt, &input, outcome)
         }
-        Err(fault) => ended(rt, Err(fault)),
+        Err(fault) => report_result(rt, Err(fault)),
     }
 }
 
@@ -123,6 +123,6 @@ fn play(rt: &HostRuntime, settings: Settings, is_explained: bool) -> ExitCode {
 pub fn replay(rt: &HostRuntime, file: SettingsFile<'_>) -> ExitCode {
     match settings_in(rt, file) {
         Ok(settings) => play(rt, settings, file.is_explained),
-        Err(fault) => unset(rt, fault),
+        Err(fault) => report_settings_fault(rt, fault),
     }
 }

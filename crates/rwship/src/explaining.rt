@@ -1,29 +1,34 @@
-//! What `--explain` prints of an input that has a fault, after the one line.
+//! What `--explain` prints about an input that has a fault, after the one line.
 
-use crate::ending::{ended, point_to_explain};
+use crate::ending::{point_to_explain, report_result};
 use crate::input::{Form, Input, Reader};
-use crate::inspecting::{inspect_segment, tell_report};
+use crate::inspecting::{inspect_segment, print_damage_report};
 use rw_replay::{log_line_note, numbered_line, script_line_note, shown_line};
 use rw_text::ToolFault;
 use std::alloc::AllocError;
 use std::process::ExitCode;
 
-/// What is said of a line of digits.
+/// The note on a line that is not made of digits.
 const NO_DIGITS: &str =
     "a character is no hexadecimal digit and no white space, or a digit lacks its other half";
 
-/// What is said of a line of a script that is an event.
+/// The note on a line of a script that is an event.
 const MIXED: &str =
     "a script lets its log grow by 'log' lines or by 'feed' and 'segment' lines, and not by both";
 
 /// Prints where a segment is damaged.
-fn tell_segment(rt: &HostRuntime, segment: &[u8]) -> Result<(), ToolFault> {
+fn print_segment_damage(rt: &HostRuntime, segment: &[u8]) -> Result<(), ToolFault> {
     let report = inspect_segment(rt, Reader::Held(segment))?;
-    Ok(tell_report(rt, &report)?)
+    Ok(print_damage_report(rt, &report)?)
 }
 
 /// Prints a line, and what is wrong with it.
-fn tell_line(rt: &HostRuntime, number: u64, line: &[u8], note: &str) -> Result<(), AllocError> {
+fn print_line_note(
+    rt: &HostRuntime,
+    number: u64,
+    line: &[u8],
+    note: &str,
+) -> Result<(), AllocError> {
     let shown = shown_line(rt.alloc(), line)?;
     let _ = eprintln!(rt; "  line {number}: {shown}");
     let _ = eprintln!(rt; "  {note}");
@@ -40,7 +45,7 @@ fn note_of(rt: &HostRuntime, form: Form, line: &[u8]) -> Result<&'static str, Al
 }
 
 /// Prints where an input has this fault, and what is wrong there.
-fn tell_input(
+fn print_input_fault(
     rt: &HostRuntime,
     form: Form,
     text: &[u8],
@@ -48,12 +53,12 @@ fn tell_input(
 ) -> Result<(), ToolFault> {
     match fault {
         ToolFault::Log(_) => match form {
-            Form::Digits => tell_segment(rt, &rw_text::read_hex(rt.alloc(), text)?),
-            _ => tell_segment(rt, text),
+            Form::Digits => print_segment_damage(rt, &rw_text::read_hex(rt.alloc(), text)?),
+            _ => print_segment_damage(rt, text),
         },
         ToolFault::Line(number) => {
             if let Some(line) = numbered_line(text, number) {
-                tell_line(rt, number, line, note_of(rt, form, line)?)?;
+                print_line_note(rt, number, line, note_of(rt, form, line)?)?;
             }
             Ok(())
         }
@@ -61,16 +66,20 @@ fn tell_input(
     }
 }
 
-/// Ends as `ended` does after a run over an input. If the input was held, prints what is wrong with
-/// it.
-pub fn explained(rt: &HostRuntime, input: &Input, outcome: Result<(), ToolFault>) -> ExitCode {
+/// Ends as `report_result` does after a run over an input. If the input was held, prints what is
+/// wrong with it.
+pub fn report_input_result(
+    rt: &HostRuntime,
+    input: &Input,
+    outcome: Result<(), ToolFault>,
+) -> ExitCode {
     match outcome {
-        Ok(()) => ended(rt, Ok(())),
+        Ok(()) => report_result(rt, Ok(())),
         Err(fault) => {
-            let status = ended(rt, Err(fault));
+            let status = report_result(rt, Err(fault));
             match (&input.text, fault) {
                 (Some(text), _) => {
-                    let _ = tell_input(rt, input.form, text, fault);
+                    let _ = print_input_fault(rt, input.form, text, fault);
                 }
                 (None, ToolFault::Log(_) | ToolFault::Line(_)) => point_to_explain(rt),
                 _ => {}

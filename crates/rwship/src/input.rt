@@ -25,12 +25,12 @@ impl Form {
 #[derive(Drop)]
 pub struct Input {
     pub form: Form,
-    /// None if it is read as it comes.
+    /// `None` if it is read as it comes.
     pub text: Option<Vec<u8>>,
 }
 
 impl Input {
-    /// Reads standard input whole if `is_held` says so, and else nothing of it yet.
+    /// Reads standard input whole if `is_held` says so, and otherwise nothing of it yet.
     pub fn open(rt: &HostRuntime, form: Form, is_held: bool) -> Result<Input, ToolFault> {
         if !is_held {
             return Ok(Input { form, text: None });

@@ -1,8 +1,10 @@
-//! The command `inspect`, and what other commands print of a log that they could not read.
+//! The command `inspect`, and what other commands print about a log that they could not read.
 
-use crate::ending::{followed, point_to_explain, tell_device};
+use crate::ending::{point_to_explain, print_device_error, report_follow_fault};
 use crate::input::Reader;
-use rw_inspect::{Damage, Named, Report, find_entries, inspect, json_of, plan_segments, table_of};
+use rw_inspect::{
+    Damage, Named, Report, SkippedRecords, find_entries, inspect, json_of, plan_segments, table_of,
+};
 use rw_log_folder::{LogFiles, Opened, SegmentFile, has_checkpoint, log_files, segment_files};
 use rw_metrics::SendCounters;
 use rw_send::FollowFault;
@@ -16,7 +18,7 @@ use std::path::Path;
 use std::process::ExitCode;
 use std::sync::Arc;
 
-/// Returns the files of the log in a folder, of which the counters are told.
+/// Returns the files of the log in a folder, which the counters count.
 pub fn files_of(
     rt: &HostRuntime,
     dir: LogDir<'_>,
@@ -31,12 +33,12 @@ pub fn files_of(
     })
 }
 
-/// Whether a folder has a checkpoint that is passed over.
+/// Returns whether a folder has a checkpoint that is skipped.
 pub fn passes_checkpoint_over(rt: &HostRuntime, dir: LogDir<'_>) -> bool {
     !dir.from_checkpoint && has_checkpoint(rt, dir.path)
 }
 
-/// Reports that a checkpoint is passed over, if one is.
+/// Reports that a checkpoint is skipped, if one is.
 pub fn note_checkpoint(rt: &HostRuntime, dir: LogDir<'_>) {
     if passes_checkpoint_over(rt, dir) {
         let _ = eprintln!(rt;
@@ -74,7 +76,7 @@ fn inspect_folder(rt: &HostRuntime, dir: LogDir<'_>) -> Result<Report, FollowFau
     }
 }
 
-/// Reads a segment that is no file.
+/// Reads a segment that is not a file.
 pub fn inspect_segment(rt: &HostRuntime, source: Reader<'_>) -> Result<Report, ToolFault> {
     let name = String::from_str(rt.alloc(), "-")?;
     let mut one = Vec::with_capacity(rt.alloc(), 1)?;
@@ -95,6 +97,22 @@ fn print_text(rt: &HostRuntime, text: &[u8]) -> Result<(), ToolFault> {
     Ok(write_all(&mut Std::new(rt.stdout()), text)?)
 }
 
+/// Prints the records that were passed over, a line for each type.
+fn print_skipped(rt: &HostRuntime, report: &Report, json: bool) -> Result<(), ToolFault> {
+    for SkippedRecords { kind, count } in &report.skipped {
+        let name = kind.name();
+        let line = if json {
+            format!(in rt.alloc();
+                "{{\"type\":\"skipped\",\"records\":\"{name}\",\"count\":{count}}}\n"
+            )?
+        } else {
+            format!(in rt.alloc(); "skipped {name} {count}\n")?
+        };
+        print_text(rt, line.as_bytes())?;
+    }
+    Ok(())
+}
+
 /// Prints a report, and returns the fault of its log.
 fn print_report(rt: &HostRuntime, report: &Report, json: bool) -> Result<(), ToolFault> {
     let text = if json {
@@ -103,6 +121,7 @@ fn print_report(rt: &HostRuntime, report: &Report, json: bool) -> Result<(), Too
         table_of(rt.alloc(), report)?
     };
     print_text(rt, &text)?;
+    print_skipped(rt, report, json)?;
     fault_of(report.damage)
 }
 
@@ -152,8 +171,8 @@ pub fn print_found(
     Ok(found.missing)
 }
 
-/// Prints what a table says of a fault, at its end.
-fn tell_table_end(rt: &HostRuntime, table: &str) {
+/// Prints the end of a table that describes a fault.
+fn print_table_end(rt: &HostRuntime, table: &str) {
     let mut has_begun = false;
     for line in table.lines() {
         has_begun = has_begun || line.starts_with("fault: ");
@@ -164,63 +183,63 @@ fn tell_table_end(rt: &HostRuntime, table: &str) {
 }
 
 /// Prints the fault of a log with this report.
-pub fn tell_report(rt: &HostRuntime, report: &Report) -> Result<(), AllocError> {
+pub fn print_damage_report(rt: &HostRuntime, report: &Report) -> Result<(), AllocError> {
     let table = table_of(rt.alloc(), report)?;
     if let Ok(table) = str::from_utf8(&table) {
-        tell_table_end(rt, table);
+        print_table_end(rt, table);
     }
     Ok(())
 }
 
 /// Prints the fault of the log in a folder, which is read once more for that.
-fn tell_damage(rt: &HostRuntime, dir: LogDir<'_>) {
+fn print_damage(rt: &HostRuntime, dir: LogDir<'_>) {
     if let Ok(report) = inspect_folder(rt, dir) {
-        let _ = tell_report(rt, &report);
+        let _ = print_damage_report(rt, &report);
     }
 }
 
-/// Prints which segment cannot be opened, the first one.
-fn tell_first_closed(rt: &HostRuntime, dir: LogDir<'_>) -> Result<(), AllocError> {
+/// Prints the first segment that cannot be opened.
+fn print_first_closed(rt: &HostRuntime, dir: LogDir<'_>) -> Result<(), AllocError> {
     for segment in files_of(rt, dir, None)?.files {
         let path = Path::new(dir.path).join(rt.alloc(), segment.place().name())?;
         if let Err(error) = fs::open(rt, path.as_path()) {
-            tell_device(rt, "read", path.as_path().as_str(), &error);
+            print_device_error(rt, "read", path.as_path().as_str(), &error);
             return Ok(());
         }
     }
     Ok(())
 }
 
-/// Prints what cannot be read of a folder, which is tried once more for that.
-fn tell_unreadable(rt: &HostRuntime, dir: LogDir<'_>) {
+/// Prints what in a folder cannot be read; this is found by a second try.
+fn print_unreadable(rt: &HostRuntime, dir: LogDir<'_>) {
     match fs::read_dir(rt, dir.path) {
         Ok(_) => {
-            let _ = tell_first_closed(rt, dir);
+            let _ = print_first_closed(rt, dir);
         }
-        Err(error) => tell_device(rt, "read", dir.path, &error),
+        Err(error) => print_device_error(rt, "read", dir.path, &error),
     }
 }
 
-/// Prints what is wrong with the log in a folder that could not be shipped for this fault.
-fn tell_log(rt: &HostRuntime, dir: LogDir<'_>, fault: ToolFault) {
+/// Prints what is wrong with the log in a folder that could not be shipped because of this fault.
+fn print_log_fault(rt: &HostRuntime, dir: LogDir<'_>, fault: ToolFault) {
     match fault {
-        ToolFault::Log(_) => tell_damage(rt, dir),
-        ToolFault::Device => tell_unreadable(rt, dir),
+        ToolFault::Log(_) => print_damage(rt, dir),
+        ToolFault::Device => print_unreadable(rt, dir),
         _ => {}
     }
 }
 
-/// Prints the fault of the log in a folder and, if that is asked for, what is wrong with the folder.
-/// Returns the exit status.
+/// Prints the fault of the log in a folder and, if that is asked for, what is wrong with the
+/// folder. Returns the exit status.
 pub fn log_fault(
     rt: &HostRuntime,
     dir: LogDir<'_>,
     fault: FollowFault,
     is_explained: bool,
 ) -> ExitCode {
-    let status = followed(rt, fault);
+    let status = report_follow_fault(rt, fault);
     match fault {
-        FollowFault::Tool(fault) if is_explained => tell_log(rt, dir, fault),
+        FollowFault::Tool(fault) if is_explained => print_log_fault(rt, dir, fault),
         FollowFault::Tool(ToolFault::Log(_) | ToolFault::Device) => point_to_explain(rt),
         _ => {}
     }

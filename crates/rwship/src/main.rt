@@ -10,10 +10,13 @@ mod receiving;
 mod reporting;
 mod sending;
 mod settings;
-mod sign;
+mod stopping;
 
 use clap::ArgMatches;
-use ending::{bad_words, ended, followed, missing, no_address, unparsed, unset};
+use ending::{
+    report_bad_address, report_bad_arguments, report_follow_fault, report_missing,
+    report_parse_error, report_result, report_settings_fault,
+};
 use engines::{body, log, plan, replay};
 use inspecting::{log_fault, print_found, print_inspected};
 use receiving::receive;
@@ -22,7 +25,7 @@ use rw_text::ToolFault;
 use rw_types::{Std, write_all};
 use rw_words::{LogDir, SettingsFile, Task, command_line, positions_of, task_of};
 use sending::send;
-use settings::printed_settings;
+use settings::settings_text;
 use std::env;
 use std::io::ErrorKind;
 use std::process::ExitCode;
@@ -33,12 +36,12 @@ use std::time::Clock;
 /// Prints settings, each key with its value.
 fn print_settings(rt: &HostRuntime, settings: SettingsFile<'_>) -> ExitCode {
     let mut output = Std::new(rt.stdout());
-    match printed_settings(rt, settings) {
+    match settings_text(rt, settings) {
         Ok(text) => {
             let outcome = write_all(&mut output, text.as_bytes());
-            ended(rt, outcome.map_err(ToolFault::from))
+            report_result(rt, outcome.map_err(ToolFault::from))
         }
-        Err(fault) => unset(rt, fault),
+        Err(fault) => report_settings_fault(rt, fault),
     }
 }
 
@@ -47,7 +50,7 @@ fn inspect(rt: &HostRuntime, dir: Option<LogDir<'_>>, json: bool, is_explained: 
     match (print_inspected(rt, dir, json), dir) {
         (Ok(()), _) => ExitCode::SUCCESS,
         (Err(fault), Some(dir)) => log_fault(rt, dir, fault, is_explained),
-        (Err(fault), None) => followed(rt, fault),
+        (Err(fault), None) => report_follow_fault(rt, fault),
     }
 }
 
@@ -65,12 +68,12 @@ fn find_positions(
 fn find(rt: &HostRuntime, dir: LogDir<'_>, words: &ArgMatches<'_>, is_explained: bool) -> ExitCode {
     match find_positions(rt, dir, words) {
         Ok(0) => ExitCode::SUCCESS,
-        Ok(count) => missing(rt, count),
+        Ok(count) => report_missing(rt, count),
         Err(fault) => log_fault(rt, dir, fault, is_explained),
     }
 }
 
-/// Does what the words ask for.
+/// Does what the arguments ask for.
 fn perform<R: Threads + Wait + Clock + Copy + Send + Sync + 'static>(
     rt: &HostRuntime,
     threads: &R,
@@ -110,7 +113,7 @@ fn perform_matches<R: Threads + Wait + Clock + Copy + Send + Sync + 'static>(
 ) -> ExitCode {
     match task_of(matches) {
         Some(task) => perform(rt, threads, &task, matches),
-        None => no_address(rt, matches),
+        None => report_bad_address(rt, matches),
     }
 }
 
@@ -122,7 +125,7 @@ fn perform_words<R: Threads + Wait + Clock + Copy + Send + Sync + 'static>(
 ) -> Result<ExitCode, ToolFault> {
     match command_line(rt.alloc())?.try_get_matches_from(words) {
         Ok(matches) => Ok(perform_matches(rt, threads, &matches)),
-        Err(error) => Ok(unparsed(rt, error)),
+        Err(error) => Ok(report_parse_error(rt, error)),
     }
 }
 
@@ -137,7 +140,7 @@ fn run<R: Threads + Wait + Clock + Copy + Send + Sync + 'static>(
             perform_words(rt, threads, words.as_slice())
         }
         Err(error) if error.kind() == ErrorKind::OutOfMemory => Err(ToolFault::OutOfMemory),
-        Err(_) => Ok(bad_words(
+        Err(_) => Ok(report_bad_arguments(
             rt,
             "error: a word is not UTF-8\n\nFor more information, try '--help'.",
         )),
@@ -147,6 +150,6 @@ fn run<R: Threads + Wait + Clock + Copy + Send + Sync + 'static>(
 fn main(rt: HostRuntime) -> ExitCode {
     match run(&rt, &rt) {
         Ok(status) => status,
-        Err(fault) => ended(&rt, Err(fault)),
+        Err(fault) => report_result(&rt, Err(fault)),
     }
 }

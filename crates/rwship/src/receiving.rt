@@ -1,9 +1,9 @@
 //! The command `receive`.
 
-use crate::ending::{ended, point_to_explain, unset};
-use crate::reporting::{begin_reporting, end_reporting, tell_unheard};
+use crate::ending::{point_to_explain, report_result, report_settings_fault};
+use crate::reporting::{begin_reporting, end_reporting, print_listen_error};
 use crate::settings::settings_in;
-use crate::sign::sign_of;
+use crate::stopping::stop_signal;
 use rw_metrics::{Counters, ReceiveCounters};
 use rw_receive::{Service, run_receive, run_receive_until};
 use rw_settings::Settings;
@@ -17,7 +17,7 @@ use std::sync::{Arc, Wait};
 use std::thread::Threads;
 use std::time::Clock;
 
-/// Serves connections until the sign is set, and prints what they left.
+/// Serves connections until a stop is requested, and prints what they left.
 fn serve_until<R: Threads + Wait + Clock + Sync>(
     rt: &HostRuntime,
     threads: &R,
@@ -27,7 +27,7 @@ fn serve_until<R: Threads + Wait + Clock + Sync>(
     stop_file: Option<&str>,
     counters: &ReceiveCounters,
 ) -> Result<(), ToolFault> {
-    let sign = sign_of(rt, threads, stop_file, None)?;
+    let signal = stop_signal(rt, threads, stop_file, None)?;
     let mut output = Std::new(rt.stdout());
     let service = Service {
         most: Bounded::new(1_000),
@@ -40,13 +40,13 @@ fn serve_until<R: Threads + Wait + Clock + Sync>(
         rt.alloc(),
         settings,
         service,
-        &sign,
+        &signal,
         listener,
         &mut output,
     )
 }
 
-/// Serves so many connections, and prints what they left.
+/// Serves `most` connections, and prints what they left.
 fn serve_some<R: Threads + Wait + Clock + Sync>(
     rt: &HostRuntime,
     threads: &R,
@@ -73,7 +73,7 @@ fn serve_some<R: Threads + Wait + Clock + Sync>(
     )
 }
 
-/// Serves connections for as long as is asked for, and prints what they left.
+/// Serves connections for as long as asked for, and prints what the head holds.
 fn serve<R: Threads + Wait + Clock + Sync>(
     rt: &HostRuntime,
     threads: &R,
@@ -138,12 +138,12 @@ fn receive_by<R: Threads + Wait + Clock + Sync>(
     match TcpListener::bind(rt, (listen.name(), listen.port)) {
         Ok(listener) => {
             let outcome = serve_and_report(rt, threads, settings, listener, receiving);
-            ended(rt, outcome)
+            report_result(rt, outcome)
         }
         Err(error) => {
-            let status = ended(rt, Err(ToolFault::Device));
+            let status = report_result(rt, Err(ToolFault::Device));
             if is_explained {
-                tell_unheard(rt, listen, &error);
+                print_listen_error(rt, listen, &error);
             } else {
                 point_to_explain(rt);
             }
@@ -161,6 +161,6 @@ pub fn receive<R: Threads + Wait + Clock + Sync>(
 ) -> ExitCode {
     match settings_in(rt, file) {
         Ok(settings) => receive_by(rt, threads, &settings, receiving, file.is_explained),
-        Err(fault) => unset(rt, fault),
+        Err(fault) => report_settings_fault(rt, fault),
     }
 }

@@ -1,6 +1,6 @@
-//! What is told of the work while it goes on.
+//! Reports the progress of the work.
 
-use crate::ending::tell_device;
+use crate::ending::print_device_error;
 use rw_metrics::{Counters, Screen, serve_metrics, show_progress, write_end};
 use rw_text::{Address, ToolFault};
 use rw_words::Reporting;
@@ -8,13 +8,13 @@ use std::io::{Error, IsTerminal};
 use std::net::TcpListener;
 use std::thread::Threads;
 
-/// Says that an address cannot be listened at, and why.
-pub fn tell_unheard(rt: &HostRuntime, listen: Address<'_>, error: &Error) {
+/// Reports that the program cannot listen at an address, and why.
+pub fn print_listen_error(rt: &HostRuntime, listen: Address<'_>, error: &Error) {
     let Address { host, port } = listen;
     let _ = eprintln!(rt; "  cannot listen on {host}:{port}: {error}");
 }
 
-/// What reads the lines of progress.
+/// Returns what shows the lines of progress.
 fn screen_of(rt: &HostRuntime) -> Screen {
     if rt.stderr().is_terminal() {
         Screen::Terminal
@@ -23,7 +23,7 @@ fn screen_of(rt: &HostRuntime) -> Screen {
     }
 }
 
-/// Whether progress is shown, or standard error is a terminal.
+/// Returns whether progress is shown, or standard error is a terminal.
 pub fn is_watched(rt: &HostRuntime, reporting: &Reporting<'_>) -> bool {
     reporting.has_progress || rt.stderr().is_terminal()
 }
@@ -44,7 +44,7 @@ fn serve_at<R: Threads>(
     }
 }
 
-/// Serves the metrics and shows progress, where that is asked for.
+/// Serves the metrics and shows progress, as far as asked for.
 pub fn begin_reporting<R: Threads>(
     rt: &HostRuntime,
     threads: &R,
@@ -61,7 +61,7 @@ pub fn begin_reporting<R: Threads>(
     Ok(())
 }
 
-/// Shows how far the work has come in the end, where that is asked for.
+/// Shows the final values of the counters, if that is asked for.
 pub fn end_reporting(rt: &HostRuntime, reporting: &Reporting<'_>, counters: &Counters) {
     if reporting.has_progress {
         write_end(&mut rt.stderr(), screen_of(rt), rt.alloc(), counters);

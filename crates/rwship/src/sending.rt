@@ -1,14 +1,17 @@
 //! The command `send`.
 
-use crate::ending::{dropped, empty, ended, point_to_explain, tell_device, unset};
+use crate::ending::{
+    empty_status, point_to_explain, print_device_error, report_dropped, report_result,
+    report_settings_fault, report_skipped,
+};
 use crate::inspecting::{files_of, log_fault, note_checkpoint, passes_checkpoint_over};
 use crate::reporting::{begin_reporting, end_reporting, is_watched};
 use crate::settings::settings_in;
-use crate::sign::{Told, sign_of};
+use crate::stopping::stop_signal;
 use rw_follow::Timed;
-use rw_log_folder::{Folder, LogFiles};
+use rw_log_folder::{Folder, LogFiles, watch_newest_segment};
 use rw_metrics::{Counters, SendCounters, show_stalls};
-use rw_send::{Counted, FollowFault, StopFlag, TcpConnect, run_follow, run_send};
+use rw_send::{FollowFault, SendOptions, StopFlag, TcpConnect, run_follow, run_send};
 use rw_settings::Settings;
 use rw_tcp::look_up;
 use rw_text::{Address, ToolFault};
@@ -24,14 +27,14 @@ use std::time::{Clock, Duration};
 
 /// The log that is shipped.
 enum Log {
-    /// The files that the folder has.
+    /// The files of the folder.
     Whole(LogFiles<HostRuntime>),
-    /// The folder while it grows, and what says when that ends.
-    Growing(Folder<HostRuntime>, Timed<HostRuntime, Told>),
+    /// The folder while it grows, and the watch that ends it.
+    Growing(Folder<HostRuntime>, Timed<HostRuntime>),
 }
 
-/// All that shipping needs besides settings. It is made before they are given away, since each way
-/// out of a function that owns settings is dear to prove.
+/// All that shipping needs besides settings. It is made before the settings are given away, since
+/// each way out of a function that owns settings is expensive to prove.
 struct Shipment {
     log: Log,
     connect: TcpConnect<HostRuntime>,
@@ -39,19 +42,20 @@ struct Shipment {
     counters: Arc<SendCounters, Global>,
 }
 
-/// Returns what tells a follower to stop, and its workers if that is at once, and lets time pass.
+/// Returns a watch that stops a follower, stops its workers too if that is at once, and lets time
+/// pass.
 fn watch_of<R: Threads>(
     rt: &HostRuntime,
     threads: &R,
     following: &Following<'_>,
     stop: &StopFlag,
-) -> Result<Timed<HostRuntime, Told>, AllocError> {
+) -> Result<Timed<HostRuntime>, AllocError> {
     let workers = stop.share()?;
-    let sign = Told::new(sign_of(rt, threads, following.stop_file, Some(workers))?);
+    let signal = stop_signal(rt, threads, following.stop_file, Some(workers))?;
     let poll = Duration::from_millis(following.poll_ms.get());
     let patience = Duration::from_millis(following.flush_ms.get());
     let reshard = Duration::from_millis(following.reshard_ms.get());
-    Ok(Timed::new(*rt, sign, poll, patience, reshard))
+    Ok(Timed::new(*rt, signal, poll, patience, reshard))
 }
 
 /// Returns a folder that is read while it grows.
@@ -129,6 +133,22 @@ fn report_stalls<R: Threads>(
     show_stalls(threads, *rt, rt.stderr(), rt.alloc(), receiver, theirs)
 }
 
+/// Looks for the newest segment of the folder from here on, if somebody may read its number.
+fn watch_folder<R: Threads>(
+    rt: &HostRuntime,
+    threads: &R,
+    sending: &Sending<'_>,
+    counters: &Arc<SendCounters, Global>,
+) -> Result<(), AllocError> {
+    let reporting = &sending.reporting;
+    if !reporting.has_progress && reporting.metrics.is_none() {
+        return Ok(());
+    }
+    let path = String::from_str(rt.alloc(), sending.dir.path)?;
+    let theirs = Arc::try_clone(counters)?;
+    watch_newest_segment(threads, *rt, path, theirs)
+}
+
 /// Returns new counters, which are reported from here on as far as that is asked for.
 fn reported_counters<R: Threads>(
     rt: &HostRuntime,
@@ -139,6 +159,7 @@ fn reported_counters<R: Threads>(
     let shown = Counters::Send(Arc::try_clone(&counters)?);
     begin_reporting(rt, threads, &sending.reporting, &shown)?;
     report_stalls(rt, threads, sending, &counters)?;
+    watch_folder(rt, threads, sending, &counters)?;
     Ok(counters)
 }
 
@@ -174,12 +195,12 @@ fn ship_log<R: Threads + Wait + Clock + Copy + Send + 'static>(
     threads: &R,
     settings: Settings,
     log: Log,
-    line: Counted<'_, TcpConnect<HostRuntime>>,
+    options: SendOptions<'_, TcpConnect<HostRuntime>>,
 ) -> Result<(), FollowFault> {
     let mut output = Std::new(rt.stdout());
     match log {
         Log::Whole(LogFiles { files, missing }) => {
-            match run_send(threads, rt.alloc(), settings, files, line, &mut output) {
+            match run_send(threads, rt.alloc(), settings, files, options, &mut output) {
                 Ok(()) => Ok(()),
                 Err(fault) => Err(whole_fault(missing, fault)),
             }
@@ -189,14 +210,14 @@ fn ship_log<R: Threads + Wait + Clock + Copy + Send + 'static>(
             rt.alloc(),
             settings,
             &mut folder,
-            line,
+            options,
             &mut watch,
             &mut output,
         ),
     }
 }
 
-/// Reports that samples had no series, if a checkpoint was passed over that may have them.
+/// Reports that samples had no series, if a skipped checkpoint may have them.
 fn note_lost_series(rt: &HostRuntime, sending: &Sending<'_>, counters: &SendCounters) {
     if let Ok(numbers) = counters.numbers(rt.alloc()) {
         let count = numbers.drops.no_series;
@@ -208,7 +229,29 @@ fn note_lost_series(rt: &HostRuntime, sending: &Sending<'_>, counters: &SendCoun
     }
 }
 
-/// Ships what was prepared, and ends the reporting. Returns how many samples were dropped.
+/// Reports that records were skipped that may hold samples, if some were.
+fn note_skipped(rt: &HostRuntime, count: u64) {
+    if count > 0 {
+        let _ = eprintln!(rt;
+            "  records skipped that may hold samples: {count}; --progress and --metrics count them by type"
+        );
+    }
+}
+
+/// Explains which samples are missing for want of a series, or since they are not read.
+fn explain_missing(rt: &HostRuntime, sending: &Sending<'_>, counters: &SendCounters) {
+    note_lost_series(rt, sending, counters);
+    note_skipped(rt, counters.skipped().lost());
+}
+
+/// How many samples and records a run did not ship.
+#[derive(Clone, Copy)]
+struct Unshipped {
+    dropped_samples: u64,
+    skipped_records: u64,
+}
+
+/// Ships what was prepared, and ends the reporting. Returns what was not shipped.
 fn ship<R: Threads + Wait + Clock + Copy + Send + 'static>(
     rt: &HostRuntime,
     threads: &R,
@@ -216,44 +259,63 @@ fn ship<R: Threads + Wait + Clock + Copy + Send + 'static>(
     sending: &Sending<'_>,
     shipment: Shipment,
     is_explained: bool,
-) -> Result<u64, FollowFault> {
+) -> Result<Unshipped, FollowFault> {
     let Shipment {
         log,
         connect,
         stop,
         counters,
     } = shipment;
-    let line = Counted {
+    let options = SendOptions {
         connect,
         counters: &counters,
         max_batch_bytes: sending.max_batch_bytes,
         stop,
     };
-    let outcome = ship_log(rt, threads, settings, log, line);
-    let count = counters.dropped();
+    let outcome = ship_log(rt, threads, settings, log, options);
+    let unshipped = Unshipped {
+        dropped_samples: counters.dropped(),
+        skipped_records: counters.skipped().lost(),
+    };
     if is_explained {
-        note_lost_series(rt, sending, &counters);
+        explain_missing(rt, sending, &counters);
     }
     end_reporting(rt, &sending.reporting, &Counters::Send(counters));
     match outcome {
-        Ok(()) => Ok(count),
+        Ok(()) => Ok(unshipped),
         Err(fault) => Err(fault),
     }
 }
 
 /// Reports that a receiver cannot be looked up and, if that is asked for, why. Returns the exit
 /// status.
-fn not_found(rt: &HostRuntime, name: &str, error: &Error, is_explained: bool) -> ExitCode {
+fn report_lookup_error(
+    rt: &HostRuntime,
+    name: &str,
+    error: &Error,
+    is_explained: bool,
+) -> ExitCode {
     if error.kind() == ErrorKind::OutOfMemory {
-        return ended(rt, Err(ToolFault::OutOfMemory));
+        return report_result(rt, Err(ToolFault::OutOfMemory));
     }
-    let status = ended(rt, Err(ToolFault::Device));
+    let status = report_result(rt, Err(ToolFault::Device));
     if is_explained {
-        tell_device(rt, "look up", name, error);
+        print_device_error(rt, "look up", name, error);
     } else {
         point_to_explain(rt);
     }
     status
+}
+
+/// Reports what a run did not ship, if that is a fault. Returns the exit status.
+fn report_unshipped(rt: &HostRuntime, sending: &Sending<'_>, unshipped: Unshipped) -> ExitCode {
+    if unshipped.dropped_samples > 0 && sending.fails_on_drop {
+        report_dropped(rt, unshipped.dropped_samples)
+    } else if unshipped.skipped_records > 0 && sending.fails_on_skip {
+        report_skipped(rt, unshipped.skipped_records)
+    } else {
+        ExitCode::SUCCESS
+    }
 }
 
 /// Reports how shipping ended and, if that is asked for, what is wrong with the folder. Returns the
@@ -261,12 +323,11 @@ fn not_found(rt: &HostRuntime, name: &str, error: &Error, is_explained: bool) ->
 fn report_outcome(
     rt: &HostRuntime,
     sending: &Sending<'_>,
-    outcome: Result<u64, FollowFault>,
+    outcome: Result<Unshipped, FollowFault>,
     is_explained: bool,
 ) -> ExitCode {
     match outcome {
-        Ok(count) if count > 0 && sending.fails_on_drop => dropped(rt, count),
-        Ok(_) => ExitCode::SUCCESS,
+        Ok(unshipped) => report_unshipped(rt, sending, unshipped),
         Err(fault) => log_fault(rt, sending.dir, fault, is_explained),
     }
 }
@@ -289,11 +350,11 @@ fn start<R: Threads>(
                 Err(report_outcome(rt, sending, outcome, is_explained))
             }
         },
-        Err(error) => Err(not_found(rt, to.name(), &error, is_explained)),
+        Err(error) => Err(report_lookup_error(rt, to.name(), &error, is_explained)),
     }
 }
 
-/// Whether the folder has no segment.
+/// Returns whether the folder has no segment.
 fn is_empty(log: &Log) -> bool {
     match log {
         Log::Whole(log) => log.missing.is_none() && log.files.is_empty(),
@@ -331,7 +392,7 @@ fn send_by<R: Threads + Wait + Clock + Copy + Send + 'static>(
                 note_empty(rt, sending, is_explained);
             }
             match ship(rt, threads, settings, sending, shipment, is_explained) {
-                Ok(_) if has_nothing && sending.fails_on_empty => empty(),
+                Ok(_) if has_nothing && sending.fails_on_empty => empty_status(),
                 outcome => report_outcome(rt, sending, outcome, is_explained),
             }
         }
@@ -348,6 +409,6 @@ pub fn send<R: Threads + Wait + Clock + Copy + Send + 'static>(
 ) -> ExitCode {
     match settings_in(rt, file) {
         Ok(settings) => send_by(rt, threads, settings, sending, file.is_explained),
-        Err(fault) => unset(rt, fault),
+        Err(fault) => report_settings_fault(rt, fault),
     }
 }

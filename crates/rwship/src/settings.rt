@@ -17,13 +17,14 @@ use std::{fs, io};
 pub enum Unset {
     /// Memory ran out.
     Tool(ToolFault),
-    /// The file cannot be read, and this says why where that was asked for.
+    /// The file cannot be read; the text says why, if that was asked for.
     Unreadable(String),
-    /// The file has this fault, which is not want of memory, and these notes tell each of its faults where that was asked for.
+    /// The file has this fault, which is not out of memory. The notes explain each of its faults,
+    /// if that was asked for.
     Settings(SettingsFault, Vec<SettingsNote>),
 }
 
-/// Why the file at a path cannot be read.
+/// Returns the error of a file that cannot be read.
 fn unreadable(rt: &HostRuntime, path: &str, error: &io::Error, is_explained: bool) -> Unset {
     if error.kind() == ErrorKind::OutOfMemory {
         return Unset::Tool(ToolFault::OutOfMemory);
@@ -37,7 +38,7 @@ fn unreadable(rt: &HostRuntime, path: &str, error: &io::Error, is_explained: boo
     }
 }
 
-/// The text of a settings file, or the empty one where there is none.
+/// Returns the text of a settings file, or the empty one if there is none.
 fn text_of(rt: &HostRuntime, file: SettingsFile<'_>) -> Result<Vec<u8>, Unset>
     ensures { file.entry.path ≡ None → IfOk result (λ t. t.items ≡ []) }
 {
@@ -50,7 +51,8 @@ fn text_of(rt: &HostRuntime, file: SettingsFile<'_>) -> Result<Vec<u8>, Unset>
     }
 }
 
-/// Why a text was refused that has this fault, with notes on each of its faults where they are asked for.
+/// Returns the error of a text that has this fault, with notes on each of its faults if they are
+/// asked for.
 fn refused(rt: &HostRuntime, text: &[u8], fault: SettingsFault, is_explained: bool) -> Unset {
     if fault == SettingsFault::OutOfMemory {
         return Unset::Tool(ToolFault::OutOfMemory);
@@ -64,7 +66,7 @@ fn refused(rt: &HostRuntime, text: &[u8], fault: SettingsFault, is_explained: bo
     }
 }
 
-/// The settings that are asked for.
+/// Returns the settings that are asked for.
 pub fn settings_in(rt: &HostRuntime, file: SettingsFile<'_>) -> Result<Settings, Unset>
     ensures { file.entry.path ≡ None → IfOk result (λ s. toml.settings_in [] ≡ Ok s) }
 {
@@ -75,8 +77,8 @@ pub fn settings_in(rt: &HostRuntime, file: SettingsFile<'_>) -> Result<Settings,
     }
 }
 
-/// The settings that are asked for, as a text that gives each key.
-pub fn printed_settings(rt: &HostRuntime, file: SettingsFile<'_>) -> Result<String, Unset>
+/// Returns the settings that are asked for, as a text with each key.
+pub fn settings_text(rt: &HostRuntime, file: SettingsFile<'_>) -> Result<String, Unset>
     ensures { file.entry.path ≡ None
         → IfOk result (λ t. IsOkAnd (toml.settings_in []) (λ s. string_bytes t ≡ settings_text s)) }
 {

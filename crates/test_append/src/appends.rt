@@ -135,7 +135,7 @@ fn many(alloc: Global, reference: u64, count: usize) -> Result<Vec<(u64, i64, Wo
     Ok(samples)
 }
 
-/// Whether the entry is this sample.
+/// Returns whether the entry is this sample.
 fn is_sample(entry: &Entry, sample: (u64, i64, Word)) -> bool {
     match entry {
         Entry::Sample { reference, t, word } => {
@@ -145,7 +145,7 @@ fn is_sample(entry: &Entry, sample: (u64, i64, Word)) -> bool {
     }
 }
 
-/// Counts the samples that are read, in order, up to the first that is another one.
+/// Counts the samples that are read, in order, up to the first that differs.
 fn read_count(alloc: Global, reference: u64, bytes: &[u8]) -> usize {
     let mut tail = Tail::new(alloc);
     if tail.feed(bytes).is_err() {

@@ -9,7 +9,8 @@ use rw_wal_append::{AppendError, LogEnd};
 use std::alloc::{AllocError, Global};
 use std::test::Fail;
 
-/// The samples of a series in a message: its metric name, and their timestamps. All have the value 1.
+/// The samples of a series in a message: its metric name, and their timestamps. All have the value
+/// 1.
 struct Part {
     metric: &'static [u8],
     times: &'static [i64],

@@ -17,7 +17,7 @@ struct Row {
     name: &'static str,
     folders: &'static [&'static str],
     files: &'static [&'static str],
-    /// What the files hold that are read; and the number of the segment that is missing.
+    /// What the files that are read hold, and the number of the segment that is missing.
     text: &'static str,
     missing: Option<u64>,
 }
@@ -127,8 +127,8 @@ fn read_all(rt: &HostRuntime, log: LogFiles<HostRuntime>, text: &mut Vec<u8>) ->
     true
 }
 
-/// Whether the log in a folder is read as a row says. The folder is removed once it was opened, if
-/// that is asked for.
+/// Returns whether the log in a folder is read as a row says. The folder is removed once it was
+/// opened, if that is asked for.
 fn is_read(rt: &HostRuntime, dir: Path<'_>, row: &Row, goes: bool) -> Result<bool, AllocError> {
     let log = log_files(rt, dir.as_str(), None)?;
     if goes {
@@ -142,7 +142,8 @@ fn is_read(rt: &HostRuntime, dir: Path<'_>, row: &Row, goes: bool) -> Result<boo
     Ok(is_whole && row.missing.is_none() && text.as_slice() == row.text.as_bytes())
 }
 
-/// Follows a folder to its end. Returns the number that is missing; `Err` if it cannot be read.
+/// Follows a folder to its end. Returns the number that is missing, or `Err` if the folder cannot
+/// be read.
 fn follow(folder: &mut Folder<HostRuntime>, text: &mut Vec<u8>) -> Result<Option<u64>, ()> {
     let mut buf = [0u8; 64];
     for _ in 0..100 {
@@ -165,7 +166,7 @@ fn follow(folder: &mut Folder<HostRuntime>, text: &mut Vec<u8>) -> Result<Option
     Err(())
 }
 
-/// Whether the log in a folder is followed as a row says.
+/// Returns whether the log in a folder is followed as a row says.
 fn is_followed(rt: &HostRuntime, dir: Path<'_>, row: &Row) -> Result<bool, AllocError> {
     let alloc = rt.alloc();
     let counters = Arc::new(alloc, SendCounters::new(alloc)?)?;
@@ -176,7 +177,7 @@ fn is_followed(rt: &HostRuntime, dir: Path<'_>, row: &Row) -> Result<bool, Alloc
     Ok(missing == Ok(row.missing) && text.as_slice() == row.text.as_bytes())
 }
 
-/// The first row that does not hold, over folders that begin with this name.
+/// Returns the first row that does not hold, over folders that begin with this name.
 fn first_wrong(rt: &HostRuntime, name: &str) -> Result<Option<&'static str>, Fail> {
     for row in &ROWS {
         let dir = make_folder(rt, name, row)?;
@@ -195,7 +196,8 @@ fn folders_are_read_from_their_newest_checkpoint_on(rt: HostRuntime) -> Result<(
     Ok(())
 }
 
-/// What goes with the folder is what was open, and the second segment after the checkpoint was not.
+/// The folder is removed: what was open can be read, and the second segment after the checkpoint
+/// was not open.
 static GOES: Row = Row {
     name: "a checkpoint that is removed once it is open",
     folders: &["checkpoint.00000003"],
@@ -225,7 +227,7 @@ static NO_FOLDER: Row = Row {
     missing: None,
 };
 
-/// Whether the log in a folder cannot be read, as it is or while it grows.
+/// Returns whether the log in a folder cannot be read, as it is or while it grows.
 fn is_unreadable(rt: &HostRuntime, dir: &str) -> Result<bool, AllocError> {
     let alloc = rt.alloc();
     let log = log_files(rt, dir, None)?;
@@ -246,7 +248,7 @@ fn what_cannot_be_read_is_no_empty_log(rt: HostRuntime) -> Result<(), Fail> {
     Ok(())
 }
 
-/// Its checkpoint's file is added as a link that leads nowhere.
+/// The file of its checkpoint is added as a link to a file that does not exist.
 static GONE: Row = Row {
     name: "a file that is listed and gone before it is opened",
     folders: &["checkpoint.00000003"],

@@ -64,7 +64,7 @@ fn left_of(alloc: Global, row: &Row) -> Result<Vec<u8>, JournalError> {
     journal.read(alloc, 1)
 }
 
-/// The first row that does not hold.
+/// Returns the first row that does not hold.
 fn first_wrong(alloc: Global) -> Result<Option<&'static str>, JournalError> {
     for row in &ROWS {
         if left_of(alloc, row)?.as_slice() != row.left {

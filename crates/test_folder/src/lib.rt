@@ -1,5 +1,5 @@
-//! Tests of folders: which files of a log are read, and what a crash leaves of a journal; and of the
-//! pages for people.
+//! Tests of folders: which files of a log are read, and what a crash leaves of a journal; and of
+//! the pages for people.
 #![tactic(auto)]
 
 #[cfg(test)]

@@ -15,7 +15,7 @@ struct Row {
     name: &'static str,
     segments: &'static [Written],
     checkpoints: &'static [(u64, &'static [Written])],
-    /// None if this number is missing.
+    /// `None` if this number is missing.
     missing: Option<u64>,
     read: &'static [Read],
 }
@@ -147,7 +147,7 @@ fn are_read(places: &[Place], wanted: &[Read]) -> bool {
     true
 }
 
-/// Whether the listing of a row is read as it says.
+/// Returns whether the listing of a row is read as it says.
 fn holds(alloc: Global, row: &Row) -> bool {
     let Ok(listing) = listing_of(alloc, row) else {
         return false;
@@ -159,7 +159,7 @@ fn holds(alloc: Global, row: &Row) -> bool {
     }
 }
 
-/// The first row that does not hold.
+/// Returns the first row that does not hold.
 fn first_wrong(alloc: Global, rows: &[&'static Row]) -> Option<&'static str> {
     for row in rows {
         if !holds(alloc, row) {

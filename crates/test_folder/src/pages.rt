@@ -1,7 +1,11 @@
-//! The pages for people: of counters that were given these numbers, and the text of each.
+//! The pages for people, and what a sender counts of its requests: counters that were given these
+//! numbers, and the text of each.
 
 use rw_ledger::Reason;
-use rw_metrics::{Cause, ReceiveCounters, SendCounters, receive_html, send_html};
+use rw_metrics::{
+    Cause, ReceiveCounters, SendCounters, SendNumbers, Skipped, receive_html, send_html, send_line,
+    send_page, skipped_line,
+};
 use std::alloc::{AllocError, Global};
 use std::test::Fail;
 
@@ -32,10 +36,12 @@ footer { margin-top: 1.2rem; font-size: .9rem }
 <p class=\"bad\">Waiting for the receiver: attempts to send fail.</p>
 <h2>Samples</h2>
 <table>
-<tr><th>Read and put into a queue</th><td>1200</td></tr>
-<tr><th>Acknowledged, refused, or in a batch that is not full</th><td>1100</td></tr>
-<tr><th>Waiting for the receiver</th><td>100</td></tr>
+<tr><th>Read</th><td>1233</td></tr>
+<tr><th>Acknowledged by the receiver</th><td>3</td></tr>
+<tr><th>Dropped</th><td>5</td></tr>
 <tr><th>Filtered by the rules</th><td>30</td></tr>
+<tr><th>In flight</th><td>1195</td></tr>
+<tr><th>Seconds from the newest acknowledged to the newest in flight</th><td>58</td></tr>
 </table>
 <h2>Dropped samples</h2>
 <table>
@@ -48,7 +54,7 @@ footer { margin-top: 1.2rem; font-size: .9rem }
 <h2>Attempts to send a batch</h2>
 <table>
 <tr><th>All</th><td>9</td></tr>
-<tr><th>Failed</th><td>7</td></tr>
+<tr><th>Failed</th><td>8</td></tr>
 <tr><th>Failed since one succeeded</th><td>6</td></tr>
 <tr><th>The last cause</th><td>status_503</td></tr>
 <tr><th>connect: no connection was made</th><td>2</td></tr>
@@ -57,15 +63,18 @@ footer { margin-top: 1.2rem; font-size: .9rem }
 <tr><th>ended: the connection ended before a status</th><td>0</td></tr>
 <tr><th>bad_reply: the answer is not HTTP</th><td>1</td></tr>
 <tr><th>memory: out of memory</th><td>1</td></tr>
+<tr><th>Answered with status 400</th><td>1</td></tr>
 <tr><th>Answered with status 503</th><td>1</td></tr>
 </table>
 <h2>Log</h2>
 <table>
 <tr><th>Segment that is read</th><td>7</td></tr>
-<tr><th>Bytes of it that were read</th><td>456</td></tr>
+<tr><th>Newest segment</th><td>9</td></tr>
 <tr><th>Entries read</th><td>1234</td></tr>
 <tr><th>Bytes read</th><td>556</td></tr>
 <tr><th>Percent of the folder</th><td>55</td></tr>
+<tr><th>Records of histograms, not shipped</th><td>4</td></tr>
+<tr><th>Records of an unknown type, not shipped</th><td>1</td></tr>
 <tr><th>Shards at work</th><td>4</td></tr>
 </table>
 <footer>The numbers are best effort and are read one after the other. This page is loaded again every \
@@ -74,7 +83,7 @@ footer { margin-top: 1.2rem; font-size: .9rem }
 </html>
 ";
 
-/// After the style, which both pages have.
+/// What follows the style, which both pages have.
 const RECEIVER: &str = "</style>
 </head>
 <body>
@@ -83,6 +92,7 @@ const RECEIVER: &str = "</style>
 <table>
 <tr><th>Samples</th><td>17</td></tr>
 <tr><th>Series</th><td>3</td></tr>
+<tr><th>Most samples</th><td>1000</td></tr>
 </table>
 <h2>Connections</h2>
 <table>
@@ -108,6 +118,49 @@ static DROPPED: [(u64, Reason); 3] = [
     (6, Reason::NotRising),
 ];
 
+/// What is skipped of a log.
+static SKIPPED: Skipped = Skipped {
+    tombstones: 2,
+    exemplars: 0,
+    mmap_markers: 0,
+    metadata: 0,
+    histograms: 4,
+    float_histograms: 0,
+    custom_histograms: 0,
+    custom_float_histograms: 0,
+    unknown: 1,
+};
+
+/// A request with two samples of a series, at 1,600,000,000,000 and 1,600,000,002,000 ms.
+const TWO_SAMPLES: &[u8] = b"POST / HTTP/1.1\r\n\r\n\x0a\x2e\x0a\x08\x0a\x01a\x12\x03bcd\
+    \x12\x10\x09\0\0\0\0\0\0\xf0\x3f\x10\x80\x80\xba\xbb\xc8\x2e\
+    \x12\x10\x09\0\0\0\0\0\0\xf0\x3f\x10\xd0\x8f\xba\xbb\xc8\x2e";
+
+/// A request with one sample, before 1970.
+const EARLY_SAMPLE: &[u8] = b"POST / HTTP/1.1\r\n\r\n\x0a\x16\
+    \x12\x14\x09\0\0\0\0\0\0\0\0\x10\xff\xff\xff\xff\xff\xff\xff\xff\xff\x01";
+
+/// The progress of the sender, in one line.
+const LINE: &str =
+    "entries 1234 read 1233 acknowledged 3 dropped 5 filtered 30 in_flight 1195 lag 58 \
+    shards 4 attempts 9 failed 8 last status_503 segment 7 bytes 456 newest 9 percent 55";
+
+/// What it has skipped, in one line.
+const SKIPPED_LINE: &str = "skipped histogram_samples 4 unknown 1 tombstones 2";
+
+/// Lines of its page for Prometheus.
+static LINES: [&str; 9] = [
+    "\nrwship_send_newest_segment 9\n",
+    "\nrwship_send_highest_timestamp_in_seconds 1600000060\n",
+    "\nrwship_send_highest_acknowledged_timestamp_in_seconds 1600000002\n",
+    "\nrwship_send_samples_read_total 1233\n",
+    "\nrwship_send_samples_acknowledged_total 3\n",
+    "\nrwship_send_samples_resolved_total 5\n",
+    "\nrwship_send_samples_in_flight 1195\n",
+    "\nrwship_send_samples_dropped_total{reason=\"status_400\"} 2\n",
+    "\nrwship_send_records_skipped_total{type=\"histogram_samples\"} 4\n",
+];
+
 /// How attempts fail after one has succeeded.
 static CAUSES: [Cause; 6] = [
     Cause::Connect,
@@ -126,11 +179,13 @@ fn count_sending(counters: &SendCounters) {
     counters.set_folder_bytes(1000);
     counters.set_entries(1234);
     counters.set_shards(4);
-    counters.set_load(1200, 1100, 100);
+    counters.set_load(1200, 100);
+    counters.set_newest(1_600_000_060_000);
+    counters.set_newest_segment(9);
+    counters.set_skipped(&SKIPPED);
     counters.set_filtered(30);
     counters.drop_unsent(&DROPPED);
-    counters.drop_sample(Reason::Status(400));
-    counters.drop_sample(Reason::Status(400));
+    counters.refuse(400, TWO_SAMPLES);
 }
 
 /// Counts the attempts: one that fails, two that succeed, and six that fail.
@@ -139,25 +194,110 @@ fn count_attempts(counters: &SendCounters) {
         counters.attempt();
     }
     counters.fail(Cause::Connect);
-    counters.succeed();
-    counters.succeed();
+    counters.acknowledge(EARLY_SAMPLE);
+    counters.acknowledge(TWO_SAMPLES);
     for cause in &CAUSES {
         counters.fail(*cause);
     }
 }
 
-/// Whether the page of a sender has this text.
-fn is_senders(alloc: Global) -> Result<bool, AllocError> {
+/// What a sender has counted that did all this.
+fn counted(alloc: Global) -> Result<SendNumbers, AllocError> {
     let counters = SendCounters::new(alloc)?;
     count_sending(&counters);
     count_attempts(&counters);
-    let page = send_html(alloc, &counters.numbers(alloc)?)?;
+    counters.numbers(alloc)
+}
+
+/// Whether the page of a sender has this text.
+fn is_senders(alloc: Global) -> Result<bool, AllocError> {
+    let page = send_html(alloc, &counted(alloc)?)?;
     Ok(page.as_slice() == SENDER.as_bytes())
 }
 
 #[test]
 fn a_sender_for_people(rt: HostRuntime) -> Result<(), Fail> {
     assert!(rt; is_senders(rt.alloc())?);
+    Ok(())
+}
+
+/// Whether what was read is acknowledged, dropped, filtered or in flight.
+fn adds_up(n: &SendNumbers) -> bool {
+    let sent = n.acknowledged.saturating_add(n.in_flight);
+    n.read == sent.saturating_add(n.drops.all).saturating_add(n.filtered)
+}
+
+/// Whether these are the lines of such a sender, and its numbers add up.
+fn has_lines(alloc: Global) -> Result<bool, AllocError> {
+    let numbers = counted(alloc)?;
+    let line = send_line(alloc, &numbers)?;
+    let skipped = skipped_line(alloc, &numbers.skipped)?;
+    Ok(
+        adds_up(&numbers)
+            && line.as_slice() == LINE.as_bytes()
+            && skipped.as_slice() == SKIPPED_LINE.as_bytes(),
+    )
+}
+
+#[test]
+fn a_sender_adds_up(rt: HostRuntime) -> Result<(), Fail> {
+    assert!(rt; has_lines(rt.alloc())?);
+    Ok(())
+}
+
+/// Whether a text has a part.
+fn has_part(text: &[u8], part: &[u8]) -> bool {
+    for i in 0..text.len() {
+        if text[i..].starts_with(part) {
+            return true;
+        }
+    }
+    false
+}
+
+/// Returns the first of the lines that the page of such a sender for Prometheus lacks.
+fn lacking(alloc: Global) -> Result<Option<usize>, AllocError> {
+    let page = send_page(alloc, &counted(alloc)?)?;
+    for (i, line) in LINES.iter().enumerate() {
+        if !has_part(&page, line.as_bytes()) {
+            return Ok(Some(i));
+        }
+    }
+    Ok(None)
+}
+
+#[test]
+fn a_sender_for_prometheus(rt: HostRuntime) -> Result<(), Fail> {
+    let wrong = lacking(rt.alloc())?;
+    assert_eq!(rt; wrong, None);
+    Ok(())
+}
+
+/// Whether counters of a sender that was told less than its transports have heard, and then ends,
+/// still add up.
+fn adds_up_at_the_end(alloc: Global) -> Result<bool, AllocError> {
+    let counters = SendCounters::new(alloc)?;
+    counters.acknowledge(TWO_SAMPLES);
+    counters.refuse(400, TWO_SAMPLES);
+    let before = counters.numbers(alloc)?;
+    counters.set_load(5, 0);
+    counters.drop_sample(Reason::Status(400));
+    counters.drop_sample(Reason::Status(400));
+    counters.set_resolved(4);
+    let after = counters.numbers(alloc)?;
+    Ok(
+        adds_up(&before)
+            && (before.read, before.in_flight) == (4, 0)
+            && adds_up(&after)
+            && (after.read, after.in_flight) == (5, 1)
+            && (after.acknowledged, after.drops.all) == (2, 2)
+            && counters.dropped() == 2,
+    )
+}
+
+#[test]
+fn a_refused_sample_is_dropped_once(rt: HostRuntime) -> Result<(), Fail> {
+    assert!(rt; adds_up_at_the_end(rt.alloc())?);
     Ok(())
 }
 
@@ -172,6 +312,7 @@ fn is_receivers(alloc: Global) -> Result<bool, AllocError> {
     counters.answer(204, 7);
     counters.answer(429, 0);
     counters.hold_label_sets(3);
+    counters.set_limits(1_000, 0);
     let page = receive_html(alloc, &counters.numbers(alloc)?)?;
     Ok(page.ends_with(RECEIVER.as_bytes()))
 }

@@ -1,4 +1,5 @@
-//! A body with each byte changed to each other value, and cut at each length: read, and judged where it stands.
+//! A body with each byte changed to each other value, and cut at each length: read, and judged if
+//! it is.
 
 use crate::changed::{Reader, wrong_byte};
 use crate::plain_body::plain_spelling;
@@ -12,13 +13,13 @@ static ONE: [u8; 32] = [
     0x75, 0x70, 0x12, 0x0c, 0x09, 0x00, 0x00, 0x00, 0x00, 0x00, 0x00, 0xf0, 0x3f, 0x10, 0xe8, 0x07,
 ];
 
-/// The canonical spelling of what a body is read as, or its fault.
+/// Returns the canonical spelling of what a body is read as, or its fault.
 fn spelling(alloc: Global, body: &[u8]) -> Result<Vec<u8>, WireFault> {
     let message = decode(alloc, body)?;
     Ok(encode(alloc, &message)?)
 }
 
-/// Whether a body is taken, and read as the message of this canonical spelling.
+/// Returns whether a body is taken, and read as the message of this canonical spelling.
 fn is_spelled(alloc: Global, body: &[u8], wanted: &[u8]) -> bool {
     match spelling(alloc, body) {
         Ok(found) => check_message(body).is_ok() && found.as_slice() == wanted,
@@ -26,12 +27,12 @@ fn is_spelled(alloc: Global, body: &[u8], wanted: &[u8]) -> bool {
     }
 }
 
-/// Whether a body has this fault, where it is read and where it is judged.
+/// Returns whether a body has this fault, both when it is read and when it is judged.
 fn is_refused(alloc: Global, body: &[u8], wanted: WireFault) -> bool {
     check_message(body) == Err(wanted) && spelling(alloc, body).err() == Some(wanted)
 }
 
-/// Whether a body is read and judged as it is to be.
+/// Returns whether a body is read and judged as expected.
 pub(crate) fn is_read(alloc: Global, body: &[u8]) -> bool {
     match plain_spelling(alloc, body) {
         Ok(wanted) => is_spelled(alloc, body, &wanted),
@@ -39,7 +40,7 @@ pub(crate) fn is_read(alloc: Global, body: &[u8]) -> bool {
     }
 }
 
-/// The bytes of that body.
+/// Returns the bytes of that body.
 pub(crate) fn one() -> &'static [u8; 32] {
     &ONE
 }

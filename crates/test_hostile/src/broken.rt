@@ -1,5 +1,5 @@
-//! A worker whose request or reply is cut off by one failing call, at each of the calls, or that is refused memory: it sends the same bytes
-//! again, and the head has each sample once.
+//! A worker whose request or reply is cut off by one failing call, at each of the calls, or that
+//! runs out of memory: it sends the same bytes again, and the head has each sample once.
 
 ghost use Rattle.std.specs.Prelude.{◌≡◌, []};
 ghost use Rattle.rw_plain_queue.specs.declared.item.Item.TheVariants as item;
@@ -17,7 +17,8 @@ use std::sync::{Arc, Wait};
 /// More calls than two requests and their replies take.
 const MANY: usize = 1_000;
 
-/// What a run is to show: the exchanges that were made, the samples that were resolved and that the head has.
+/// What a run has to show: how many exchanges were made, and how many samples were resolved and are
+/// in the head.
 #[derive(Clone, Copy, PartialEq, Eq)]
 struct Shown {
     exchanges: usize,
@@ -37,7 +38,7 @@ fn up(alloc: Global) -> Result<Arc<LabelSet>, LabelFault> {
     }
 }
 
-/// The sample of this number, of the queue of shard 0 in epoch 0.
+/// Returns the sample of this number, of the queue of shard 0 in epoch 0.
 fn sample(seq: u64, t: i64, labels: Arc<LabelSet>) -> Item
     ensures { result ≡ item.Sample
         (record { epoch = 0; shard = 0; seq = seq; pos = seq; series = 0 }) t 1 labels }
@@ -77,7 +78,7 @@ fn shown_by(report: &WorkerReport<Line<'_>>) -> Shown {
     }
 }
 
-/// A worker with such a queue; none where memory is refused.
+/// Returns a worker with such a queue, or `None` if memory runs out.
 fn worker_of<R: Wait>(rt: &R, alloc: Global, config: &Config) -> Option<Worker> {
     let labels = up(alloc).ok()?;
     let (feed, drain) = open(alloc, 0, 0, 4).ok()?;
@@ -87,7 +88,8 @@ fn worker_of<R: Wait>(rt: &R, alloc: Global, config: &Config) -> Option<Worker> 
     Worker::new(alloc, config, 0, 0, drain).ok()
 }
 
-/// What a worker shows over a line where this call fails, counted from 1, and whether it came to that call.
+/// Returns what a worker shows over a line if this call fails, counted from 1, and whether it came
+/// to that call.
 fn shown_over_line<R: Wait>(
     rt: &R,
     alloc: Global,
@@ -102,7 +104,7 @@ fn shown_over_line<R: Wait>(
     (shown, calls.get() == 0)
 }
 
-/// The same of a new worker; none where memory is refused before it runs.
+/// Returns the same for a new worker, or `None` if memory runs out before it runs.
 fn shown_at<R: Wait>(rt: &R, alloc: Global, failing: usize) -> Option<(Shown, bool)> {
     let stop = StopFlag::new(alloc).ok()?;
     let limits = Limits::standard(alloc).ok()?;
@@ -111,7 +113,7 @@ fn shown_at<R: Wait>(rt: &R, alloc: Global, failing: usize) -> Option<(Shown, bo
     Some(shown_over_line(rt, alloc, limits, worker, &stop, failing))
 }
 
-/// What the worker is to show.
+/// Returns what the worker has to show.
 fn wanted(has_failed: bool) -> Shown {
     Shown {
         exchanges: if has_failed { 3 } else { 2 },
@@ -122,7 +124,8 @@ fn wanted(has_failed: bool) -> Shown {
     }
 }
 
-/// The first call with whose failure a worker shows something else; MANY where all are well, and 0 where there are few.
+/// Returns the first call with whose failure a worker shows something else, or `MANY` if there is
+/// none, or 0 if there are too few calls.
 fn wrong_call<R: Wait>(rt: &R, alloc: Global) -> usize {
     for failing in 1..MANY {
         match shown_at(rt, alloc, failing) {
@@ -140,7 +143,8 @@ fn each_call_may_fail(rt: HostRuntime) {
     assert_eq!(rt; wrong_call(&rt, rt.alloc()), MANY);
 }
 
-/// What a worker shows where no call fails; again where memory is refused before it begins.
+/// Returns what a worker shows if no call fails, with another try if memory runs out before it
+/// begins.
 fn shown_whole<R: Wait>(rt: &R, alloc: Global) -> Option<Shown> {
     match shown_at(rt, alloc, 0) {
         Some((shown, _)) => Some(shown),
@@ -148,7 +152,7 @@ fn shown_whole<R: Wait>(rt: &R, alloc: Global) -> Option<Shown> {
     }
 }
 
-/// Whether all is sent, and one request again at most.
+/// Returns whether everything is sent, and at most one request twice.
 fn goes_on<R: Wait>(rt: &R, alloc: Global) -> bool {
     match shown_whole(rt, alloc) {
         Some(shown) => shown == wanted(false) || shown == wanted(true),
@@ -156,7 +160,7 @@ fn goes_on<R: Wait>(rt: &R, alloc: Global) -> bool {
     }
 }
 
-/// Holds whichever growth is refused; `tools/refuse-each` refuses each of them in turn.
+/// Holds whichever allocation fails; `tools/refuse-each` lets each of them fail in turn.
 #[test]
 fn a_worker_goes_on(rt: HostRuntime) {
     assert!(rt; goes_on(&rt, rt.alloc()));

@@ -11,7 +11,7 @@ pub(crate) enum Reader {
     Replies,
 }
 
-/// Whether both read a text alike.
+/// Returns whether both read a text alike.
 fn agree(reader: Reader, alloc: Global, text: &[u8]) -> bool {
     match reader {
         Reader::Segments => segments::is_read(alloc, text),
@@ -20,7 +20,7 @@ fn agree(reader: Reader, alloc: Global, text: &[u8]) -> bool {
     }
 }
 
-/// The first length of a text, more than so many bytes, at which it is read otherwise.
+/// Returns the first length of a text, above `least` bytes, at which it is read differently.
 fn wrong_length(reader: Reader, alloc: Global, text: &[u8], least: usize) -> Option<usize> {
     for len in 0..=text.len() {
         if len > least && !agree(reader, alloc, &text[..len]) {
@@ -30,7 +30,8 @@ fn wrong_length(reader: Reader, alloc: Global, text: &[u8], least: usize) -> Opt
     None
 }
 
-/// The first value of this byte with which the text, or a front of it that has the byte, is read otherwise.
+/// Returns the first value of this byte with which the text, or a prefix of it that has the byte,
+/// is read differently.
 fn wrong_value(reader: Reader, alloc: Global, text: &mut [u8], at: usize) -> Option<u8> {
     let byte = *text.get(at)?;
     for value in 0..=255u8 {
@@ -52,7 +53,8 @@ fn wrong_byte_in(reader: Reader, alloc: Global, text: &mut [u8]) -> Option<usize
     None
 }
 
-/// The first byte of a text that has such a value, or the number of its bytes where memory is refused.
+/// Returns the first byte of a text that has such a value, or the number of its bytes if memory
+/// runs out.
 pub(crate) fn wrong_byte(reader: Reader, alloc: Global, text: &[u8]) -> Option<usize> {
     match text.to_vec(alloc) {
         Ok(mut copy) => wrong_byte_in(reader, alloc, &mut copy),

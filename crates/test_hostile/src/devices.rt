@@ -1,4 +1,5 @@
-//! Readers and writers that give and take a few bytes at a time. One call of all of them fails, and its device then fails for good.
+//! Readers and writers that give and take a few bytes at a time. One call of all of them fails, and
+//! its device then fails permanently.
 
 use rw_types::{Failed, Sink, Source};
 use std::alloc::Global;
@@ -7,7 +8,7 @@ use std::cell::Cell;
 /// How many bytes one call gives or takes at most.
 const MOST: usize = 40;
 
-/// Counts a call down. Whether it is the one that fails.
+/// Counts a call down, and returns whether it is the one that fails.
 fn is_failing(calls: &Cell<usize>) -> bool {
     let left = calls.get();
     calls.set(left.saturating_sub(1));

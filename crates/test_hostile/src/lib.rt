@@ -1,5 +1,5 @@
-//! Tests of hostile input: bytes that are changed and cut, compared with plain readings of the formats, devices of which one call fails, and
-//! memory that is refused.
+//! Tests of hostile input: bytes that are changed and cut, compared with plain readings of the
+//! formats, devices of which one call fails, and failing allocations.
 #![tactic(auto)]
 
 #[cfg(test)]

@@ -20,7 +20,7 @@ pub(crate) struct Line<'a> {
     /// The request that was lost, if the last one was.
     lost: Option<Vec<u8>>,
     pub(crate) exchanges: usize,
-    /// Whether each request behind a lost one had the same bytes.
+    /// Whether each request after a lost one had the same bytes.
     pub(crate) is_same: bool,
 }
 
@@ -38,7 +38,7 @@ impl<'a> Line<'a> {
         }
     }
 
-    /// Gives the head what came of a request, and what came of its reply to the sender.
+    /// Delivers a request to the head, and its reply to the sender, as far as no call fails.
     fn carry(&mut self, request: &[u8]) -> Result<Reply, Lost> {
         let mut out = Taking::new(self.alloc, self.calls);
         let is_sent = write_all(&mut out, request).is_ok();
@@ -64,7 +64,7 @@ impl<'a> Line<'a> {
         }
     }
 
-    /// Compares a request with the one that was lost before it, and keeps it where it is lost itself.
+    /// Compares a request with the one that was lost before it, and keeps it if it is lost itself.
     fn note(&mut self, request: &[u8], is_lost: bool) {
         self.exchanges = self.exchanges.saturating_add(1);
         if let Some(lost) = &self.lost {

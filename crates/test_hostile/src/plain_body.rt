@@ -1,14 +1,15 @@
-//! A plain reading of a message: field by field, and each part spelled canonically in a list of its own.
+//! A plain reading of a message: field by field, with each part spelled canonically into its own
+//! list.
 
 use crate::plain_segment::are_zeros;
 use rw_codes::put_uvarint;
 use rw_write_request::WireFault;
 use std::alloc::{AllocError, Global};
 
-/// The wire types that a message asks of its fields 1 and 2, where it has them.
+/// The wire types that a message requires of its fields 1 and 2, if it has them.
 type Wires = [Option<u64>; 2];
 
-/// A field: its number, its number as content, its bytes as content, and what stands behind it.
+/// A field: its number, its number as content, its bytes as content, and what follows it.
 #[derive(Clone, Copy)]
 struct Field<'a> {
     number: u64,
@@ -17,7 +18,7 @@ struct Field<'a> {
     rest: &'a [u8],
 }
 
-/// A number, and what stands behind it.
+/// Returns a number, and what follows it.
 fn uvarint(text: &[u8]) -> Result<(u64, &[u8]), WireFault> {
     let mut value: u64 = 0;
     let mut scale: u64 = 1;
@@ -39,7 +40,7 @@ fn uvarint(text: &[u8]) -> Result<(u64, &[u8]), WireFault> {
     Err(WireFault::VarintTooBig)
 }
 
-/// The field number of a tag, if the tag is one of a message with these fields.
+/// Returns the field number of a tag, if the tag is one of a message with these fields.
 fn number_of(tag: u64, wires: Wires) -> Result<u64, WireFault> {
     let (number, wire) = (tag / 8, tag % 8);
     let wanted = match number {
@@ -55,7 +56,7 @@ fn number_of(tag: u64, wires: Wires) -> Result<u64, WireFault> {
     }
 }
 
-/// The first field of a text.
+/// Returns the first field of a text.
 fn first_field(text: &[u8], wires: Wires) -> Result<Field<'_>, WireFault> {
     let (tag, behind) = uvarint(text)?;
     let number = number_of(tag, wires)?;
@@ -90,7 +91,7 @@ fn put_bytes(out: &mut Vec<u8>, tag: u8, bytes: &[u8]) -> Result<(), AllocError>
     out.extend_from_slice(bytes)
 }
 
-/// Puts a text, where there is one.
+/// Puts a text, if there is one.
 fn put_text(out: &mut Vec<u8>, tag: u8, text: &[u8]) -> Result<(), AllocError> {
     if text.is_empty() {
         return Ok(());
@@ -148,7 +149,7 @@ fn spell_sample(text: &[u8], out: &mut Vec<u8>) -> Result<(), WireFault> {
     Ok(())
 }
 
-/// Spells a series: its labels, and behind them its samples.
+/// Spells a series: its labels, and after them its samples.
 fn spell_series(alloc: Global, text: &[u8], out: &mut Vec<u8>) -> Result<(), WireFault> {
     let mut samples = Vec::new(alloc);
     let mut part = Vec::new(alloc);
@@ -176,7 +177,7 @@ fn spell_series(alloc: Global, text: &[u8], out: &mut Vec<u8>) -> Result<(), Wir
     Ok(())
 }
 
-/// The canonical spelling of the message that a text spells, or its first fault.
+/// Returns the canonical spelling of the message that a text spells, or its first fault.
 pub(crate) fn plain_spelling(alloc: Global, text: &[u8]) -> Result<Vec<u8>, WireFault> {
     let mut out = Vec::new(alloc);
     let mut rest = text;

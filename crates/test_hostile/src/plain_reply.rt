@@ -1,31 +1,31 @@
-//! A plain reading of a reply whose heads are short: byte by byte, by the words of the format alone.
+//! A plain reading of a reply whose heads are short: byte by byte, by the text of the format alone.
 
 use rw_shard_core::ReplyRead;
 
-/// What stands before a reason: `v` for 0 or 1, and `d` for a digit.
+/// What comes before a reason: `v` for 0 or 1, and `d` for a digit.
 static START: &[u8] = b"HTTP/1.v ddd";
 
-/// Where a head goes on.
+/// The places of a head.
 #[derive(Clone, Copy)]
 enum Place {
-    /// Behind so many bytes of its start. Empty lines may come before it.
+    /// After this many bytes of its start. Empty lines may come before it.
     Start(usize),
-    /// Behind the CR of such a line.
+    /// After the CR of such a line.
     Empty,
     /// In the reason, or in a value.
     Text,
-    /// Behind the CR that ends one of these.
+    /// After the CR that ends one of these.
     TextEnd,
-    /// Behind a line.
+    /// After a line.
     Line,
     /// In the name of a field.
     Name,
-    /// Behind the CR of the last line.
+    /// After the CR of the last line.
     Last,
     End,
 }
 
-/// Whether a byte stands for one of the start.
+/// Returns whether a byte is like one of the start.
 fn is_like(byte: u8, wanted: u8) -> bool {
     match wanted {
         b'v' => byte == b'0' || byte == b'1',
@@ -34,7 +34,7 @@ fn is_like(byte: u8, wanted: u8) -> bool {
     }
 }
 
-/// Whether the start has such a byte here.
+/// Returns whether the start has such a byte here.
 fn begins(at: usize, byte: u8) -> bool {
     match START.get(at) {
         Some(wanted) => is_like(byte, *wanted),
@@ -42,17 +42,17 @@ fn begins(at: usize, byte: u8) -> bool {
     }
 }
 
-/// Whether a byte may stand in the name of a field.
+/// Returns whether a byte may be in the name of a field.
 fn is_of_name(byte: u8) -> bool {
     byte.is_ascii_alphanumeric() || b"!#$%&'*+-.^_`|~".contains(&byte)
 }
 
-/// Whether a byte may stand in a reason or in a value.
+/// Returns whether a byte may be in a reason or in a value.
 fn is_of_text(byte: u8) -> bool {
     byte == b'\t' || (byte >= b' ' && byte != 127)
 }
 
-/// The place behind a byte that is no part of a line's end.
+/// Returns the place after a byte that is not part of a line's end.
 fn behind(place: Place, byte: u8) -> Option<Place> {
     match place {
         Place::Start(12) if byte == b' ' => Some(Place::Text),
@@ -64,7 +64,7 @@ fn behind(place: Place, byte: u8) -> Option<Place> {
     }
 }
 
-/// The place behind a line feed.
+/// Returns the place after a line feed.
 fn behind_feed(place: Place) -> Option<Place> {
     match place {
         Place::Start(0) | Place::Empty => Some(Place::Start(0)),
@@ -74,7 +74,7 @@ fn behind_feed(place: Place) -> Option<Place> {
     }
 }
 
-/// The place behind a CR.
+/// Returns the place after a CR.
 fn behind_return(place: Place) -> Option<Place> {
     match place {
         Place::Start(0) => Some(Place::Empty),
@@ -84,7 +84,7 @@ fn behind_return(place: Place) -> Option<Place> {
     }
 }
 
-/// The place behind a byte; none where no head has it.
+/// Returns the place after a byte, or `None` if no head has it.
 fn next(place: Place, byte: u8) -> Option<Place> {
     match byte {
         b'\n' => behind_feed(place),
@@ -93,7 +93,7 @@ fn next(place: Place, byte: u8) -> Option<Place> {
     }
 }
 
-/// What a reply says.
+/// Returns what a reply says.
 pub(crate) fn plain_reply(text: &[u8]) -> ReplyRead {
     let mut place = Place::Start(0);
     let mut status: u16 = 0;

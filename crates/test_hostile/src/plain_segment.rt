@@ -1,25 +1,26 @@
-//! A plain reading of a page, by the words of the format alone: one fragment after the other, each checksum bit by bit.
+//! A plain reading of a page, by the text of the format alone: one fragment after the other, each
+//! checksum bit by bit.
 
 use rw_wal_tail::TailFault;
 
-/// How many of the known records stand in a page, and its fault.
+/// How many of the known records are in a page, and its fault.
 #[derive(Clone, Copy, PartialEq, Eq)]
 pub(crate) struct Reading {
     pub(crate) records: usize,
     pub(crate) fault: Option<TailFault>,
 }
 
-/// What stands at a fragment's place.
+/// What is at a fragment's place.
 #[derive(Clone, Copy)]
 enum Found<'a> {
     /// Nothing more, or what is not whole yet.
     Nothing,
     Fault(TailFault),
-    /// A fragment of this type, its data, and what stands behind it.
+    /// A fragment of this type, its data, and what follows it.
     Fragment(u8, &'a [u8], &'a [u8]),
 }
 
-/// The CRC-32C of bytes, bit by bit.
+/// Returns the CRC-32C of bytes, bit by bit.
 fn crc_of(bytes: &[u8]) -> u32 {
     let mut crc = u32::MAX;
     for byte in bytes {
@@ -35,7 +36,8 @@ fn crc_of(bytes: &[u8]) -> u32 {
     !crc
 }
 
-/// The fragment of a type whose header's other six bytes, and what follows them, are here, `at` bytes into its page.
+/// Returns the fragment of a type whose header's other six bytes, and what follows them, are here,
+/// `at` bytes into its page.
 fn fragment(kind: u8, behind: &[u8], at: usize) -> Found<'_> {
     if behind.len() < 6 {
         return Found::Nothing;
@@ -55,7 +57,7 @@ fn fragment(kind: u8, behind: &[u8], at: usize) -> Found<'_> {
     Found::Fragment(kind, data, rest)
 }
 
-/// Whether all bytes are 0.
+/// Returns whether all bytes are 0.
 pub(crate) fn are_zeros(bytes: &[u8]) -> bool {
     for byte in bytes {
         if *byte != 0 {
@@ -65,7 +67,7 @@ pub(crate) fn are_zeros(bytes: &[u8]) -> bool {
     true
 }
 
-/// What stands `at` bytes into a page.
+/// Returns what is `at` bytes into a page.
 fn found_at(text: &[u8], at: usize) -> Found<'_> {
     let Some((kind, behind)) = text.split_first() else {
         return Found::Nothing;
@@ -79,7 +81,7 @@ fn found_at(text: &[u8], at: usize) -> Found<'_> {
     }
 }
 
-/// Reads a page whose whole records are to be these, in this order.
+/// Reads a page whose whole records are expected to be these, in this order.
 pub(crate) fn plain_reading(page: &[u8], records: &[&[u8]]) -> Reading {
     let mut read = 0;
     let mut is_open = false;

@@ -1,5 +1,5 @@
-//! The machine's program where memory is refused. What takes memory is done again where it is refused, so the test holds whichever growth
-//! is refused; `tools/refuse-each` refuses each of them in turn.
+//! The machine's program if memory runs out. A call for which memory runs out is repeated, so the
+//! test holds whichever allocation fails; `tools/refuse-each` lets each of them fail in turn.
 
 use crate::rows::none_is_wrong;
 use rw_head::Limits;
@@ -11,8 +11,8 @@ use rw_types::Bounded;
 use rw_world::World;
 use std::alloc::{AllocError, Global};
 
-/// How many shards there are and how many labels the receiver takes, a schedule of which the first line is its log, the state behind an
-/// orderly shutdown, and the bytes of the first requests.
+/// How many shards there are and how many labels the receiver accepts, a schedule of which the
+/// first line is its log, the state after an orderly shutdown, and the bytes of the first requests.
 struct Row<'a> {
     shards: u64,
     labels: u64,
@@ -137,7 +137,7 @@ report complete 6
 "#,
         requests: &[],
     },
-    // All is left to the shutdown.
+    // Everything is left to the shutdown.
     Row {
         shards: 1,
         labels: 64,
@@ -151,7 +151,8 @@ report complete 3
     },
 ];
 
-/// A late reply to an earlier batch, of which the reply was lost and the request sent again, and a kill: the shutdown changes nothing then.
+/// A late reply to an earlier batch whose reply was lost and whose request was sent again, and a
+/// kill: the shutdown then changes nothing.
 static SENT: Row<'static> = Row {
     shards: 1,
     labels: 64,
@@ -210,7 +211,7 @@ fn new_world(alloc: Global, row: &Row<'_>) -> Option<World> {
     }
 }
 
-/// Puts the events among the lines of a script. Whether there was memory for all.
+/// Puts the events among the lines of a script. Returns whether there was memory for all.
 fn put_events(commands: Vec<Command>, events: &mut Vec<Event>) -> bool {
     for command in commands {
         if let Command::Event(event) = command {
@@ -250,7 +251,7 @@ fn put_work(text: &mut Vec<u8>, world: &World) -> Result<(), AllocError> {
     push_work(text, world.ledger(), world.filtered(), outcome.as_ref())
 }
 
-/// Puts the text of a world's state. Whether there was memory for it.
+/// Puts the text of a world's state. Returns whether there was memory for it.
 fn put_state(text: &mut Vec<u8>, world: &World) -> bool {
     put_received(text, world).is_ok() && put_work(text, world).is_ok()
 }
@@ -271,7 +272,7 @@ fn put_state_behind(alloc: Global, row: &Row<'_>, events: &[Event], text: &mut V
     }
 }
 
-/// Whether a world shows what a new one shows that is moved by events.
+/// Returns whether a world shows what a new one shows after the same events.
 fn shows_the_same(alloc: Global, world: &World, row: &Row<'_>, events: &[Event]) -> bool {
     let mut found = Vec::new(alloc);
     let mut wanted = Vec::new(alloc);
@@ -280,8 +281,8 @@ fn shows_the_same(alloc: Global, world: &World, row: &Row<'_>, events: &[Event])
         && found.as_slice() == wanted.as_slice()
 }
 
-/// Whether a world is moved by events. Where one is refused, it has to show what a world shows that is moved by the events before it, and
-/// to go on.
+/// Returns whether a world is moved by events. If one fails, it has to show what a world shows
+/// after the events before it, and to go on.
 fn is_moved(alloc: Global, world: &mut World, row: &Row<'_>, events: &[Event]) -> bool {
     let Err(refused) = world.run(events) else {
         return true;
@@ -290,7 +291,7 @@ fn is_moved(alloc: Global, world: &mut World, row: &Row<'_>, events: &[Event]) -
     shows_the_same(alloc, world, row, before) && world.run(rest).is_ok()
 }
 
-/// Whether the first requests that a world has sent have these bytes.
+/// Returns whether the first requests that a world has sent have these bytes.
 fn has_sent(world: &World, requests: &[&[u8]]) -> bool {
     for (k, bytes) in requests.iter().enumerate() {
         match world.request(k) {
@@ -301,7 +302,7 @@ fn has_sent(world: &World, requests: &[&[u8]]) -> bool {
     true
 }
 
-/// Whether a world goes through events and a shutdown to the state of its row.
+/// Returns whether a world goes through events and a shutdown to the state of its row.
 fn is_settled(alloc: Global, world: &mut World, row: &Row<'_>, events: &[Event]) -> bool {
     let mut text = Vec::new(alloc);
     is_moved(alloc, world, row, events)
@@ -311,7 +312,7 @@ fn is_settled(alloc: Global, world: &mut World, row: &Row<'_>, events: &[Event])
         && has_sent(world, row.requests)
 }
 
-/// Whether events and a shutdown lead a new world to the state of a row.
+/// Returns whether events and a shutdown lead a new world to the state of a row.
 fn goes(alloc: Global, row: &Row<'_>, events: &[Event]) -> bool {
     match new_world(alloc, row) {
         Some(mut world) => is_settled(alloc, &mut world, row, events),
@@ -319,7 +320,7 @@ fn goes(alloc: Global, row: &Row<'_>, events: &[Event]) -> bool {
     }
 }
 
-/// Whether a schedule leads to its state.
+/// Returns whether a schedule leads to its state.
 fn is_gone_through(alloc: Global, row: &Row<'_>) -> bool {
     let mut events = Vec::new(alloc);
     is_read(alloc, row.script, &mut events) && goes(alloc, row, &events)
@@ -329,7 +330,7 @@ fn rows() -> &'static [Row<'static>] {
     &ROWS
 }
 
-/// The first schedule that leads to another state.
+/// Returns the first schedule that leads to another state.
 fn wrong_row(alloc: Global, rows: &[Row<'_>]) -> Option<usize> {
     for (i, row) in rows.iter().enumerate() {
         if !is_gone_through(alloc, row) {
@@ -348,7 +349,8 @@ fn sent() -> &'static Row<'static> {
     &SENT
 }
 
-/// Several events are run by one call, and a request whose reply is lost is sent again with the same bytes.
+/// Several events are run by one call, and a request whose reply is lost is sent again with the
+/// same bytes.
 #[test]
 fn events_are_run(rt: HostRuntime) {
     assert!(rt; is_gone_through(rt.alloc(), sent()));

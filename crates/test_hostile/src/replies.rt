@@ -1,11 +1,12 @@
-//! Replies with each byte changed to each other value, and cut at each length. `rt try --test` is too slow for it.
+//! Replies with each byte changed to each other value, and cut at each length. `rt try --test` is
+//! too slow for it.
 
 use crate::changed::{Reader, wrong_byte};
 use crate::plain_reply::plain_reply;
 use crate::rows::none_is_wrong;
 use rw_shard_core::read_reply;
 
-/// One that comes behind another head.
+/// One that comes after another head.
 const CONTINUED: &[u8] =
     b"HTTP/1.1 100 Continue\r\n\r\nHTTP/1.1 204 No Content\r\nConnection: close\r\n\r\n";
 
@@ -13,7 +14,7 @@ const CONTINUED: &[u8] =
 const REFUSAL: &[u8] =
     b"HTTP/1.1 429 Too Many Requests\r\nRetry-After: 1\r\nContent-Length: 0\r\nConnection: close\r\n\r\n";
 
-/// Whether the bytes of a reply say what they are to say.
+/// Returns whether the bytes of a reply say what is expected.
 pub(crate) fn is_read(text: &[u8]) -> bool {
     read_reply(text) == plain_reply(text)
 }

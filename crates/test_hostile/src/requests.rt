@@ -1,4 +1,5 @@
-//! The sender's request with each byte changed to each value: the replies that each part of it may have then. `rt try --test` is too slow for it.
+//! The sender's request with each byte changed to each value, and the replies that may result for
+//! each part of it. `rt try --test` is too slow for it.
 
 use crate::bodies::one;
 use rw_endpoint::{ServeEnd, serve};
@@ -56,8 +57,8 @@ static REPLIES: [(&[u8], Outcome); 8] = [
     ),
 ];
 
-/// The parts of the head, and what becomes of the request where one of their bytes is another one. A line feed ends a line, so a CR that is one
-/// ends the head.
+/// The parts of the head, and what becomes of the request if one of their bytes is changed. A line
+/// feed ends a line, so a CR that becomes one ends the head.
 static PARTS: [(&[u8], &[Outcome]); 11] = [
     (b"POST ", &[OTHER_METHOD, BAD]),
     (b"/api/v1/write", &[NOT_FOUND, BAD]),
@@ -89,7 +90,8 @@ fn parts() -> &'static [(&'static [u8], &'static [Outcome])] {
     &PARTS
 }
 
-/// What became of a request, by the reply, the end and what the head then holds. None where these do not fit.
+/// Returns what became of a request, by the reply, the end and what the head then holds, or `None`
+/// if these do not fit.
 fn outcome_of(written: &[u8], end: ServeEnd, total: u64) -> Option<Outcome> {
     for (reply, outcome) in replies() {
         if *reply == written {
@@ -108,7 +110,7 @@ fn outcome_of(written: &[u8], end: ServeEnd, total: u64) -> Option<Outcome> {
     None
 }
 
-/// What becomes of a request to a head that holds nothing.
+/// Returns what becomes of a request to a head that holds nothing.
 fn served(alloc: Global, limits: &Limits, request: &[u8]) -> Option<Outcome> {
     let mut room = Room::new(alloc, 128).ok()?;
     let mut head = Head::new(alloc, limits);
@@ -117,7 +119,8 @@ fn served(alloc: Global, limits: &Limits, request: &[u8]) -> Option<Outcome> {
     outcome_of(room.as_slice(), end, head.total())
 }
 
-/// The first value of this byte of the head with which something else becomes of the request.
+/// Returns the first value of this byte of the head with which something else becomes of the
+/// request.
 fn wrong_value(
     alloc: Global,
     limits: &Limits,
@@ -141,7 +144,7 @@ fn wrong_value(
     None
 }
 
-/// The first byte of this part of the head that may not be another one.
+/// Returns the first byte of this part of the head whose change has another outcome.
 fn wrong_byte(
     alloc: Global,
     limits: &Limits,
@@ -184,19 +187,20 @@ fn each_byte_of_the_head_changed(rt: HostRuntime) {
     assert_eq!(rt; wrong_head(rt.alloc()), Ok(None));
 }
 
-/// What a head that holds nothing makes of a body.
+/// Returns what a head that holds nothing makes of a body.
 fn answer_to(alloc: Global, limits: &Limits, body: &[u8]) -> Outcome {
     let mut head = Head::new(alloc, limits);
     (head.answer(body), true)
 }
 
-/// Whether the reply to a request is the head's answer to its body, which begins at this byte.
+/// Returns whether the reply to a request is the head's answer to its body, which begins at this
+/// byte.
 fn is_answered(alloc: Global, limits: &Limits, request: &[u8], from: usize) -> bool {
     let (_, body) = request.split_at(from.min(request.len()));
     served(alloc, limits, request) == Some(answer_to(alloc, limits, body))
 }
 
-/// The first value of this byte with which the reply is another one.
+/// Returns the first value of this byte with which the reply differs.
 fn wrong_answer(
     alloc: Global,
     limits: &Limits,

@@ -1,4 +1,4 @@
-//! The assertion behind most tables.
+//! The assertion after most tables.
 
 use std::process::Abort;
 

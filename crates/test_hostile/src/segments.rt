@@ -14,7 +14,7 @@ static UP: [u8; 63] = [
     0, 0, 0x03, 0xe8, 0, 0, 0x3f, 0xf0, 0, 0, 0, 0, 0, 0,
 ];
 
-/// Whether this is the entry of the record of this number.
+/// Returns whether this is the entry of the record of this number.
 fn is_known(entry: &Entry, number: usize) -> bool {
     match entry {
         Entry::Def { reference, labels } => { number == 0 && *reference == 1 && labels.len() == 1 }
@@ -24,7 +24,7 @@ fn is_known(entry: &Entry, number: usize) -> bool {
     }
 }
 
-/// What a reader gives: each entry has to be that of the next record.
+/// Returns what a reader gives: each entry has to be that of the next record.
 fn given(tail: &mut Tail) -> Option<Reading> {
     for records in 0..=2usize {
         match tail.next_entry() {
@@ -47,7 +47,7 @@ fn up() -> &'static [u8; 63] {
     &UP
 }
 
-/// Whether a page is read as it is to be.
+/// Returns whether a page is read as expected.
 pub(crate) fn is_read(alloc: Global, page: &[u8]) -> bool {
     let mut tail = Tail::new(alloc);
     tail.feed(page).is_ok()

@@ -101,19 +101,19 @@ static ROWS: [Row; 45] = [
     Unsigned(&[255; 10], CodeFault::TooBig),
 ];
 
-/// Whether a number is written so, and then another byte behind it.
+/// Returns whether a number is written in this way, and then another byte after it.
 fn is_written(out: &mut Vec<u8>, n: u64, bytes: &[u8]) -> bool {
     out.clear();
     put_uvarint(out, n).is_ok() && out.as_slice() == bytes && out.push(7).is_ok()
 }
 
-/// The same of a signed number.
+/// Returns the same of a signed number.
 fn is_signed_written(out: &mut Vec<u8>, z: i64, bytes: &[u8]) -> bool {
     out.clear();
     put_varint(out, z).is_ok() && out.as_slice() == bytes && out.push(7).is_ok()
 }
 
-/// Whether each front of the form is too short.
+/// Returns whether each proper prefix of the form is too short.
 fn is_short_where_cut(bytes: &[u8]) -> bool {
     for end in 0..bytes.len() {
         if get_uvarint(&bytes[..end]) != Err(CodeFault::Short) {
@@ -123,7 +123,8 @@ fn is_short_where_cut(bytes: &[u8]) -> bool {
     true
 }
 
-/// Whether a row is so: a form is also read with another byte behind it, and too short in each of its fronts.
+/// Returns whether a row holds: a form is also read with another byte after it, and each of its
+/// proper prefixes is too short.
 fn is_so(out: &mut Vec<u8>, row: &Row) -> bool {
     match row {
         Crc(text, crc) => crc32c(text) == *crc,
@@ -154,7 +155,7 @@ fn texts_and_numbers(rt: HostRuntime) {
     none_is_wrong(&rt, wrong_row(&mut Vec::new(rt.alloc())));
 }
 
-/// Whether the number is written whole, or nothing where memory is refused.
+/// Returns whether the number is written whole, or nothing if memory runs out.
 fn is_whole_or_nothing(out: &mut Vec<u8>, n: u64, bytes: &[u8]) -> bool {
     let len = out.len();
     match put_uvarint(out, n) {
@@ -163,7 +164,7 @@ fn is_whole_or_nothing(out: &mut Vec<u8>, n: u64, bytes: &[u8]) -> bool {
     }
 }
 
-/// The same of the signed number -1.
+/// Returns the same of the signed number -1.
 fn is_signed_whole_or_nothing(out: &mut Vec<u8>) -> bool {
     let before = out.len();
     match put_varint(out, -1) {
@@ -183,7 +184,8 @@ fn half_written(out: &mut Vec<u8>) -> Option<usize> {
     None
 }
 
-/// Where memory runs out, what was written stays as it was. It shows when each allocation fails in turn.
+/// If memory runs out, what was written does not change. The test shows this when each allocation
+/// fails in turn.
 #[test]
 fn refused_memory_writes_nothing(rt: HostRuntime) {
     none_is_wrong(&rt, half_written(&mut Vec::new(rt.alloc())));

@@ -1,4 +1,4 @@
-//! Readers and writers that give little, fail in mid-stream or have too little room.
+//! Readers and writers that give few bytes, fail in mid-stream or have too little room.
 
 use crate::rows::holds;
 use rw_types::{Failed, ReadFault, Room, Sink, Source, Std, read_to_end, write_all};
@@ -36,7 +36,8 @@ impl Source for ByteByByte<'_> {
     }
 }
 
-/// A reader and writer of std that is interrupted at every other call, and takes one byte a call, up to its room.
+/// A reader and writer of std that is interrupted at every other call, and takes one byte a call,
+/// up to its room.
 #[derive(Drop)]
 struct Interrupting {
     room: usize,
@@ -93,7 +94,8 @@ fn with_room(room: usize) -> Std<Interrupting> {
     Std::new(Interrupting { room, turn: false })
 }
 
-/// Whether readers give these texts, one after the other into one, and each read ends as it is to.
+/// Returns whether readers give these texts, one after the other into one, and each read ends as
+/// expected.
 fn read_in_turn(alloc: Global) -> bool {
     let mut out = Vec::new(alloc);
     let whole = read_to_end(alloc, &mut b"whole".as_slice(), &mut out);
@@ -123,7 +125,7 @@ fn fills_its_room(alloc: Global) -> bool {
     }
 }
 
-/// Whether a room of seven bytes takes four of them, and no more then.
+/// Returns whether a room of seven bytes takes four of them, and then no more.
 fn takes_one_of_two(room: &mut Room) -> bool {
     let first = write_all(room, b"one ");
     let second = write_all(room, b"more");

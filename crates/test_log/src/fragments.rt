@@ -13,7 +13,7 @@ pub(crate) fn put_fragment(out: &mut Vec<u8>, kind: u8, data: &[u8]) -> Result<(
     out.extend_from_slice(data)
 }
 
-/// The record of the reference 1 as `{__name__="up"}`.
+/// Returns the record of the reference 1 as `{__name__="up"}`.
 pub(crate) fn up_record(alloc: Global) -> Result<Vec<u8>, AllocError> {
     let mut labels = RawLabels::new(alloc);
     match labels.push(b"__name__", b"up") {
@@ -22,7 +22,7 @@ pub(crate) fn up_record(alloc: Global) -> Result<Vec<u8>, AllocError> {
     }
 }
 
-/// Whether there is a record, and it is logged.
+/// Returns whether there is a record, and it is logged.
 pub(crate) fn is_logged(
     writer: &mut SegmentWriter<Room>,
     record: Result<Vec<u8>, AllocError>,

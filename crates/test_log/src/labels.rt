@@ -14,7 +14,7 @@ fn push_all(raw: &mut RawLabels, labels: Labels<'_>) -> Result<(), AllocError> {
     Ok(())
 }
 
-/// The names that are taken, labels, and the first fault of them, if there is one.
+/// The names that are accepted, labels, and the first fault of them, if there is one.
 static FAULTS: [(Names, Labels<'static>, Option<LabelFault>); 23] = [
     (Legacy, &[("", "1")], Some(LabelFault::EmptyName)),
     (Legacy, &[("9a", "1")], Some(LabelFault::BadName)),
@@ -45,7 +45,7 @@ static FAULTS: [(Names, Labels<'static>, Option<LabelFault>); 23] = [
         &[("b", ""), ("a", "1")],
         Some(LabelFault::EmptyValue),
     ),
-    // any name is taken
+    // any name is accepted
     (Utf8, &[("", "1")], Some(LabelFault::EmptyName)),
     (Utf8, &[("9a", "1")], None),
     (Utf8, &[("a:b", "1")], None),
@@ -84,7 +84,7 @@ fn fault(alloc: Global, labels: &RawLabels) -> Option<LabelFault> {
     LabelSet::check(alloc, labels).err()
 }
 
-/// The fault of labels where these names are taken. Want of memory is one too.
+/// Returns the fault of labels if these names are accepted. Out of memory is one too.
 fn fault_as(alloc: Global, names: Names, labels: Labels<'_>) -> Option<LabelFault> {
     let mut raw = RawLabels::new(alloc);
     match push_all(&mut raw, labels) {
@@ -102,7 +102,7 @@ fn wrong_fault(alloc: Global) -> Option<usize> {
     None
 }
 
-/// The fault of labels once these are added to them. Want of memory is one too.
+/// Returns the fault of labels once these are added to them. Out of memory is one too.
 fn fault_with(alloc: Global, labels: &mut RawLabels, more: Labels<'_>) -> Option<LabelFault> {
     match push_all(labels, more) {
         Ok(()) => fault(alloc, labels),
@@ -110,7 +110,7 @@ fn fault_with(alloc: Global, labels: &mut RawLabels, more: Labels<'_>) -> Option
     }
 }
 
-/// Whether a name that is empty, and a value that is no UTF-8, have this fault.
+/// Returns whether an empty name, and a value that is not UTF-8, have this fault.
 fn bytes_have(alloc: Global, first: LabelFault) -> bool {
     let mut bytes = RawLabels::new(alloc);
     bytes.push(b"", b"1").is_ok()
@@ -143,7 +143,7 @@ fn set_of(alloc: Global, labels: Labels<'_>) -> Result<LabelSet, LabelFault> {
     LabelSet::check(alloc, &raw)
 }
 
-/// Whether these labels are a label set, which has them.
+/// Returns whether these labels are a label set that holds them.
 fn is_set(alloc: Global, labels: Labels<'_>) -> bool {
     match set_of(alloc, labels) {
         Ok(set) => is_same(set.as_slice(), labels),
@@ -176,7 +176,8 @@ fn push_most(alloc: Global, labels: &mut RawLabels) -> Result<(), AllocError> {
 
 const TOO_MANY: Option<LabelFault> = Some(LabelFault::TooMany);
 
-/// Whether as many labels as there can be have no fault, one more has one, and another one that is not in order.
+/// Returns whether as many labels as there can be have no fault, one more has one, and another one
+/// that is not in order.
 fn judges_many(alloc: Global) -> bool {
     let mut labels = RawLabels::new(alloc);
     push_most(alloc, &mut labels).is_ok()
@@ -185,7 +186,8 @@ fn judges_many(alloc: Global) -> bool {
         && fault_with(alloc, &mut labels, &[("a", "1")]) == Some(LabelFault::NotSorted)
 }
 
-/// Whether a label of the most bytes has no fault, one more byte has one, and too many labels too.
+/// Returns whether a label of the most bytes has no fault, one more byte has one, and too many
+/// labels too.
 fn judges_longest(alloc: Global, longest: &[u8]) -> bool {
     let mut labels = RawLabels::new(alloc);
     labels.push(b"a", longest).is_ok()
@@ -195,7 +197,7 @@ fn judges_longest(alloc: Global, longest: &[u8]) -> bool {
         && fault(alloc, &labels) == TOO_MANY
 }
 
-/// The same; the name of the label is one byte.
+/// Returns the same; the name of the label is one byte.
 fn judges_long(alloc: Global) -> bool {
     match vec![in alloc; b'x'; MAX_LABEL_BYTES] {
         Ok(value) => judges_longest(alloc, &value[1..]),
@@ -203,7 +205,7 @@ fn judges_long(alloc: Global) -> bool {
     }
 }
 
-/// Faults by their numbers, and how they are told.
+/// Faults by their numbers, and their texts.
 static TOLD: [(LabelFault, &str); 7] = [
     (LabelFault::NotUtf8, "label fault 1: "),
     (LabelFault::EmptyName, "label fault 2: "),
@@ -217,7 +219,7 @@ static TOLD: [(LabelFault, &str); 7] = [
     ),
 ];
 
-/// The first fault that is told otherwise.
+/// Returns the first fault with another text.
 fn wrong_text(alloc: Global) -> Option<usize> {
     for (i, (fault, begins)) in TOLD.iter().enumerate() {
         let is_so = match format!(in alloc; "{fault}") {
@@ -238,7 +240,7 @@ fn limits(rt: HostRuntime) {
     holds(&rt, judges_long(rt.alloc()));
 }
 
-/// The first of the sets that is not ordered beside this one as their places are.
+/// Returns the first of the sets that is not ordered relative to this one as their indexes are.
 fn wrong_beside(alloc: Global, a: &LabelSet, i: usize) -> Option<usize> {
     for (j, labels) in RISING.iter().enumerate() {
         let is_so = match set_of(alloc, labels) {

@@ -1,4 +1,5 @@
-//! Tests of the lowest layer: histories, words, labels, devices, the codes of a log, its reader and its writer, and messages.
+//! Tests of the lowest layer: histories, words, labels, devices, the codes of a log, its reader and
+//! its writer, and messages.
 #![tactic(auto)]
 
 #[cfg(test)]

@@ -4,7 +4,7 @@ use rw_types::Word;
 use rw_write_request::{Message, Series, WireFault, decode};
 use std::alloc::Global;
 
-/// The number of the fault, and 0 for a message.
+/// Returns the number of the fault, and 0 for a message.
 fn answer(alloc: Global, bytes: &[u8]) -> u8 {
     match decode(alloc, bytes) {
         Ok(_) => 0,
@@ -13,7 +13,7 @@ fn answer(alloc: Global, bytes: &[u8]) -> u8 {
     }
 }
 
-/// Whether a series is `up` with the value 1 at 1000 ms.
+/// Returns whether a series is `up` with the value 1 at 1000 ms.
 fn is_one(series: &Series) -> bool {
     let [(name, value)] = series.labels.as_slice() else {
         return false;
@@ -27,7 +27,8 @@ fn is_one(series: &Series) -> bool {
         && *timestamp == 1000
 }
 
-/// Whether the series of a message are such, so many of them; no, where there is no message.
+/// Returns whether a message consists of this many such series. The answer is no if there is no
+/// message.
 fn has_ones(message: Result<Message, WireFault>, count: usize) -> bool {
     let Ok(message) = message else {
         return false;
@@ -81,7 +82,7 @@ static SPELLINGS: [(&[u8], &[u8]); 6] = [
     ),
 ];
 
-/// Whether a text is read, and then spelled so.
+/// Returns whether a text is read, and then has this spelling.
 fn is_respelled(alloc: Global, text: &[u8], canonical: &[u8]) -> bool {
     match decode(alloc, text) {
         Ok(message) => is_spelled(alloc, &message, canonical),
@@ -98,7 +99,7 @@ fn wrong_spelling(alloc: Global) -> Option<usize> {
     None
 }
 
-/// Whether `ONE` is read of another front with the rest of `ONE` behind it.
+/// Returns whether `ONE` is read of another front with the rest of `ONE` after it.
 fn is_one_behind(alloc: Global, front: &[u8], rest: &[u8]) -> bool {
     let mut text = Vec::new(alloc);
     text.extend_from_slice(front).is_ok()
@@ -139,7 +140,8 @@ static FAULTS: [(&[u8], u8); 14] = [
     // nine bytes of a tag that goes on, and ten
     (&[0xff; 9], 1),
     (&[0xff; 10], 2),
-    // a name that is not UTF-8: alone, before one that is, before a fault of the message, and one that is UTF-8
+    // a name that is not UTF-8: alone, before one that is, before a fault of the message, and one
+    // that is UTF-8
     (&[0x0a, 0x05, 0x0a, 0x03, 0x0a, 0x01, 0xc3], 6),
     (
         &[0x0a, 0x08, 0x0a, 0x06, 0x0a, 0x01, 0xff, 0x0a, 0x01, 0x61],
@@ -179,7 +181,7 @@ fn fronts_are_truncated(rt: HostRuntime) {
     none_is_wrong(&rt, whole_front(rt.alloc()));
 }
 
-/// Counts the answers to the texts that differ from `ONE` in the byte at this place.
+/// Counts the results for the texts that differ from `ONE` in the byte at this place.
 fn count_changes(alloc: Global, counts: &mut [u32; 10], i: usize) {
     let mut bytes = ONE;
     for byte in 0..=255u8 {
@@ -191,7 +193,7 @@ fn count_changes(alloc: Global, counts: &mut [u32; 10], i: usize) {
     }
 }
 
-/// How many of the texts that differ from `ONE` in one byte get each answer.
+/// Returns how many of the texts that differ from `ONE` in one byte get each result.
 fn counts_of_changes(alloc: Global) -> [u32; 10] {
     let mut counts = [0u32; 10];
     for i in 0..32usize {

@@ -13,7 +13,8 @@ fn put_sample(out: &mut Vec<u8>, word: u64, timestamp: i64) -> Result<(), AllocE
     Ok(())
 }
 
-/// Whether the message that is read of `ONE`, which `a_message_is_read` looks at, is spelled so, and as long as it is said to be.
+/// Returns whether the message that is read of `ONE`, which `a_message_is_read` looks at, has this
+/// spelling and this length.
 fn is_one(alloc: Global) -> bool {
     match decode(alloc, &ONE) {
         Ok(message) => is_spelled(alloc, &message, &ONE) && encoded_len(&message) == Some(32),
@@ -59,7 +60,7 @@ static SAMPLES: [(u64, i64, &[u8]); 6] = [
     ),
 ];
 
-/// Whether a sample has this field.
+/// Returns whether a sample has this field.
 fn is_field_of(field: &mut Vec<u8>, word: u64, timestamp: i64, expected: &[u8]) -> bool {
     field.clear();
     put_sample(field, word, timestamp).is_ok() && field.as_slice() == expected
@@ -79,7 +80,7 @@ fn samples_are_spelled(rt: HostRuntime) {
     none_is_wrong(&rt, wrong_sample(&mut Vec::new(rt.alloc())));
 }
 
-/// Whether a series has its parts, which are as long as they are said to be.
+/// Returns whether a series has its parts, with the lengths that the calls return.
 fn has_parts(alloc: Global) -> bool {
     if label_field_len("__name__", "up") != Some(16) || bytes_field_len(30) != Some(32) {
         return false;
@@ -92,7 +93,7 @@ fn has_parts(alloc: Global) -> bool {
     put_sample(&mut bytes, WORD_OF_ONE, 1000).is_ok() && bytes.as_slice() == ONE.as_slice()
 }
 
-/// A series as one who knows its parts writes it.
+/// A series is written by a caller who knows its parts.
 #[test]
 fn a_series_is_made_in_parts(rt: HostRuntime) {
     holds(&rt, has_parts(rt.alloc()));

@@ -1,6 +1,7 @@
-//! What happens where memory is refused. Each test takes memory in the two calls alone, so it can be run with each
-//! allocation refused in turn: the refused call says so, and the next one answers as if nothing had happened. What is no
-//! message is refused for its first fault whatever memory is refused.
+//! What happens if memory runs out. Each test takes memory in the two calls alone, so it can be run
+//! with each allocation failing in turn: the failed call says so, and the next one answers as if
+//! nothing had happened. Bytes that are not a message are refused for their first fault whatever
+//! allocation fails.
 
 use crate::message_rows::{ONE, is_spelled};
 use crate::rows::holds;
@@ -21,14 +22,14 @@ fn is_there_and_back(alloc: Global) -> bool {
     }
 }
 
-/// The message, and a field behind it that is cut off.
+/// The message, and a field after it that is cut off.
 const CUT: [u8; 33] = [
     0x0a, 0x1e, 0x0a, 0x0e, 0x0a, 0x08, 0x5f, 0x5f, 0x6e, 0x61, 0x6d, 0x65, 0x5f, 0x5f, 0x12, 0x02,
     0x75, 0x70, 0x12, 0x0c, 0x09, 0x00, 0x00, 0x00, 0x00, 0x00, 0x00, 0xf0, 0x3f, 0x10, 0xe8, 0x07,
     0x0a,
 ];
 
-/// Whether bytes that are cut off are found to be, at the first call.
+/// Returns whether bytes that are cut off are found to be, at the first call.
 fn is_truncated(alloc: Global, bytes: &[u8]) -> bool {
     decode(alloc, bytes).err() == Some(WireFault::Truncated)
         && check_message(bytes) == Err(WireFault::Truncated)

@@ -12,7 +12,7 @@ pub const ONE: [u8; 32] = [
 /// The word of 1.
 pub const WORD_OF_ONE: u64 = 0x3ff0_0000_0000_0000;
 
-/// The message's canonical spelling. Where memory is refused it is spelled again.
+/// Returns the message's canonical spelling. If memory runs out, it is spelled again.
 fn encoded(alloc: Global, message: &Message) -> Result<Vec<u8>, AllocError> {
     match encode(alloc, message) {
         Err(_) => encode(alloc, message),
@@ -20,7 +20,7 @@ fn encoded(alloc: Global, message: &Message) -> Result<Vec<u8>, AllocError> {
     }
 }
 
-/// Whether these bytes are the message's canonical spelling.
+/// Returns whether these bytes are the message's canonical spelling.
 pub fn is_spelled(alloc: Global, message: &Message, bytes: &[u8]) -> bool {
     match encoded(alloc, message) {
         Ok(found) => found.as_slice() == bytes,

@@ -1,11 +1,12 @@
-//! The reader that follows a log: rows of the format, whole, in pieces, changed, and with memory refused.
+//! The reader that follows a log: rows of the format, whole, in pieces, changed, and with failing
+//! allocations.
 
 use crate::fragments::{is_logged, put_fragment, up_record};
 use crate::rows::{holds, none_is_wrong};
 use End::{All, Place};
 use Piece::{Bytes, Next, Up};
 use rw_types::{Entry, Room, Word};
-use rw_wal_tail::{FaultPlace, Tail, TailFault};
+use rw_wal_tail::{FaultPlace, SkippedType, Tail, TailFault};
 use rw_wal_write::{SegmentWriter, sample_record};
 use std::alloc::{AllocError, Global};
 
@@ -16,7 +17,7 @@ pub(crate) const UP: [u8; 63] = [
     0, 0, 0x03, 0xe8, 0, 0, 0x3f, 0xf0, 0, 0, 0, 0, 0, 0,
 ];
 
-/// What a reader gave, and how it ended.
+/// What a reader returned, and how it ended.
 #[derive(Clone, Copy, PartialEq, Eq)]
 struct Seen {
     definitions: u64,
@@ -69,7 +70,7 @@ impl Seen {
         }
     }
 
-    /// Reads on to where no entry comes. A call that memory was refused to is made again.
+    /// Reads on until no entry comes. A call for which memory ran out is made again.
     fn read(&mut self, tail: &mut Tail) {
         for _ in 0..100_000u32 {
             match tail.next_entry() {
@@ -97,18 +98,19 @@ impl Seen {
     }
 }
 
-/// Feeds a piece, a second time where memory was refused: so where an allocation fails, each in turn, the same is read.
+/// Feeds a piece, a second time if memory ran out: so if an allocation fails, each in turn, the
+/// same is read.
 fn is_fed(tail: &mut Tail, piece: &[u8]) -> bool {
     tail.feed(piece).is_ok() || tail.feed(piece).is_ok()
 }
 
-/// A fragment of this kind with so many bytes 3, which begin a record of another type.
+/// Puts a fragment of this kind with `len` bytes 3, which begin a record of another type.
 fn put_filler(out: &mut Vec<u8>, kind: u8, len: usize) -> Result<(), AllocError> {
     let data = vec![in *out.allocator(); 3u8; len]?;
     put_fragment(out, kind, &data)
 }
 
-/// Whether a reader gives this of a front, and all of both then.
+/// Returns whether a reader returns this for a prefix, and then everything for both parts.
 fn reads_in_two(alloc: Global, front: &[u8], back: &[u8], first: Seen) -> bool {
     let mut tail = Tail::new(alloc);
     let mut seen = NOTHING;
@@ -118,7 +120,7 @@ fn reads_in_two(alloc: Global, front: &[u8], back: &[u8], first: Seen) -> bool {
     is_so && seen == BOTH
 }
 
-/// What is read of a front of so many bytes.
+/// Returns what is read of a prefix of `cut` bytes.
 fn of_front(cut: usize) -> Seen {
     match cut {
         0..29 => NOTHING,
@@ -142,7 +144,7 @@ fn cut_anywhere(rt: HostRuntime) {
     none_is_wrong(&rt, wrong_cut(rt.alloc()));
 }
 
-/// Feeds pieces of so many bytes, and reads behind each of them.
+/// Feeds pieces of `size` bytes, and reads after each of them.
 fn feed_by(tail: &mut Tail, text: &[u8], size: usize) -> Seen {
     let mut seen = NOTHING;
     for piece in text.chunks(size.max(1)) {
@@ -151,7 +153,8 @@ fn feed_by(tail: &mut Tail, text: &[u8], size: usize) -> Seen {
     seen
 }
 
-/// Whether a text in pieces of so many bytes gives this, and so many entries are read and skipped.
+/// Returns whether a text in pieces of `size` bytes gives this, and this many entries are read and
+/// skipped.
 fn reads_all(alloc: Global, text: &[u8], size: usize, all: Seen, read: u64, skipped: u64) -> bool {
     let mut tail = Tail::new(alloc);
     let seen = feed_by(&mut tail, text, size);
@@ -163,7 +166,7 @@ fn byte_by_byte(rt: HostRuntime) {
     holds(&rt, reads_all(rt.alloc(), &UP, 1, BOTH, 2, 0));
 }
 
-/// What a copy of a reader has given in all once the copy is fed another piece.
+/// Returns what a copy of a reader has returned in all once the copy is fed another piece.
 fn read_by_copy(tail: &Tail, seen: Seen, piece: &[u8]) -> Option<Seen> {
     let mut copy = tail.copy().ok()?;
     let mut all = seen;
@@ -171,7 +174,7 @@ fn read_by_copy(tail: &Tail, seen: Seen, piece: &[u8]) -> Option<Seen> {
     Some(all)
 }
 
-/// Whether a copy gives the rest, the reader does not without it, and does with it.
+/// Returns whether a copy returns the rest, the reader does not without it, and does with it.
 fn reads_beside_copy(alloc: Global) -> bool {
     let mut tail = Tail::new(alloc);
     let (front, back) = UP.split_at(40);
@@ -189,7 +192,7 @@ fn copy_reads_on_by_itself(rt: HostRuntime) {
     holds(&rt, reads_beside_copy(rt.alloc()));
 }
 
-/// What is there once a byte has another value.
+/// Returns what is seen once a byte has another value.
 fn changed(at: usize, value: u8) -> Seen {
     let before = if at < 29 { NOTHING } else { DEFINITION };
     match (at, value) {
@@ -206,7 +209,7 @@ fn changed(at: usize, value: u8) -> Seen {
     }
 }
 
-/// Whether the text with this byte changed is read as it should be.
+/// Returns whether the text with this byte changed is read as it should be.
 fn is_as_changed(alloc: Global, text: &[u8], at: usize, value: u8) -> bool {
     let mut tail = Tail::new(alloc);
     let mut seen = NOTHING;
@@ -214,7 +217,7 @@ fn is_as_changed(alloc: Global, text: &[u8], at: usize, value: u8) -> bool {
     seen == changed(at, value)
 }
 
-/// The first value of the byte at this place that is read otherwise.
+/// Returns the first value of the byte at this place that is read differently.
 fn wrong_value(alloc: Global, at: usize) -> Option<u8> {
     let mut text = UP;
     for value in 0..=255u8 {
@@ -240,7 +243,7 @@ fn each_byte_changed(rt: HostRuntime) {
     none_is_wrong(&rt, wrong_change(rt.alloc()));
 }
 
-/// Whether each of the next calls answers this fault, whatever is fed between them.
+/// Returns whether each of the next calls returns this fault, whatever is fed between them.
 fn answers_only(tail: &mut Tail, fault: TailFault) -> bool {
     for _ in 0..3u32 {
         match tail.next_entry() {
@@ -254,7 +257,7 @@ fn answers_only(tail: &mut Tail, fault: TailFault) -> bool {
     true
 }
 
-/// Whether `UP` with its last byte changed gives its definition, and then nothing but this fault.
+/// Returns whether `UP` with its last byte changed gives its definition, and then only this fault.
 fn repeats_its_fault(alloc: Global, fault: TailFault) -> bool {
     let mut text = UP;
     text[62] = 1;
@@ -269,7 +272,7 @@ fn a_wrong_crc_is_the_answer_of_each_later_call(rt: HostRuntime) {
     holds(&rt, repeats_its_fault(rt.alloc(), TailFault::BadCrc));
 }
 
-/// A fragment of a record that is not of its form.
+/// A fragment of a malformed record.
 const BAD_RECORD: &[u8] = &[
     1, 0, 19, 0x7e, 0xa6, 0xff, 0x1a, 1, 0, 0, 0, 0, 0, 0, 0, 1, 255, 255, 255, 255, 255, 255, 255,
     255, 255, 1,
@@ -290,7 +293,7 @@ static FAULTS: [(&[u8], TailFault); 8] = [
     (BAD_RECORD, TailFault::BadRecord),
 ];
 
-/// Feeds a text byte by byte. Whether anything is read before the last of them.
+/// Feeds a text byte by byte, and returns whether anything is read before the last of them.
 fn feed_bytes(seen: &mut Seen, tail: &mut Tail, text: &[u8]) -> bool {
     let mut is_early = false;
     for byte in text {
@@ -300,7 +303,7 @@ fn feed_bytes(seen: &mut Seen, tail: &mut Tail, text: &[u8]) -> bool {
     is_early
 }
 
-/// Whether the fault comes with the last byte and not before, and stays.
+/// Returns whether the fault comes with the last byte and not before, and stays.
 fn is_fault_at_once(alloc: Global, text: &[u8], fault: TailFault) -> bool {
     let mut tail = Tail::new(alloc);
     let mut seen = NOTHING;
@@ -335,11 +338,11 @@ enum Piece {
     Next,
 }
 
-/// What is seen at last.
+/// What is seen at the end.
 enum End {
-    /// This, where it is read at last.
+    /// This, if it is read at the end.
     All(Seen),
-    /// The segment and the offset of a fault, where it is also read behind each piece.
+    /// The segment and the offset of a fault, if it is also read after each piece.
     Place(Option<(u64, u64)>),
 }
 
@@ -385,7 +388,7 @@ static ENDS: [(&[Piece], End); 11] = [
     (&[Up(0, 63), OPENING, Next, Up(0, 63)], Place(Some((0, 70)))),
 ];
 
-/// Gives a piece. No, where memory is refused.
+/// Feeds a piece. The answer is no if memory runs out.
 fn is_given(tail: &mut Tail, piece: &Piece) -> bool {
     match piece {
         Up(from, to) => match UP.get(*from..*to) {
@@ -400,7 +403,7 @@ fn is_given(tail: &mut Tail, piece: &Piece) -> bool {
     }
 }
 
-/// Gives pieces, and reads behind each of them if it is to.
+/// Feeds pieces, and reads after each of them if asked to.
 fn are_given(tail: &mut Tail, seen: &mut Seen, pieces: &[Piece], reads: bool) -> bool {
     for piece in pieces {
         if !is_given(tail, piece) {
@@ -413,7 +416,7 @@ fn are_given(tail: &mut Tail, seen: &mut Seen, pieces: &[Piece], reads: bool) ->
     true
 }
 
-/// The segment and the offset of the fault, if there is one.
+/// Returns the segment and the offset of the fault, if there is one.
 fn place_of(tail: &Tail) -> Option<(u64, u64)> {
     match tail.fault_place() {
         Some(FaultPlace { segment, offset }) => Some((segment, offset)),
@@ -421,7 +424,7 @@ fn place_of(tail: &Tail) -> Option<(u64, u64)> {
     }
 }
 
-/// Whether this is seen of pieces.
+/// Returns whether this is seen of pieces.
 fn is_seen(alloc: Global, pieces: &[Piece], end: &End) -> bool {
     let mut tail = Tail::new(alloc);
     let mut seen = NOTHING;
@@ -449,7 +452,8 @@ fn ends_of_segments_and_places_of_faults(rt: HostRuntime) {
     none_is_wrong(&rt, wrong_end(rt.alloc()));
 }
 
-/// A filler of so many bytes, and the end of its page. With seven bytes left a fragment without data stands there, with six zeros.
+/// A filler of this many bytes, and the end of its page. With seven bytes left there is a fragment
+/// without data, with six there are zeros.
 static PAGES: [(usize, &[u8]); 2] = [
     (
         32_754,
@@ -461,14 +465,14 @@ static PAGES: [(usize, &[u8]); 2] = [
     ),
 ];
 
-/// A filler of so many bytes, this end of its page, and the two records.
+/// Puts a filler of `filler` bytes, this end of its page, and the two records.
 fn put_page(text: &mut Vec<u8>, filler: usize, end: &[u8]) -> Result<(), AllocError> {
     put_filler(text, 1, filler)?;
     text.extend_from_slice(end)?;
     text.extend_from_slice(&UP)
 }
 
-/// Whether both records are read of such a page, and the filler is skipped.
+/// Returns whether both records are read of such a page, and the filler is skipped.
 fn is_page_read(alloc: Global, filler: usize, end: &[u8]) -> bool {
     let mut text = Vec::new(alloc);
     put_page(&mut text, filler, end).is_ok() && reads_all(alloc, &text, text.len(), BOTH, 2, 1)
@@ -488,7 +492,7 @@ fn ends_of_pages(rt: HostRuntime) {
     none_is_wrong(&rt, wrong_page(rt.alloc()));
 }
 
-/// A record of 7,000 samples.
+/// Puts a record of 7,000 samples.
 fn put_long_record(record: &mut Vec<u8>) -> Result<(), AllocError> {
     record.extend_from_slice(&UP[36..53])?;
     for _ in 0..7_000u32 {
@@ -497,7 +501,7 @@ fn put_long_record(record: &mut Vec<u8>) -> Result<(), AllocError> {
     Ok(())
 }
 
-/// A record in fragments of three pages, and zeros.
+/// Puts a record in fragments of three pages, and zeros.
 fn put_pages(text: &mut Vec<u8>, record: &[u8]) -> Result<(), AllocError> {
     for (kind, data) in [2u8, 3, 4].iter().zip(record.chunks(32_761)) {
         put_fragment(text, *kind, data)?;
@@ -513,7 +517,7 @@ const LONG: Seen = Seen {
     end: None,
 };
 
-/// Whether the record is read of its pages.
+/// Returns whether the record is read of its pages.
 fn is_long_record_read(alloc: Global) -> bool {
     let mut record = Vec::new(alloc);
     let mut text = Vec::new(alloc);
@@ -527,7 +531,7 @@ fn a_record_over_three_pages(rt: HostRuntime) {
     holds(&rt, is_long_record_read(rt.alloc()));
 }
 
-/// Whether a definition, a record of another type, two samples and no sample are logged.
+/// Returns whether a definition, a record of another type, two samples and no sample are logged.
 fn are_logged(alloc: Global, writer: &mut SegmentWriter<Room>) -> bool {
     let samples = [(1, 1000, Word(5)), (3, 990, Word(7))];
     is_logged(writer, up_record(alloc))
@@ -544,7 +548,7 @@ const WRITTEN: Seen = Seen {
     end: None,
 };
 
-/// Whether these records are read of their segment.
+/// Returns whether these records are read of their segment.
 fn is_written_read(alloc: Global) -> bool {
     let Ok(room) = Room::new(alloc, 1000) else {
         return false;
@@ -560,7 +564,8 @@ fn what_was_written_is_read(rt: HostRuntime) {
     holds(&rt, is_written_read(rt.alloc()));
 }
 
-/// Whether the fault is here of a segment whose first page is a fragment of this kind, and whose second page begins so.
+/// Returns whether the fault is here in a segment whose first page is a fragment of this kind, and
+/// whose second page begins in this way.
 fn is_place_past_page(alloc: Global, kind: u8, next: &[u8], offset: u64) -> bool {
     let mut text = Vec::new(alloc);
     let mut tail = Tail::new(alloc);
@@ -572,7 +577,8 @@ fn is_place_past_page(alloc: Global, kind: u8, next: &[u8], offset: u64) -> bool
     place_of(&tail) == Some((0, offset))
 }
 
-/// The second record of the page has another CRC, and so has the end of the record that began on the first page.
+/// The second record of the page has another CRC, and so has the end of the record that began on
+/// the first page.
 #[test]
 fn places_of_faults_past_a_page(rt: HostRuntime) {
     let mut damaged = UP;
@@ -580,4 +586,70 @@ fn places_of_faults_past_a_page(rt: HostRuntime) {
     holds(&rt, is_place_past_page(rt.alloc(), 1, &damaged, 32_797));
     let end = [4, 0, 1, 0, 0, 0, 0, 2];
     holds(&rt, is_place_past_page(rt.alloc(), 2, &end, 32_768));
+}
+
+/// Puts a record of each type up to 12, an empty one, and two more of histograms.
+fn put_skipped(text: &mut Vec<u8>) -> Result<(), AllocError> {
+    for kind in 0..=12u8 {
+        put_fragment(text, 1, &[kind])?;
+    }
+    put_fragment(text, 1, &[])?;
+    put_fragment(text, 1, &[7, 1, 2])?;
+    put_fragment(text, 1, &[7, 9])
+}
+
+/// Returns how many records of each type a reader has skipped.
+fn counts(tail: &Tail) -> [u64; 9] {
+    [
+        tail.skipped_of(SkippedType::Unknown),
+        tail.skipped_of(SkippedType::Tombstones),
+        tail.skipped_of(SkippedType::Exemplars),
+        tail.skipped_of(SkippedType::MmapMarkers),
+        tail.skipped_of(SkippedType::Metadata),
+        tail.skipped_of(SkippedType::Histograms),
+        tail.skipped_of(SkippedType::FloatHistograms),
+        tail.skipped_of(SkippedType::CustomHistograms),
+        tail.skipped_of(SkippedType::CustomFloatHistograms),
+    ]
+}
+
+/// Whether a reader counts these records by type, once it has read to their end, and so does its
+/// copy.
+fn are_counted_by_type(alloc: Global) -> bool {
+    let mut text = Vec::new(alloc);
+    if put_skipped(&mut text).is_err() {
+        return false;
+    }
+    let mut tail = Tail::new(alloc);
+    if !is_fed(&mut tail, &text) || counts(&tail) != [0; 9] {
+        return false;
+    }
+    let mut seen = NOTHING;
+    seen.read(&mut tail);
+    let Ok(copy) = tail.copy() else {
+        return false;
+    };
+    let wanted = [4, 1, 1, 1, 1, 3, 1, 1, 1];
+    seen == NOTHING && tail.skipped() == 14 && counts(&tail) == wanted && counts(&copy) == wanted
+}
+
+#[test]
+fn records_that_are_passed_over_are_counted_by_type(rt: HostRuntime) {
+    holds(&rt, are_counted_by_type(rt.alloc()));
+}
+
+/// The first byte whose type has another number than the byte, or 0 if it is not from 3 to 10.
+fn wrong_number() -> Option<usize> {
+    for byte in 0..=255u8 {
+        let wanted = if byte >= 3 && byte <= 10 { byte } else { 0 };
+        if SkippedType::from_byte(byte).number() != wanted {
+            return Some(byte as usize);
+        }
+    }
+    None
+}
+
+#[test]
+fn types_of_records_have_their_bytes(rt: HostRuntime) {
+    none_is_wrong(&rt, wrong_number());
 }

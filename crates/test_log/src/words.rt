@@ -17,7 +17,7 @@ static WORDS: [(i64, u64); 7] = [
 
 static WITHOUT_WORD: [i64; 4] = [TWO_TO_53 + 1, -TWO_TO_53 - 1, i64::MAX, i64::MIN];
 
-/// Minus zero, a half, 2^53 + 2, infinity, a number that is none.
+/// Minus zero, a half, 2^53 + 2, infinity, and NaN.
 static NO_WHOLE_NUMBERS: [u64; 5] = [
     0x8000_0000_0000_0000,
     0x3fe0_0000_0000_0000,

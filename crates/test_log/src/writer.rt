@@ -9,16 +9,16 @@ use rw_types::{Failed, Room, Sink, Word};
 use rw_wal_write::{LogFault, SegmentWriter, sample_record};
 use std::alloc::{AllocError, Global};
 
-/// What stands in a segment.
+/// What is in a segment.
 enum Expected {
-    /// A fragment of this type, whose data are so many times this byte.
+    /// A fragment of this type, whose data are this byte, this many times.
     Fragment(u8, u8, usize),
     Zeros(usize),
 }
 
 use Expected::{Fragment, Zeros};
 
-/// A run of so many times a byte.
+/// Returns a run of `len` times a byte.
 fn run_of(alloc: Global, byte: u8, len: usize) -> Result<Vec<u8>, AllocError> {
     vec![in alloc; byte; len]
 }
@@ -44,7 +44,7 @@ fn put_all_expected(
 /// The most bytes that a failing device takes at a write.
 const MOST: usize = 8_192;
 
-/// Takes a few bytes at each write, and fails at one of them and then for good.
+/// Takes a few bytes at each write, and fails at one of them and then permanently.
 #[derive(Drop)]
 struct FailingAt {
     taken: Vec<u8>,
@@ -78,7 +78,7 @@ impl Sink for FailingAt {
     }
 }
 
-/// Whether a record of so many times this byte is answered so.
+/// Returns whether logging a record of `len` times this byte has this result.
 fn logs<W: Sink>(
     alloc: Global,
     writer: &mut SegmentWriter<W>,
@@ -92,10 +92,10 @@ fn logs<W: Sink>(
     }
 }
 
-/// A run that is logged, the answer, and where the writer then stands.
+/// A run that is logged, the result, and where the writer then is.
 type Step = (u8, usize, Result<(), LogFault>, usize);
 
-/// The first step that goes otherwise.
+/// Returns the first step that differs.
 fn wrong_step(alloc: Global, writer: &mut SegmentWriter<Room>, steps: &[Step]) -> Option<usize> {
     for (i, (byte, len, want, offset)) in steps.iter().enumerate() {
         if !logs(alloc, writer, *byte, *len, *want) || writer.offset() != *offset {
@@ -105,7 +105,7 @@ fn wrong_step(alloc: Global, writer: &mut SegmentWriter<Room>, steps: &[Step]) -
     None
 }
 
-/// Whether each of these runs is logged.
+/// Returns whether each of these runs is logged.
 fn are_logged(alloc: Global, writer: &mut SegmentWriter<Room>, runs: &[(u8, usize)]) -> bool {
     for (byte, len) in runs {
         if !logs(alloc, writer, *byte, *len, Ok(())) {
@@ -115,7 +115,8 @@ fn are_logged(alloc: Global, writer: &mut SegmentWriter<Room>, runs: &[(u8, usiz
     true
 }
 
-/// The segment of such runs, which have room in three pages. Nothing, where one is not logged.
+/// Returns the segment of such runs, which have room in three pages, or nothing if one is not
+/// logged.
 fn segment_of(alloc: Global, runs: &[(u8, usize)]) -> Vec<u8> {
     let Ok(room) = Room::new(alloc, 98_304) else {
         return Vec::new(alloc);
@@ -129,7 +130,7 @@ fn segment_of(alloc: Global, runs: &[(u8, usize)]) -> Vec<u8> {
     segment
 }
 
-/// Whether the segment of such runs is so long, and ends so.
+/// Returns whether the segment of such runs has this length and this end.
 fn ends_with(alloc: Global, runs: &[(u8, usize)], len: usize, end: &[u8]) -> bool {
     let segment = segment_of(alloc, runs);
     segment.len() == len && segment.as_slice().ends_with(end)
@@ -218,7 +219,7 @@ static TWO_PAGES: [Step; 2] = [
     (3, 65_522, Ok(()), 65_536),
 ];
 
-/// The first step that goes otherwise in a segment of so many pages, for which there is room.
+/// Returns the first step that differs in a segment of this many pages, for which there is room.
 fn wrong_step_in(alloc: Global, room: usize, pages: usize, steps: &[Step]) -> Option<usize>
     requires some { 0 < pages }
     requires most { pages ≤ 4096 }
@@ -235,13 +236,13 @@ fn refuses_what_has_no_room(rt: HostRuntime) {
     none_is_wrong(&rt, wrong_step_in(rt.alloc(), 65_536, 2, &TWO_PAGES));
 }
 
-/// The record of one sample.
+/// Returns the record of one sample.
 fn one_record(alloc: Global) -> Result<Vec<u8>, AllocError> {
     let one = Word::of_int(1).unwrap_or(Word(0));
     sample_record(alloc, &[(1, 1_000, one)])
 }
 
-/// Whether there is a record, and it has these bytes.
+/// Returns whether there is a record, and it has these bytes.
 fn is_spelled(record: Result<Vec<u8>, AllocError>, bytes: &[u8]) -> bool {
     match record {
         Ok(record) => record.as_slice() == bytes,
@@ -249,7 +250,7 @@ fn is_spelled(record: Result<Vec<u8>, AllocError>, bytes: &[u8]) -> bool {
     }
 }
 
-/// Whether there is a record, and it ends so.
+/// Returns whether there is a record, and it has this end.
 fn ends_so(record: Result<Vec<u8>, AllocError>, end: &[u8]) -> bool {
     match record {
         Ok(record) => record.as_slice().ends_with(end),
@@ -270,7 +271,8 @@ fn spells_records(rt: HostRuntime) {
     holds(&rt, is_spelled(sample_record(alloc, &[]), b"\x02"));
 }
 
-/// Whether the segment of the records of one series and one sample is `UP`, which has them in full fragments.
+/// Returns whether the segment of the records of one series and one sample is `UP`, which has them
+/// in full fragments.
 fn is_up_segment(alloc: Global) -> bool {
     let Ok(room) = Room::new(alloc, 63) else {
         return false;
@@ -295,7 +297,8 @@ fn failing_writer(alloc: Global, writes_left: usize) -> SegmentWriter<FailingAt>
     SegmentWriter::new(sink, 2)
 }
 
-/// Whether a device that fails after so many writes closes the segment, and has a beginning of the whole one.
+/// Returns whether a device that fails after this many writes closes the segment, and has a prefix
+/// of the whole one.
 fn closes(alloc: Global, whole: &[u8], writes_left: usize) -> bool {
     let failed = Err(LogFault::Device);
     let mut writer = failing_writer(alloc, writes_left);
@@ -306,14 +309,15 @@ fn closes(alloc: Global, whole: &[u8], writes_left: usize) -> bool {
     is_so && taken.len() < whole.len() && whole.starts_with(taken.as_slice())
 }
 
-/// Whether a device that takes so many writes has the whole segment.
+/// Returns whether a device that takes this many writes has the whole segment.
 fn takes_all(alloc: Global, whole: &[u8], writes_left: usize) -> bool {
     let mut writer = failing_writer(alloc, writes_left);
     let is_so = logs(alloc, &mut writer, 3, 32_770, Ok(()));
     is_so && writer.into_inner().taken.as_slice() == whole
 }
 
-/// The number of writes after which a device that fails does otherwise. A header, four times data, a header and data are seven writes.
+/// Returns the number of writes after which a failing device behaves differently. A header, four
+/// times data, a header and data are seven writes.
 fn wrong_device(alloc: Global, whole: &[u8]) -> Option<usize> {
     for writes_left in 0..7 {
         if !closes(alloc, whole, writes_left) {

@@ -7,7 +7,7 @@ use crate::rows::{holds, none_is_wrong};
 use rw_head::{Head, Verdict};
 use std::alloc::{AllocError, Global};
 
-/// The samples `i` at `10 * i`, for `i` from the first to the last of each range.
+/// Returns the samples `i` at `10 * i`, for `i` from the first to the last of each range.
 fn tens(alloc: Global, ranges: &[(u32, u32)]) -> Result<Vec<(i64, u64)>, AllocError> {
     let mut samples = Vec::new(alloc);
     for (first, last) in ranges {
@@ -18,7 +18,7 @@ fn tens(alloc: Global, ranges: &[(u32, u32)]) -> Result<Vec<(i64, u64)>, AllocEr
     Ok(samples)
 }
 
-/// Whether a head stores all of these samples of `up`, in requests of so many.
+/// Returns whether a head stores all of these samples of `up`, in requests of `size` samples.
 fn stores(alloc: Global, head: &mut Head, samples: Samples<'_>, size: usize) -> bool {
     for part in samples.chunks(size.max(1)) {
         let Verdict::Stored(_) = asked(alloc, head, &[(UP, part)]) else {
@@ -28,7 +28,8 @@ fn stores(alloc: Global, head: &mut Head, samples: Samples<'_>, size: usize) -> 
     true
 }
 
-/// A head with the samples `i` at `10 * i` of `up`, for `i` from 1 to 241, in requests of so many.
+/// Returns a head with the samples `i` at `10 * i` of `up`, for `i` from 1 to 241, in requests of
+/// `size` samples.
 fn filled(alloc: Global, size: usize) -> Result<Head, AllocError> {
     let samples = tens(alloc, &[(1, 241)])?;
     let mut head = narrow(alloc)?;
@@ -39,10 +40,11 @@ fn filled(alloc: Global, size: usize) -> Result<Head, AllocError> {
     }
 }
 
-/// How many full blocks `up` has, how many samples stand behind them, and how many samples the head holds.
+/// How many full blocks `up` has, how many samples are after them, and how many samples the head
+/// holds.
 type Shape = (usize, usize, u64);
 
-/// The shape of `up`, which is the last label set. This takes no memory.
+/// Returns the shape of `up`, which is the last label set. This takes no memory.
 fn shape(head: &Head) -> Shape {
     match head.label_sets().last() {
         Some(up) => (head.sealed(up).len(), head.open(up).len(), head.total()),
@@ -50,7 +52,7 @@ fn shape(head: &Head) -> Shape {
     }
 }
 
-/// Whether a message has this verdict, and `up` then this shape.
+/// Returns whether a message has this verdict, and `up` then this shape.
 fn is_judged(
     alloc: Global,
     head: &mut Head,
@@ -61,7 +63,8 @@ fn is_judged(
     asked(alloc, head, parts) == verdict && shape(head) == then
 }
 
-/// Whether the blocks begin with the first sample and end with the 240th, and the 241st stands behind them.
+/// Returns whether the blocks begin with the first sample and end with the 240th, and the 241st is
+/// after them.
 fn are_filled(head: &Head) -> bool {
     let Some(up) = head.label_sets().next() else {
         return false;
@@ -75,7 +78,8 @@ fn are_filled(head: &Head) -> bool {
         && are_same(head.open(up), &[(2410, 241)])
 }
 
-/// Samples of `up` for a head with the 241 samples, the verdicts on them, and the shapes after them.
+/// Samples of `up` for a head with the 241 samples, the verdicts on them, and the shapes after
+/// them.
 static REQUESTS: [(Samples<'static>, Verdict, Shape); 4] = [
     (
         &[(10, 1), (1200, 120), (1210, 121), (2410, 241)],
@@ -87,7 +91,7 @@ static REQUESTS: [(Samples<'static>, Verdict, Shape); 4] = [
     (&[(2410, 241), (2420, 242)], Verdict::Stored(1), (2, 2, 242)),
 ];
 
-/// Whether a head of the 241 samples judges the requests so.
+/// Returns whether a head of the 241 samples judges the requests in this way.
 fn judges_requests(alloc: Global, head: &mut Head) -> bool {
     for (samples, verdict, then) in &REQUESTS {
         if !is_judged(alloc, head, &[(UP, *samples)], *verdict, *then) {
@@ -97,7 +101,8 @@ fn judges_requests(alloc: Global, head: &mut Head) -> bool {
     true
 }
 
-/// Whether a head that was filled by requests of so many samples has its blocks, and judges the requests.
+/// Returns whether a head that was filled by requests of `size` samples has its blocks, and judges
+/// the requests.
 fn is_the_same_by(alloc: Global, size: usize) -> bool {
     match filled(alloc, size) {
         Ok(mut head) => {
@@ -107,7 +112,7 @@ fn is_the_same_by(alloc: Global, size: usize) -> bool {
     }
 }
 
-/// The first size of requests after which it is otherwise.
+/// Returns the first size of requests with which the result differs.
 fn wrong_size(alloc: Global) -> Option<usize> {
     for size in [1, 119, 120, 121, 241] {
         if !is_the_same_by(alloc, size) {
@@ -117,7 +122,7 @@ fn wrong_size(alloc: Global) -> Option<usize> {
     None
 }
 
-/// Whether a head holds 1,100,000 samples of `up`, which came in requests of 10,000.
+/// Returns whether a head holds 1,100,000 samples of `up`, which came in requests of 10,000.
 fn holds_a_million(alloc: Global) -> bool {
     let (Ok(samples), Ok(mut head)) = (tens(alloc, &[(1, 1_100_000)]), narrow(alloc)) else {
         return false;
@@ -135,7 +140,7 @@ fn a_series_is_blocks_whatever_the_requests(rt: HostRuntime) {
     none_is_wrong(&rt, wrong_size(rt.alloc()));
 }
 
-/// The samples 1 to 300, with repeats among them and behind them.
+/// The samples 1 to 300, with repeats among them and after them.
 static WITH_REPEATS: [(u32, u32); 8] = [
     (1, 130),
     (1, 1),
@@ -147,7 +152,7 @@ static WITH_REPEATS: [(u32, u32); 8] = [
     (240, 240),
 ];
 
-/// Whether the head holds the samples `i` at `10 * i` of `up`, for `i` up to this one.
+/// Returns whether the head holds the samples `i` at `10 * i` of `up`, for `i` up to this one.
 fn has_tens(alloc: Global, head: &Head, last: u32) -> bool {
     match tens(alloc, &[(1, last)]) {
         Ok(all) => has_samples(alloc, head, UP, &all),
@@ -180,7 +185,8 @@ fn a_request_fills_several_blocks(rt: HostRuntime) {
     holds(&rt, takes_each_once(rt.alloc()));
 }
 
-/// Whether a head of the 241 samples refuses these before a bad series, and holds what it held.
+/// Returns whether a head of the 241 samples refuses these before a bad series, and keeps what it
+/// held.
 fn refuses(alloc: Global, more: Samples<'_>) -> bool {
     let Ok(mut head) = filled(alloc, 100) else {
         return false;
@@ -194,7 +200,7 @@ fn refuses(alloc: Global, more: Samples<'_>) -> bool {
     ) && has_tens(alloc, &head, 241)
 }
 
-/// The same of 259 samples more.
+/// Returns the same for 259 samples more.
 fn refuses_more(alloc: Global) -> bool {
     match tens(alloc, &[(242, 500)]) {
         Ok(more) => refuses(alloc, &more),
@@ -210,7 +216,7 @@ fn a_refused_request_leaves_the_blocks(rt: HostRuntime) {
 /// A new series before one that is out of order.
 const BAD: Parts<'static> = &[(DOWN, &[(10, 1)]), (UP, &[(5, 1)])];
 
-/// What the head holds at last.
+/// What the head holds at the end.
 static LAST: [(Labels<'static>, Samples<'static>); 2] = [(UP, &[(10, 1)]), (DOWN, &[(10, 1)])];
 
 static ROWS: [Row; 5] = [
@@ -221,7 +227,8 @@ static ROWS: [Row; 5] = [
     (&[(DOWN, &[(10, 1)])], Verdict::Stored(1), &[1, 1]),
 ];
 
-/// Whether an empty head has a place for none of these label sets, and then for those that it stores.
+/// Returns whether an empty head has a place for none of these label sets, and then for those that
+/// it stores.
 fn has_places_for_stored(alloc: Global) -> bool {
     let Ok(mut head) = narrow(alloc) else {
         return false;
@@ -237,7 +244,8 @@ fn a_refused_request_leaves_no_label_sets(rt: HostRuntime) {
     holds(&rt, has_places_for_stored(rt.alloc()));
 }
 
-/// The verdict on a message, asked for again where memory was refused and that left the 241 samples as they are.
+/// Returns the verdict on a message, asked for again if memory ran out and that left the 241
+/// samples as they are.
 fn verdict_at_last(alloc: Global, head: &mut Head, parts: Parts<'_>) -> Verdict {
     let verdict = asked(alloc, head, parts);
     if verdict == Verdict::NoMemory && shape(head) == (2, 1, 241) && head.places() == 1 {
@@ -247,13 +255,13 @@ fn verdict_at_last(alloc: Global, head: &mut Head, parts: Parts<'_>) -> Verdict 
     }
 }
 
-/// Whether 259 samples more of `up` and a new series are taken at last.
+/// Returns whether 259 samples more of `up` and a new series are taken in the end.
 fn takes_more_at_last(alloc: Global, head: &mut Head, more: Samples<'_>) -> bool {
     verdict_at_last(alloc, head, &[(UP, more), (DOWN, &[(10, 1)])]) == Verdict::Stored(260)
         && shape(head) == (4, 20, 501)
 }
 
-/// A head of the 241 samples, asked for again where memory was refused, that takes these.
+/// Returns a head of the 241 samples, asked for again if memory ran out, that takes these.
 fn filled_takes_more(alloc: Global, more: Samples<'_>) -> bool {
     let head = match filled(alloc, 241) {
         Err(_) => filled(alloc, 241),

@@ -24,14 +24,15 @@ pub(crate) const TWO: [u8; 66] = [
 /// The word of the value 1.
 pub(crate) const WORD_OF_ONE: u64 = 0x3ff0_0000_0000_0000;
 
-/// A head that is busy for one request.
+/// Returns a head that is busy for one request.
 fn busy(alloc: Global) -> Result<Head, AllocError> {
     let mut limits = Limits::standard(alloc)?;
     limits.busy_first = Bounded::new(1);
     Ok(Head::new(alloc, &limits))
 }
 
-/// Asks with bodies one after the other. Gives the first one with another status, or another number of samples after it.
+/// Asks with bodies one after the other. Returns the first one with another status, or another
+/// number of samples after it.
 fn first_wrong(head: &mut Head, rows: &[(&[u8], u16, u64)]) -> Option<usize> {
     for (i, (body, status, total)) in rows.iter().enumerate() {
         if head.answer(body) != *status || head.total() != *total {
@@ -41,7 +42,7 @@ fn first_wrong(head: &mut Head, rows: &[(&[u8], u16, u64)]) -> Option<usize> {
     None
 }
 
-/// The first body that a head wrongly answers that is busy for this one.
+/// Returns the first body that is answered wrongly by a head that is busy for this one.
 fn wrong_of_busy(alloc: Global, first: &[u8]) -> Option<usize> {
     let rows = [
         (first, 429, 0),
@@ -85,14 +86,15 @@ const UNKNOWN_FIELD: [u8; 34] = [
     0x75, 0x70, 0x18, 0x05, 0x12, 0x0c, 0x09, 1, 0, 0, 0, 0, 0, 0, 0, 0x10, 0xe9, 0x07,
 ];
 
-/// `OLDER` with the label a="1" behind the sample: another series, which begins with the same bytes.
+/// `OLDER` with the label a="1" after the sample: another series, which begins with the same bytes.
 const LABEL_BEHIND: [u8; 40] = [
     0x0a, 0x26, 0x0a, 0x0e, 0x0a, 0x08, 0x5f, 0x5f, 0x6e, 0x61, 0x6d, 0x65, 0x5f, 0x5f, 0x12, 0x02,
     0x75, 0x70, 0x12, 0x0c, 0x09, 1, 0, 0, 0, 0, 0, 0, 0, 0x10, 0xe7, 0x07, 0x0a, 0x06, 0x0a, 0x01,
     0x61, 0x12, 0x01, 0x31,
 ];
 
-/// Bodies one after the other, the statuses that answer them, and how many samples the head then holds.
+/// Bodies one after the other, the statuses that answer them, and how many samples the head then
+/// holds.
 static BODIES: [(&[u8], u16, u64); 8] = [
     (&[], 204, 0),
     (&ONE, 204, 1),
@@ -128,8 +130,8 @@ const FIRST_TWO: Samples<'static> = &[(10, VALUES[0]), (20, VALUES[1])];
 
 const FIRST_THREE: Samples<'static> = &[(10, VALUES[0]), (20, VALUES[1]), (30, VALUES[2])];
 
-/// What a request shows, its samples and its status, and what a head holds after it that held the
-/// first two samples.
+/// What a request shows, its samples and its status, and what a head that held the first two
+/// samples holds after it.
 type Later = (&'static str, Samples<'static>, u16, Samples<'static>);
 
 static LATER: [Later; 3] = [
@@ -157,7 +159,7 @@ fn later() -> &'static [Later] {
     &LATER
 }
 
-/// How a head answers the body of these samples of one series. 503 where memory is refused.
+/// Returns how a head answers the body of these samples of one series, or 503 if memory runs out.
 fn status_of(alloc: Global, head: &mut Head, samples: Samples<'_>) -> u16 {
     let Ok(message) = message(alloc, &[(UP, samples)]) else {
         return 503;
@@ -168,7 +170,8 @@ fn status_of(alloc: Global, head: &mut Head, samples: Samples<'_>) -> u16 {
     }
 }
 
-/// Whether a head that holds the first two samples answers a request so, and then holds just this.
+/// Returns whether a head that holds the first two samples answers a request in this way, and then
+/// holds just this.
 fn is_answered_so(alloc: Global, row: &Later) -> bool {
     let Ok(mut head) = standard(alloc) else {
         return false;
@@ -179,7 +182,7 @@ fn is_answered_so(alloc: Global, row: &Later) -> bool {
         && head.total() == row.3.len() as u64
 }
 
-/// The first request that is answered otherwise, each by a head of its own.
+/// Returns the first request that is answered differently, each by a new head.
 fn wrong_by_itself(alloc: Global) -> Option<&'static str> {
     for row in later() {
         if !is_answered_so(alloc, row) {
@@ -189,8 +192,8 @@ fn wrong_by_itself(alloc: Global) -> Option<&'static str> {
     None
 }
 
-/// Asks one head with all requests. Gives the first one that has another status, or after which the
-/// head holds anything but the first three samples.
+/// Asks one head with all requests. Returns the first one that has another status, or after which
+/// the head holds anything but the first three samples.
 fn wrong_in_turn(alloc: Global) -> Option<&'static str> {
     let Ok(mut head) = standard(alloc) else {
         return Some("a head");
@@ -213,7 +216,7 @@ fn later_samples_are_appended_and_earlier_ones_refused(rt: HostRuntime) {
     none_differs(&rt, wrong_in_turn(rt.alloc()));
 }
 
-/// The body of so many samples of one series, with no timestamp that is short.
+/// Returns the body of `count` samples of one series, with timestamps that are not short.
 fn long_body(alloc: Global, count: i64) -> Result<Vec<u8>, AllocError> {
     let mut samples = Vec::new(alloc);
     for t in 0..count {
@@ -222,7 +225,8 @@ fn long_body(alloc: Global, count: i64) -> Result<Vec<u8>, AllocError> {
     encode(alloc, &message(alloc, &[(UP, &samples)])?)
 }
 
-/// The body of 10,000 samples of one series whose times rise, and of one more behind them.
+/// Returns the body of 10,000 samples of one series with ascending times, and of one more after
+/// them.
 fn body_with_last(alloc: Global, last: i64) -> Result<Vec<u8>, AllocError> {
     let mut samples = Vec::new(alloc);
     for t in 0..10_000 {
@@ -232,7 +236,8 @@ fn body_with_last(alloc: Global, last: i64) -> Result<Vec<u8>, AllocError> {
     encode(alloc, &message(alloc, &[(UP, &samples)])?)
 }
 
-/// The first that a new head wrongly answers of these bodies: one whose last sample is too old, and one with a later one, twice.
+/// Returns the first of these bodies that a new head answers wrongly: one whose last sample is too
+/// old, and one with a later one, twice.
 fn wrong_of_parts(alloc: Global) -> Option<usize> {
     let (Ok(bad), Ok(good)) = (body_with_last(alloc, -1), body_with_last(alloc, 10_000)) else {
         return Some(0);
@@ -264,13 +269,13 @@ fn takes_a_long_body(alloc: Global) -> bool {
     }
 }
 
-/// Nothing is refused for its length but by the endpoint's limit, which a head does not know.
+/// Only the endpoint's limit, which a head does not know, refuses a body for its length.
 #[test]
 fn a_long_body_is_taken(rt: HostRuntime) {
     holds(&rt, takes_a_long_body(rt.alloc()));
 }
 
-/// A series before the rest of its metric's name, and behind it: with the sample 1 at 1.
+/// A series before the rest of its metric's name, and after it: with the sample 1 at 1.
 const FRONT: [u8; 17] = *b"\x0a\x24\x0a\x15\x0a\x08__name__\x12\x09m";
 
 const BEHIND: [u8; 13] = *b"\x12\x0b\x09\0\0\0\0\0\0\xf0\x3f\x10\x01";
@@ -285,7 +290,7 @@ fn push_series(body: &mut Vec<u8>, number: u32) -> Result<(), AllocError> {
     body.extend_from_slice(&BEHIND)
 }
 
-/// As many series, the first or the last one first.
+/// Returns a body of many series, the first or the last one first.
 fn many_series(alloc: Global, is_falling: bool) -> Result<Vec<u8>, AllocError> {
     let mut body = Vec::new(alloc);
     for i in 0..200_000 {
@@ -294,7 +299,8 @@ fn many_series(alloc: Global, is_falling: bool) -> Result<Vec<u8>, AllocError> {
     Ok(body)
 }
 
-/// The first that a new head wrongly answers of these bodies: as many series, and the same ones from the last one on.
+/// Returns the first of these bodies that a new head answers wrongly: many series, and the same
+/// ones from the last one on.
 fn wrong_of_many(alloc: Global) -> Option<usize> {
     let (Ok(rising), Ok(falling)) = (many_series(alloc, false), many_series(alloc, true)) else {
         return Some(0);

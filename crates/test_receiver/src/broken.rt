@@ -1,4 +1,5 @@
-//! Devices that fail in mid-stream: what was written is a beginning of the replies, and what was stored is not stored again.
+//! Devices that fail in mid-stream: what was written is a prefix of the replies, and what was
+//! stored is not stored again.
 
 ghost use Rattle.std.specs.Prelude.{⊤};
 
@@ -20,8 +21,9 @@ const FIRST_REPLY: &[u8] = b"HTTP/1.1 204 No Content\r\n\r\n";
 /// More reads and writes than these connections take.
 const MANY: usize = 1000;
 
-/// How the requests end with a reader and a writer that fail after so many calls. None, where what was written is no beginning of the
-/// replies, or the end does not tell whether a device failed.
+/// Returns how the requests end with a reader and a writer that fail after this many calls. `None`
+/// if what was written is not a prefix of the replies, or the end does not say whether a device
+/// failed.
 fn end_of_broken(
     alloc: Global,
     store: &mut Store,
@@ -39,13 +41,13 @@ fn end_of_broken(
     }
 }
 
-/// Whether the requests have all their replies, and two bodies are then stored.
+/// Returns whether the requests have all their replies, and two bodies are then stored.
 fn is_answered(alloc: Global, store: &mut Store) -> bool {
     let mut reader = REQUESTS;
     is_served_by(alloc, &mut reader, store, REPLIES, ServeEnd::Closed) && store.bodies.len() == 2
 }
 
-/// The same end, where the requests that come again are answered.
+/// Returns the same end, if the requests that come again are answered.
 fn end_before_answered(alloc: Global, reads: usize, writes: usize) -> Option<ServeEnd> {
     let mut store = Store::new(alloc);
     let end = end_of_broken(alloc, &mut store, reads, writes);
@@ -63,7 +65,8 @@ enum Side {
     Writer,
 }
 
-/// Whether the requests take more than ten calls of one side, and all is well where one of them fails.
+/// Returns whether the requests take more than ten calls of one side, and the result is right if
+/// one of them fails.
 fn may_fail(alloc: Global, side: Side) -> bool {
     for n in 0..MANY {
         let (reads, writes) = match side {
@@ -85,7 +88,7 @@ fn each_read_and_each_write_may_fail(rt: HostRuntime) {
     holds(&rt, may_fail(rt.alloc(), Side::Writer));
 }
 
-/// Whether a room of 50 bytes holds the first reply, and both bodies are asked for.
+/// Returns whether a room of 50 bytes holds the first reply, and both bodies are asked for.
 fn holds_first_reply(alloc: Global) -> bool {
     let Ok(mut room) = Room::new(alloc, 50) else {
         return false;
@@ -118,7 +121,8 @@ impl Answer for Counter {
     }
 }
 
-/// What is written and how the connection ends after so many bodies, where all have their replies or memory was refused.
+/// What is written and how the connection ends after this many bodies, if all have their replies or
+/// memory ran out.
 static ENDS: [(&[u8], ServeEnd); 3] = [
     (b"", ServeEnd::OutOfMemory),
     (FIRST_REPLY, ServeEnd::OutOfMemory),
@@ -132,7 +136,7 @@ fn is_whole(asked: usize, written: &[u8], end: ServeEnd) -> bool {
     }
 }
 
-/// Whether the requests leave whole replies, if there is memory for a room.
+/// Returns whether the requests leave whole replies, if there is memory for a room.
 fn leaves_whole_replies(alloc: Global) -> bool {
     let Ok(mut room) = Room::new(alloc, 128) else {
         return true;
@@ -143,7 +147,8 @@ fn leaves_whole_replies(alloc: Global) -> bool {
     is_whole(counter.asked, room.as_slice(), end)
 }
 
-/// Where memory is refused, what was asked has its whole reply, and what was not asked has none.
+/// If memory runs out, a body that was asked for has its whole reply, and one that was not has
+/// none.
 #[test]
 fn refused_memory_leaves_whole_replies(rt: HostRuntime) {
     holds(&rt, leaves_whole_replies(rt.alloc()));

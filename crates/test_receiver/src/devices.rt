@@ -3,7 +3,7 @@
 use rw_types::{Failed, Sink, Source};
 use std::alloc::Global;
 
-/// Gives a few bytes at each read, and fails at one of them and then for good.
+/// Gives a few bytes at each read, and fails at one of them and then permanently.
 #[derive(Drop)]
 pub(crate) struct Giving<'a> {
     left: &'a [u8],
@@ -13,7 +13,7 @@ pub(crate) struct Giving<'a> {
 }
 
 impl<'a> Giving<'a> {
-    /// Gives an input, at most so many bytes at each of so many reads.
+    /// Returns a reader that gives an input, at most `most` bytes at each of a number of reads.
     pub(crate) fn new(input: &'a [u8], most: usize, reads: usize) -> Giving<'a> {
         Giving {
             left: input,
@@ -47,7 +47,7 @@ impl Source for Giving<'_> {
     }
 }
 
-/// Takes a few bytes at each write, and fails at one of them and then for good.
+/// Takes a few bytes at each write, and fails at one of them and then permanently.
 #[derive(Drop)]
 pub(crate) struct Taking {
     pub(crate) taken: Vec<u8>,
@@ -57,7 +57,7 @@ pub(crate) struct Taking {
 }
 
 impl Taking {
-    /// Takes at most so many bytes at each of so many writes.
+    /// Returns a writer that takes at most `most` bytes at each of a number of writes.
     pub(crate) fn new(alloc: Global, most: usize, writes: usize) -> Taking {
         Taking {
             taken: Vec::new(alloc),

@@ -1,5 +1,5 @@
-//! Requests to the endpoint of a head, each over a connection of its own: the replies, and what the
-//! head then holds. `|` stands for CR LF.
+//! Requests to the endpoint of a head, each over its own connection: the replies, and what the head
+//! then holds. `|` stands for CR LF.
 
 use crate::bodies::WORD_OF_ONE;
 use crate::devices::Taking;
@@ -119,7 +119,8 @@ fn sent_again() -> &'static [Row] {
     &SENT_AGAIN
 }
 
-/// Whether a connection with this input has this reply of a head. No, where memory is refused.
+/// Returns whether a connection with this input has this reply of a head. The answer is no if
+/// memory runs out.
 fn replies_so(alloc: Global, head: &mut Head, input: &[u8], reply: &[u8]) -> bool {
     let (Ok(limits), Ok(mut room)) = (Limits::standard(alloc), Room::new(alloc, 1024)) else {
         return false;
@@ -134,7 +135,7 @@ fn replies_so(alloc: Global, head: &mut Head, input: &[u8], reply: &[u8]) -> boo
     serve(alloc, &mut reader, &mut room, head, &limits) == end && room.as_slice() == reply
 }
 
-/// Whether a request has its reply.
+/// Returns whether a request has its reply.
 fn is_replied(alloc: Global, head: &mut Head, row: &Row) -> bool {
     let mut input = Vec::new(alloc);
     let mut reply = Vec::new(alloc);
@@ -143,8 +144,8 @@ fn is_replied(alloc: Global, head: &mut Head, row: &Row) -> bool {
         && replies_so(alloc, head, &input, &reply)
 }
 
-/// Asks a new head with these requests. Gives the first one that has another reply, or after which
-/// the head holds anything but the first samples of these.
+/// Asks a new head with these requests. Returns the first one that has another reply, or after
+/// which the head holds anything but the first samples of these.
 fn first_wrong(alloc: Global, rows: &[Row], held: Samples<'_>) -> Option<&'static str> {
     let Ok(mut head) = standard(alloc) else {
         return Some("a head");
@@ -169,7 +170,7 @@ fn a_repeat_is_204_and_changes_nothing(rt: HostRuntime) {
     none_differs(&rt, first_wrong(rt.alloc(), sent_again(), HELD_OF_BATCH));
 }
 
-/// How the connection of a request ends whose writer fails before it takes a byte.
+/// Returns how the connection of a request ends whose writer fails before it takes a byte.
 fn end_without_a_reply(alloc: Global, head: &mut Head, row: &Row) -> ServeEnd {
     let mut input = Vec::new(alloc);
     let Ok(limits) = Limits::standard(alloc) else {
@@ -183,7 +184,8 @@ fn end_without_a_reply(alloc: Global, head: &mut Head, row: &Row) -> ServeEnd {
     serve(alloc, &mut reader, &mut writer, head, &limits)
 }
 
-/// Whether a request whose reply fails is stored, and its repeat has its reply and changes nothing.
+/// Returns whether a request whose reply fails is stored, and its repeat has its reply and changes
+/// nothing.
 fn is_stored_once(alloc: Global, head: &mut Head, row: &Row) -> bool {
     end_without_a_reply(alloc, head, row) == ServeEnd::Device
         && head.total() == row.3 as u64

@@ -1,4 +1,5 @@
-//! Tests of the receiver: its head, the head that threads ask, and the endpoint, byte for byte and with connections that break.
+//! Tests of the receiver: its head, the head that threads ask, and the endpoint, byte for byte and
+//! with connections that break.
 #![tactic(auto)]
 
 #[cfg(test)]

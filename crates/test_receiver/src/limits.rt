@@ -16,7 +16,7 @@ const TAKEN: &[u8] = b"HTTP/1.1 204 No Content\r\nConnection: close\r\n\r\n";
 const REFUSED: &[u8] =
     b"HTTP/1.1 400 Bad Request\r\nContent-Length: 0\r\nConnection: close\r\n\r\n";
 
-/// Texts, and how often each stands.
+/// Texts, and how often each is repeated.
 type Texts = &'static [(&'static [u8], usize)];
 
 /// Requests, their bytes, and the replies to them.
@@ -49,7 +49,7 @@ fn put_texts(request: &mut Vec<u8>, texts: &[(&[u8], usize)]) -> Result<(), Allo
     Ok(())
 }
 
-/// Whether a request has this length and this reply, which closes.
+/// Returns whether a request has this length and this reply, which closes.
 fn is_replied(alloc: Global, texts: &[(&[u8], usize)], len: usize, reply: &[u8]) -> bool {
     let mut request = Vec::new(alloc);
     if put_texts(&mut request, texts).is_err() || request.len() != len {
@@ -59,7 +59,7 @@ fn is_replied(alloc: Global, texts: &[(&[u8], usize)], len: usize, reply: &[u8])
     is_served(alloc, &mut reader, reply, ServeEnd::Closed)
 }
 
-/// The first request that has another length or another reply.
+/// Returns the first request that has another length or another reply.
 fn first_wrong(alloc: Global) -> Option<usize> {
     for (i, (texts, len, reply)) in REQUESTS.iter().enumerate() {
         if !is_replied(alloc, texts, *len, reply) {

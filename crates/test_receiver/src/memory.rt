@@ -1,5 +1,6 @@
-//! What happens where memory is refused. The test can be run with each allocation refused in turn: the refused call answers 503 and leaves
-//! what the head holds, and the same body is then taken. A body that is no message is bad, whatever memory is refused.
+//! What happens if memory runs out. The test can be run with each allocation failing in turn: the
+//! failed call answers 503 and leaves what the head holds, and the same body is then taken. A body
+//! that is not a message is bad, whatever allocation fails.
 
 use crate::bodies::{ONE, TWO};
 use crate::messages::narrow;
@@ -7,12 +8,13 @@ use crate::rows::{holds, none_is_wrong};
 use rw_head::Head;
 use std::alloc::Global;
 
-/// How many samples and how many label sets a head holds.
+/// Returns how many samples and how many label sets a head holds.
 fn counts(head: &Head) -> (u64, usize) {
     (head.total(), head.label_sets().count())
 }
 
-/// The status of a body, asked for again where memory was refused and the head holds as much as before.
+/// Returns the status of a body, asked for again if memory ran out and the head holds as much as
+/// before.
 pub(crate) fn status_at_last(head: &mut Head, body: &[u8], before: (u64, usize)) -> u16 {
     let status = head.answer(body);
     if status == 503 && counts(head) == before {
@@ -28,7 +30,7 @@ static BODIES: [(&[u8], (u64, usize), (u64, usize)); 2] = [
     (&TWO, (1, 1), (3, 2)),
 ];
 
-/// Gives the first body that is not taken as it should be, after one whose last byte is missing.
+/// Returns the first body that is not taken as it should be, after one whose last byte is missing.
 fn first_wrong(head: &mut Head) -> Option<usize> {
     if head.answer(&TWO[..65]) != 400 || counts(head) != (0, 0) {
         return Some(0);
@@ -57,8 +59,8 @@ fn refused_memory_changes_nothing(rt: HostRuntime) {
     none_is_wrong(&rt, wrong_body(rt.alloc()));
 }
 
-/// Asks a head with one body several times. Whether each answer is that the body is stored, or that
-/// memory is refused and nothing has changed. A body that is not a message is bad each time.
+/// Asks a head with one body several times. Returns whether each answer is that the body is stored,
+/// or that memory ran out and nothing has changed. A body that is not a message is bad each time.
 fn answers_are_whole(head: &mut Head) -> bool {
     let mut held = (0, 0);
     for _ in 0..3u32 {
@@ -77,7 +79,7 @@ fn answers_are_whole(head: &mut Head) -> bool {
     true
 }
 
-/// The same of a new head, if there is memory for one.
+/// Returns the same of a new head, if there is memory for one.
 fn are_whole(alloc: Global) -> bool {
     match narrow(alloc) {
         Ok(mut head) => answers_are_whole(&mut head),
@@ -85,7 +87,7 @@ fn are_whole(alloc: Global) -> bool {
     }
 }
 
-/// Holds also where memory stays refused, from whichever growth on.
+/// Holds also if memory stays exhausted, from whichever allocation on.
 #[test]
 fn lasting_refusals_change_nothing(rt: HostRuntime) {
     holds(&rt, are_whole(rt.alloc()));

@@ -14,7 +14,8 @@ pub(crate) type Samples<'a> = &'a [(i64, u64)];
 /// Label sets with samples: the series of a message, or what a head holds.
 pub(crate) type Parts<'a> = &'a [(Labels<'a>, Samples<'a>)];
 
-/// A message, the verdict on it, and how many samples of each label set the head then has_samples, of those that it holds at last.
+/// A message, the verdict on it, and how many samples of each label set the head then has, of those
+/// that it holds at the end.
 pub(crate) type Row = (Parts<'static>, Verdict, &'static [usize]);
 
 pub(crate) const UP: Labels<'static> = &[("__name__", "up")];
@@ -24,7 +25,7 @@ pub(crate) const DOWN: Labels<'static> = &[("__name__", "down")];
 /// More labels than a narrow head takes.
 pub(crate) const WIDE: Labels<'static> = &[("__name__", "up"), ("job", "x")];
 
-/// No label set, since the names do not rise.
+/// Not a label set, since the names are not sorted.
 pub(crate) const FALLING: Labels<'static> = &[("job", "x"), ("__name__", "up")];
 
 fn texts(alloc: Global, labels: Labels<'_>) -> Result<Vec<(String, String)>, AllocError> {
@@ -45,7 +46,7 @@ fn words(alloc: Global, samples: Samples<'_>) -> Result<Vec<(Word, i64)>, AllocE
     Ok(words)
 }
 
-/// A message of these series.
+/// Returns a message of these series.
 pub(crate) fn message(alloc: Global, parts: Parts<'_>) -> Result<Message, AllocError> {
     let mut series = Vec::new(alloc);
     for part in parts {
@@ -56,7 +57,7 @@ pub(crate) fn message(alloc: Global, parts: Parts<'_>) -> Result<Message, AllocE
     Ok(Message { series })
 }
 
-/// The label set of these labels, whatever their names.
+/// Returns the label set of these labels, whatever their names.
 pub(crate) fn label_set(alloc: Global, labels: Labels<'_>) -> Result<LabelSet, LabelFault> {
     let texts = texts(alloc, labels)?;
     let mut set = LabelSet::empty(alloc);
@@ -64,19 +65,19 @@ pub(crate) fn label_set(alloc: Global, labels: Labels<'_>) -> Result<LabelSet, L
     Ok(set)
 }
 
-/// A head with the standard limits.
+/// Returns a head with the standard limits.
 pub(crate) fn standard(alloc: Global) -> Result<Head, AllocError> {
     Ok(Head::new(alloc, &Limits::standard(alloc)?))
 }
 
-/// A head that takes one label.
+/// Returns a head that takes one label.
 pub(crate) fn narrow(alloc: Global) -> Result<Head, AllocError> {
     let mut limits = Limits::standard(alloc)?;
     limits.max_labels = Bounded::new(1);
     Ok(Head::new(alloc, &limits))
 }
 
-/// The verdict on a message of these series.
+/// Returns the verdict on a message of these series.
 pub(crate) fn asked(alloc: Global, head: &mut Head, parts: Parts<'_>) -> Verdict {
     match message(alloc, parts) {
         Ok(message) => head.apply(&message),
@@ -84,13 +85,14 @@ pub(crate) fn asked(alloc: Global, head: &mut Head, parts: Parts<'_>) -> Verdict
     }
 }
 
-/// Whether what is held is just these samples.
+/// Returns whether what is held is just these samples.
 pub(crate) fn are_same(held: &[(i64, Word)], samples: Samples<'_>) -> bool {
     held.len() == samples.len()
         && held.iter().zip(samples).all(|(held, sample)| held.0 == sample.0 && held.1.0 == sample.1)
 }
 
-/// Whether the head holds just these samples of these labels. No, where memory is refused.
+/// Returns whether the head holds just these samples of these labels. The answer is no if memory
+/// runs out.
 pub(crate) fn has_samples(
     alloc: Global,
     head: &Head,
@@ -106,8 +108,8 @@ pub(crate) fn has_samples(
     }
 }
 
-/// Whether the head holds the first samples of these, so many of each label set, and no others, and has a place for just the label sets that
-/// have some.
+/// Returns whether the head holds the first samples of these, this many of each label set, and no
+/// others, and has a place for just the label sets that have some.
 fn holds_first(alloc: Global, head: &Head, parts: Parts<'_>, counts: &[usize]) -> bool {
     let mut total: u64 = 0;
     let mut places: usize = 0;
@@ -122,8 +124,8 @@ fn holds_first(alloc: Global, head: &Head, parts: Parts<'_>, counts: &[usize]) -
     head.total() == total && head.places() == places
 }
 
-/// Asks a head with messages one after the other, of which it holds these samples at last. Gives the first row with another verdict, or after
-/// which it holds other samples.
+/// Asks a head with messages one after the other, of which it holds these samples at the end.
+/// Returns the first row with another verdict, or after which it holds other samples.
 pub(crate) fn first_wrong(
     alloc: Global,
     head: &mut Head,

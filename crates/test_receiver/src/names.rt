@@ -1,4 +1,4 @@
-//! Names of labels, which a head takes by its setting.
+//! Names of labels, which a head accepts by its setting.
 
 use crate::messages::{FALLING, Labels, Row, Samples, UP, first_wrong};
 use crate::rows::none_is_wrong;
@@ -12,10 +12,10 @@ const DIGIT: Labels<'static> = &[("9x", "1")];
 
 const UNNAMED: Labels<'static> = &[("", "1")];
 
-/// A name of a metric that is empty.
+/// An empty name of a metric.
 const NO_METRIC: Labels<'static> = &[("__name__", "")];
 
-/// What the heads hold at last of these, or less.
+/// What the heads hold of these at the end, or less.
 static LAST: [(Labels<'static>, Samples<'static>); 3] = [
     (UP, &[(10, 1)]),
     (RATE, &[(10, 1)]),
@@ -52,14 +52,14 @@ static LEGACY: [Row; 4] = [
     (&[(UP, &[(10, 1)])], Verdict::Stored(1), &[1, 0, 0]),
 ];
 
-/// A head that takes these names.
+/// Returns a head that accepts these names.
 fn head_of(alloc: Global, names: Names) -> Result<Head, AllocError> {
     let mut limits = Limits::standard(alloc)?;
     limits.names = names;
     Ok(Head::new(alloc, &limits))
 }
 
-/// The first row that a head does not answer so which takes these names.
+/// Returns the first row that a head that accepts these names answers differently.
 fn wrong_message(alloc: Global, names: Names, rows: &[Row]) -> Option<usize> {
     match head_of(alloc, names) {
         Ok(mut head) => first_wrong(alloc, &mut head, rows, &LAST),

@@ -9,13 +9,14 @@ use rw_head::{Head, HeldSeries, Verdict};
 use rw_types::LabelSet;
 use std::alloc::Global;
 
-/// What the head holds at last.
+/// What the head holds at the end.
 static LAST: [(Labels<'static>, Samples<'static>); 2] = [
     (UP, &[(10, 1), (20, 2), (30, 3), (40, 4), (50, 5)]),
     (DOWN, &[]),
 ];
 
-/// Messages one after the other, each with its verdict and how many samples of `up` and `down` the head holds after it.
+/// Messages one after the other, each with its verdict and how many samples of `up` and `down` the
+/// head holds after it.
 static ROWS: [Row; 16] = [
     // the first two samples, and the empty message
     (&[(UP, &[(10, 1), (20, 2)])], Verdict::Stored(2), &[2, 0]),
@@ -88,7 +89,7 @@ fn messages_are_taken_whole_or_not_at_all(rt: HostRuntime) {
     none_is_wrong(&rt, wrong_message(rt.alloc()));
 }
 
-/// Whether a label set is that of these labels.
+/// Returns whether a label set is that of these labels.
 fn is_of(alloc: Global, set: &LabelSet, labels: Labels<'_>) -> bool {
     match label_set(alloc, labels) {
         Ok(wanted) => *set == wanted,
@@ -96,7 +97,7 @@ fn is_of(alloc: Global, set: &LabelSet, labels: Labels<'_>) -> bool {
     }
 }
 
-/// Whether the head's label sets are these, in this order.
+/// Returns whether the head's label sets are these, in this order.
 fn has_label_sets(alloc: Global, head: &Head, list: &[Labels<'_>]) -> bool {
     let mut sets = head.label_sets();
     for labels in list {
@@ -108,7 +109,7 @@ fn has_label_sets(alloc: Global, head: &Head, list: &[Labels<'_>]) -> bool {
     sets.next().is_none()
 }
 
-/// Whether a series is that of these labels and samples. No, where memory is refused.
+/// Returns whether a series has these labels and samples. The answer is no if memory runs out.
 fn is_series(
     alloc: Global,
     series: &HeldSeries<'_>,
@@ -121,7 +122,7 @@ fn is_series(
     }
 }
 
-/// Whether the head's series are these, in this order.
+/// Returns whether the head's series are these, in this order.
 fn has_series(alloc: Global, head: &Head, list: &[(Labels<'_>, Samples<'_>)]) -> bool {
     let mut all = head.series();
     for (labels, samples) in list {

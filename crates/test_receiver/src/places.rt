@@ -1,4 +1,5 @@
-//! Series that come in one order and then in another: what the head expects next changes nothing that it answers.
+//! Series that come in one order and then in another: what the head expects next changes nothing
+//! that it answers.
 
 use crate::messages::{DOWN, FALLING, Labels, Row, Samples, UP, first_wrong, narrow};
 use crate::rows::none_is_wrong;
@@ -11,7 +12,7 @@ const NEW: Labels<'static> = &[("__name__", "new")];
 
 const OTHER: Labels<'static> = &[("__name__", "other")];
 
-/// What the head holds at last.
+/// What the head holds at the end.
 static LAST: [(Labels<'static>, Samples<'static>); 5] = [
     (UP, &[(10, 1), (20, 1), (30, 1), (40, 1), (50, 1), (60, 1)]),
     (DOWN, &[(10, 2), (20, 2), (30, 2), (50, 2), (60, 2)]),
@@ -20,7 +21,8 @@ static LAST: [(Labels<'static>, Samples<'static>); 5] = [
     (NEW, &[(10, 7)]),
 ];
 
-/// Messages one after the other, each with its verdict and how many samples of these label sets the head holds after it.
+/// Messages one after the other, each with its verdict and how many samples of these label sets the
+/// head holds after it.
 static ROWS: [Row; 9] = [
     // three series, and again in the same order
     (
@@ -66,7 +68,8 @@ static ROWS: [Row; 9] = [
         Verdict::Stored(2),
         &[5, 4, 5, 0, 0],
     ),
-    // a new series takes the place that the refused one had for a while, and comes where that one came
+    // a new series takes the place that the refused one had for a while, and comes where that one
+    // came
     (
         &[(UP, &[(60, 1)]), (OTHER, &[(10, 9)]), (DOWN, &[(60, 2)])],
         Verdict::Stored(3),
@@ -86,7 +89,8 @@ static ROWS: [Row; 9] = [
     ),
 ];
 
-/// The first wrong row, or the number of them where the head has other than five places at last.
+/// Returns the first wrong row, or the number of rows if the head does not have five places in the
+/// end.
 fn wrong_row(alloc: Global) -> Option<usize> {
     let Ok(mut head) = narrow(alloc) else {
         return Some(0);

@@ -10,7 +10,7 @@ use rw_endpoint::ServeEnd;
 use std::alloc::{AllocError, Global};
 use std::cell::Cell;
 
-/// The line that each request begins with whose fields alone are of interest.
+/// The first line of each request for which only the fields matter.
 const LINE: &[u8] = b"POST /api/v1/write HTTP/1.1|";
 
 /// The head that the shipper sends, and the message of one sample.
@@ -39,7 +39,8 @@ pub(crate) fn put_all_lines(out: &mut Vec<u8>, texts: &[&[u8]]) -> Result<(), Al
     Ok(())
 }
 
-/// Whether an input has these replies for one who sends it and then waits for them: no more is read before they are written.
+/// Returns whether an input has these replies for a client that sends it and then waits for them:
+/// no more is read before they are written.
 fn is_served_at_once(alloc: Global, input: &[u8], replies: &[u8]) -> bool {
     let heard = Cell::new(0);
     let mut reader = Waiting::new(input, replies.len(), &heard);
@@ -49,7 +50,8 @@ fn is_served_at_once(alloc: Global, input: &[u8], replies: &[u8]) -> bool {
     !reader.waited && writer.taken.as_slice() == replies
 }
 
-/// Whether an input has these replies and ends so: where it comes whole, where it comes byte by byte, and for one who waits.
+/// Returns whether an input has these replies and ends in this way: if it comes whole, if it comes
+/// byte by byte, and for a client that waits.
 fn is_served_however_it_comes(alloc: Global, input: &[u8], replies: &[u8], how: ServeEnd) -> bool {
     let mut whole = input;
     let mut slow = Giving::new(input, 1, usize::MAX);
@@ -58,7 +60,7 @@ fn is_served_however_it_comes(alloc: Global, input: &[u8], replies: &[u8], how: 
         && is_served_at_once(alloc, input, replies)
 }
 
-/// The same, for an input and replies that are written with `|`.
+/// Returns the same, for an input and replies that are written with `|`.
 fn are_served(alloc: Global, input: &[&[u8]], replies: &[u8], how: ServeEnd) -> bool {
     let mut whole = Vec::new(alloc);
     let mut wanted = Vec::new(alloc);
@@ -91,7 +93,7 @@ const NO_CONTENT: &[u8] = b"HTTP/1.1 204 No Content|Connection: close||";
 
 /// What a row says.
 enum Row {
-    /// What stands behind the first line of a request, and the reply.
+    /// What follows the first line of a request, and the reply.
     Fields(&'static [u8], &'static [u8]),
     /// An input, the replies, and the end.
     Input(&'static [u8], &'static [u8], ServeEnd),
@@ -105,7 +107,7 @@ static ROWS: [Row; 44] = [
         b"Content-Length: 3|transfer-encoding: identity||abc",
         LENGTH_REQUIRED,
     ),
-    // lengths that are none
+    // values that are not a length
     Fields(b"Content-Length: ||", BAD_REQUEST),
     Fields(b"Content-Length: +3||abc", BAD_REQUEST),
     Fields(b"Content-Length: 3, 3||abc", BAD_REQUEST),
@@ -229,7 +231,7 @@ static ROWS: [Row; 44] = [
         b"HTTP/1.1 204 No Content|Connection: close||",
         Closed,
     ),
-    // nothing is answered behind a reply that closes
+    // nothing is answered after a reply that closes
     Input(
         b"POST /api/v1/write HTTP/1.1|Content-Length: 3||abcPOST /api/v1/write HTTP/1.1|Connection: close|Content-Length: 3||defPOST /api/v1/write HTTP/1.1|Content-Length: 0||",
         b"HTTP/1.1 204 No Content||HTTP/1.1 204 No Content|Connection: close||",
@@ -262,7 +264,7 @@ static ROWS: [Row; 44] = [
         b"HTTP/1.1 400 Bad Request|Content-Length: 0|Connection: close||",
         Closed,
     ),
-    // behind a reply the input ends inside a request
+    // after a reply the input ends inside a request
     Input(
         b"POST /api/v1/write HTTP/1.1|Content-Length: 3||abcPOST /api/v1/write HTTP/1.1|",
         b"HTTP/1.1 204 No Content||",
@@ -286,7 +288,7 @@ fn is_so(alloc: Global, row: &Row) -> bool {
     }
 }
 
-/// The first row with other replies or another end.
+/// Returns the first row with other replies or another end.
 fn wrong_row(alloc: Global) -> Option<usize> {
     for (i, row) in ROWS.iter().enumerate() {
         if !is_so(alloc, row) {
@@ -301,7 +303,8 @@ fn connections_have_their_replies(rt: HostRuntime) {
     none_is_wrong(&rt, wrong_row(rt.alloc()));
 }
 
-/// Where the shipper's request may be cut so that it has a reply, or ends otherwise than a torn one.
+/// Returns a place at which the shipper's request, cut there, has a reply, or ends otherwise than a
+/// torn one.
 fn wrong_cut_of(alloc: Global, request: &[u8]) -> Option<usize> {
     for len in 0..request.len() {
         let mut part = &request[..len];
@@ -321,7 +324,7 @@ fn wrong_cut(alloc: Global) -> Option<usize> {
     }
 }
 
-/// The shipper's request has its reply, and none where it is cut before one of its bytes.
+/// The shipper's request has its reply, and none if it is cut before one of its bytes.
 #[test]
 fn cut_requests_have_no_reply(rt: HostRuntime) {
     holds(

@@ -12,7 +12,7 @@ pub(crate) fn none_differs(rt: &impl Abort, name: Option<&'static str>) {
     assert_eq!(rt; name, None);
 }
 
-/// Stops where something does not hold.
+/// Stops if something does not hold.
 pub(crate) fn holds(rt: &impl Abort, is_so: bool) {
     assert!(rt; is_so);
 }

@@ -18,7 +18,7 @@ use std::test::Fail;
 use std::thread;
 use std::thread::Threads;
 
-/// A blank of so many parts, made again where memory was refused.
+/// Returns a blank of `parts` parts, made again if memory ran out.
 pub(crate) fn blank(alloc: Global, parts: u64) -> Result<Blank, AllocError>
     ensures { IfOk result (λ b. b.parts ≡ parts) }
 {
@@ -83,7 +83,7 @@ fn asked_at_once<L: Naming + Send + Sync, R: Threads + Wait + Sync>(
     })
 }
 
-/// Whether both seats answered 204, and one of them stored the sample.
+/// Returns whether both seats answered 204, and one of them stored the sample.
 fn is_stored_once(alloc: Global, outcome: &Outcome) -> bool {
     outcome.statuses == (204, 204)
         && matches!(outcome.stored, (1, 0) | (0, 1))
@@ -101,16 +101,18 @@ fn one_body_from_two_seats_is_stored_once(rt: HostRuntime) -> Result<(), Fail> {
     Ok(())
 }
 
-/// What a seat is asked, and what it is to answer.
+/// What a seat is asked, and the expected answers.
 #[derive(Clone, Copy)]
 pub(crate) enum Talk<'a> {
     /// Bodies one after the other, each with its status and with what the seat then has stored.
     Bodies(&'a [(&'a [u8], u16, u64)]),
-    /// The input of a connection, its replies, and what the seat then has stored. The last reply closes it.
+    /// The input of a connection, its replies, and what the seat then has stored. The last reply
+    /// closes it.
     Connection(&'a [u8], &'a [u8], u64),
 }
 
-/// The status of a body, asked for again where memory was refused and the seat has stored as much as before.
+/// Returns the status of a body, asked for again if memory ran out and the seat has stored as much
+/// as before.
 fn answered_at_last<L: Naming, R: Wait>(
     asking: &mut Asking<'_, R, L>,
     body: &[u8],
@@ -124,7 +126,7 @@ fn answered_at_last<L: Naming, R: Wait>(
     }
 }
 
-/// Whether each body has its status, and the seat then has stored so much.
+/// Returns whether each body has its status, and the seat then has stored this much.
 fn answers<L: Naming, R: Wait>(
     asking: &mut Asking<'_, R, L>,
     bodies: &[(&[u8], u16, u64)],
@@ -140,7 +142,7 @@ fn answers<L: Naming, R: Wait>(
     true
 }
 
-/// Whether a seat answers as it is to.
+/// Returns whether a seat answers as expected.
 fn is_answered<L: Naming, R: Wait>(
     alloc: Global,
     asking: &mut Asking<'_, R, L>,
@@ -156,8 +158,8 @@ fn is_answered<L: Naming, R: Wait>(
     }
 }
 
-/// Asks from the one seat of a head. Gives whether it answers as it is to, and the head. Where no seat could be had there is no answer, and the
-/// head is as it was.
+/// Asks from the one seat of a head. Returns whether it answers as expected, and the head. If no
+/// seat could be made there is no answer, and the head is as it was.
 pub(crate) fn answered<L: Naming, R: Wait>(
     rt: &R,
     alloc: Global,
@@ -186,7 +188,7 @@ pub(crate) fn answered<L: Naming, R: Wait>(
     (is_so, shared.gather(seats))
 }
 
-/// A head that holds a sample.
+/// Returns a head that holds a sample.
 fn begun(alloc: Global) -> Result<Head, AllocError> {
     let mut head = match standard(alloc) {
         Ok(head) => head,
@@ -198,12 +200,12 @@ fn begun(alloc: Global) -> Result<Head, AllocError> {
     }
 }
 
-/// Whether the head holds these samples, looked for again where memory was refused.
+/// Returns whether the head holds these samples, looked for again if memory ran out.
 fn has_at_last(alloc: Global, head: &Head, samples: Samples<'_>) -> bool {
     has_samples(alloc, head, UP, samples) || has_samples(alloc, head, UP, samples)
 }
 
-/// Whether the head holds what it did before the bodies, or after them.
+/// Returns whether the head holds what it did before the bodies, or after them.
 fn holds_what_was_stored(alloc: Global, is_answered: Option<bool>, head: &Head) -> bool {
     let samples = [(1000, WORD_OF_ONE), (2000, WORD_OF_ONE)];
     match is_answered {
@@ -212,7 +214,7 @@ fn holds_what_was_stored(alloc: Global, is_answered: Option<bool>, head: &Head) 
     }
 }
 
-/// Holds whichever growth is refused; `tools/refuse-each` refuses each of them in turn.
+/// Holds whichever allocation fails; `tools/refuse-each` lets each of them fail in turn.
 #[test]
 fn a_seat_counts_what_was_stored(rt: HostRuntime) -> Result<(), Fail> {
     let alloc = rt.alloc();

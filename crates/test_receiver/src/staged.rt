@@ -79,12 +79,12 @@ static ROWS: [Row; 11] = [
     ),
 ];
 
-/// The body of a request with these series.
+/// Returns the body of a request with these series.
 fn body_of(alloc: Global, parts: Parts<'_>) -> Result<Vec<u8>, AllocError> {
     encode(alloc, &message(alloc, parts)?)
 }
 
-/// Whether an addition has these labels and samples.
+/// Returns whether an addition has these labels and samples.
 fn is_addition(
     alloc: Global,
     addition: &AddedSeries<'_>,
@@ -98,7 +98,7 @@ fn is_addition(
     addition.copy_samples(samples).is_ok() && are_same(samples, part.1)
 }
 
-/// Whether the message adds just this, in this order.
+/// Returns whether the message adds just this, in this order.
 fn adds(alloc: Global, staged: &StagedHead, parts: Parts<'_>) -> bool {
     let mut samples = Vec::new(alloc);
     let mut added = staged.added();
@@ -111,7 +111,7 @@ fn adds(alloc: Global, staged: &StagedHead, parts: Parts<'_>) -> bool {
     added.next().is_none()
 }
 
-/// Whether both heads hold the same.
+/// Returns whether both heads hold the same.
 fn are_equal(alloc: Global, left: &Head, right: &Head) -> bool {
     let mut others = right.series();
     for series in left.series() {
@@ -139,7 +139,7 @@ fn abort(alloc: Global, head: Head, body: &[u8], parts: Parts<'_>) -> (Head, u16
     }
 }
 
-/// The same, but commits the body.
+/// Returns the same, but commits the body.
 fn commit(alloc: Global, head: Head, body: &[u8], parts: Parts<'_>) -> (Head, u16) {
     match head.stage(body) {
         Ok(staged) if adds(alloc, &staged, parts) => (staged.commit(), 204),
@@ -165,7 +165,7 @@ fn is_staged(alloc: Global, head: Head, answering: &mut Head, row: &Row) -> (Hea
     )
 }
 
-/// The first row that goes wrong.
+/// Returns the first row that goes wrong.
 fn wrong_row(alloc: Global) -> Option<&'static str> {
     let (Ok(mut head), Ok(mut answering)) = (standard(alloc), standard(alloc)) else {
         return Some("two heads");
@@ -197,7 +197,7 @@ static LONG: [(&str, u32, u32); 7] = [
     ("samples of several parts of a series", 130, 12_000),
 ];
 
-/// The samples `i` at `10 * i`, for `i` from the first to the last.
+/// Returns the samples `i` at `10 * i`, for `i` from the first to the last.
 fn tens(alloc: Global, first: u32, last: u32) -> Result<Vec<(i64, u64)>, AllocError> {
     let mut samples = Vec::new(alloc);
     for i in first..=last {
@@ -206,8 +206,8 @@ fn tens(alloc: Global, first: u32, last: u32) -> Result<Vec<(i64, u64)>, AllocEr
     Ok(samples)
 }
 
-/// Whether a head that holds the first samples of a series adds just the samples after these, and
-/// then answers a repeat of all by adding nothing.
+/// Returns whether a head that holds the first samples of a series adds just the samples after
+/// these, and then answers a repeat of all by adding nothing.
 fn goes_on(alloc: Global, held: u32, last: u32) -> Result<bool, AllocError> {
     let first = tens(alloc, 1, held)?;
     let shown = tens(alloc, held, last)?;
@@ -231,7 +231,7 @@ fn goes_on(alloc: Global, held: u32, last: u32) -> Result<bool, AllocError> {
     Ok(aborted == 204 && committed == 204 && repeated == 204 && head.total() == u64::from(last))
 }
 
-/// The first long series that goes wrong.
+/// Returns the first long series that goes wrong.
 fn wrong_series(alloc: Global) -> Option<&'static str> {
     for (name, held, last) in &LONG {
         match goes_on(alloc, *held, *last) {

@@ -7,7 +7,8 @@ use rw_head::Limits;
 use rw_types::{Bounded, Room, Sink, Source};
 use std::alloc::{AllocError, Global};
 
-/// Stores each body that it does not hold yet, and answers 204. A body `bad` is 400, `busy` 429 and `full` 503.
+/// Stores each body that it does not hold yet, and answers 204. A body `bad` is 400, `busy` 429 and
+/// `full` 503.
 #[derive(Drop)]
 pub(crate) struct Store {
     alloc: Global,
@@ -55,14 +56,15 @@ impl Answer for Store {
     }
 }
 
-/// The limits of these tests: a body has at most 32 bytes.
+/// Returns the limits of these tests: a body has at most 32 bytes.
 fn limits(alloc: Global) -> Result<Limits, AllocError> {
     let mut limits = Limits::standard(alloc)?;
     limits.max_body_bytes = Bounded::new(32);
     Ok(limits)
 }
 
-/// Serves a connection within these limits. It ends for want of memory also where they have none.
+/// Serves a connection within these limits. It ends with out of memory also if there was no memory
+/// for the limits.
 pub(crate) fn served<R: Source, W: Sink, A: Answer>(
     alloc: Global,
     reader: &mut R,
@@ -75,7 +77,8 @@ pub(crate) fn served<R: Source, W: Sink, A: Answer>(
     }
 }
 
-/// Whether a connection has these replies and ends so. No, where memory is refused.
+/// Returns whether a connection has these replies and ends in this way. The answer is no if memory
+/// runs out.
 pub(crate) fn is_served_by<R: Source, A: Answer>(
     alloc: Global,
     reader: &mut R,
@@ -91,7 +94,7 @@ pub(crate) fn is_served_by<R: Source, A: Answer>(
     }
 }
 
-/// The same of a connection to an empty store.
+/// Returns the same of a connection to an empty store.
 pub(crate) fn is_served<R: Source>(
     alloc: Global,
     reader: &mut R,

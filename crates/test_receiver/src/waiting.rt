@@ -4,7 +4,8 @@ use rw_types::{Failed, Sink, Source};
 use std::alloc::Global;
 use std::cell::Cell;
 
-/// Gives an input byte by byte. It notes whether it was asked for more before all replies were written.
+/// Gives an input byte by byte. It notes whether it was asked for more before all replies were
+/// written.
 #[derive(Drop)]
 pub(crate) struct Waiting<'a> {
     left: &'a [u8],
@@ -46,7 +47,7 @@ impl Source for Waiting<'_> {
     }
 }
 
-/// Keeps what is written, and tells how much that is.
+/// Keeps what is written, and counts its bytes.
 #[derive(Drop)]
 pub(crate) struct Hearing<'a> {
     pub(crate) taken: Vec<u8>,

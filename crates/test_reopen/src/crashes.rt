@@ -6,7 +6,7 @@ use rw_reopen::{ReopenError, reopen};
 use std::alloc::Global;
 use std::test::Fail;
 
-/// How many entries the first bytes of `UP` have.
+/// Returns how many entries the first bytes of `UP` have.
 fn entries_in(len: usize) -> u64 {
     if len < 29 {
         0
@@ -17,7 +17,8 @@ fn entries_in(len: usize) -> u64 {
     }
 }
 
-/// A crash leaves so many of the bytes that were being written, and `junk` in place of the others.
+/// A crash leaves this many of the bytes that were being written, and `junk` in place of the
+/// others.
 #[derive(Drop)]
 struct Crash {
     synced: usize,
@@ -26,7 +27,7 @@ struct Crash {
 }
 
 impl Crash {
-    /// How many bytes of `UP` are in the log, also those that the junk has by chance.
+    /// Returns how many bytes of `UP` are in the log, also those that the junk has by chance.
     fn known_len(&self) -> usize {
         let mut len = self.left;
         for byte in self.junk {
@@ -70,8 +71,8 @@ static SYNCED: [usize; 4] = [0, 7, 29, 40];
 
 static JUNK: [&[u8]; 3] = [&[], &[0], &[9; 40]];
 
-/// The first crash that is not opened with the entries of the bytes that it left: where it was
-/// synced, and how many bytes were left.
+/// Returns the first crash that is not opened with the entries of the bytes that it left: how many
+/// bytes were synced, and how many were left.
 fn first_wrong(alloc: Global) -> Result<Option<(usize, usize)>, ReopenError> {
     for synced in SYNCED {
         for left in synced..UP.len() {

@@ -236,7 +236,7 @@ fn opens_twice(alloc: Global, row: &Row) -> Result<bool, JournalError> {
     }
 }
 
-/// The first row that does not hold.
+/// Returns the first row that does not hold.
 fn first_wrong(alloc: Global) -> Result<Option<&'static str>, JournalError> {
     for row in &ROWS {
         if !opens_twice(alloc, row)? {

@@ -33,7 +33,7 @@ impl<'a> Source for Torn<'a> {
     }
 }
 
-/// How much is written where a run ends with a device; none where it does not.
+/// Returns how much is written if a run ends with a device fault, or `None` if it does not.
 fn written_before_it_failed<S: Source>(
     alloc: Global,
     script: &mut S,

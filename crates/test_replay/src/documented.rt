@@ -101,7 +101,7 @@ report abandoned 4
 
 static ROWS: [Schedule<'static>; 3] = [LOST_REPLY, RESHARD, KILL];
 
-/// Two series whose names are legacy ones at neither end.
+/// Two series, each with a name that is not a legacy name.
 const NAMES: &str = r#"log series 1 {__name__="http.rate","säge"="1"}
 log series 2 {"9x"="1"}
 log sample 1 10 1

@@ -46,7 +46,7 @@ fn lines() -> &'static [&'static str] {
     &LINES
 }
 
-/// The lines, with a kill behind so many of them; the later ones follow or do not.
+/// Puts the lines, with a kill after `count` of them; the later ones follow or do not.
 fn put_killed(
     script: &mut Vec<u8>,
     lines: &[&str],
@@ -67,7 +67,7 @@ fn put_killed(
     Ok(())
 }
 
-/// What is received before the report is a beginning of the two samples.
+/// Returns whether what is received before the report is a prefix of the two samples.
 fn received_a_beginning(text: &[u8]) -> bool {
     let rest = match text.strip_prefix(br#"received {__name__="up"} 10=1"#.as_slice()) {
         Some(rest) => rest.strip_prefix(b" 20=2".as_slice()).unwrap_or(rest),
@@ -76,7 +76,7 @@ fn received_a_beginning(text: &[u8]) -> bool {
     rest.starts_with(b"\nfiltered 0\n")
 }
 
-/// Whether a script ends well, and a beginning is received.
+/// Returns whether a script ends well, and a prefix is received.
 fn is_survived(alloc: Global, script: &[u8]) -> bool {
     let mut input = script;
     match run(alloc, b"", &mut input, 4096) {
@@ -85,13 +85,13 @@ fn is_survived(alloc: Global, script: &[u8]) -> bool {
     }
 }
 
-/// Whether a kill behind so many of these lines leads to a beginning.
+/// Returns whether a kill after `count` of these lines leads to a prefix.
 fn is_count_survived(alloc: Global, lines: &[&str], count: usize, goes_on: bool) -> bool {
     let mut script = Vec::new(alloc);
     put_killed(&mut script, lines, count, goes_on).is_ok() && is_survived(alloc, &script)
 }
 
-/// The first number of lines behind which a kill leads to something else.
+/// Returns the first number of lines after which a kill leads to something else.
 fn wrong_count(alloc: Global, lines: &[&str], goes_on: bool) -> Option<usize> {
     for count in 0..=lines.len() {
         if !is_count_survived(alloc, lines, count, goes_on) {
@@ -107,14 +107,14 @@ fn a_kill_anywhere(rt: HostRuntime) {
     none_is_wrong(&rt, wrong_count(rt.alloc(), lines(), true));
 }
 
-/// How many lines stand before the kill, and the state then.
+/// How many lines come before the kill, and the state then.
 static STATES: [(usize, &str); 3] = [(9, FROZEN), (11, ARRIVED), (15, RESOLVED)];
 
 fn states() -> &'static [(usize, &'static str)] {
     &STATES
 }
 
-/// Whether a kill behind so many of the lines, without the later ones, leads to this state.
+/// Returns whether a kill after `count` of the lines, without the later ones, leads to this state.
 fn leads_to(alloc: Global, count: usize, state: &str) -> bool {
     let mut script = Vec::new(alloc);
     put_killed(&mut script, lines(), count, false).is_ok()

@@ -1,4 +1,5 @@
-//! Tests of event scripts played. `test_hostile` moves the machine's program by several events in one call.
+//! Tests of event scripts played. `test_hostile` moves the machine's program by several events in
+//! one call.
 #![tactic(auto)]
 
 #[cfg(test)]

@@ -1,11 +1,11 @@
-//! Lines that are no script lines.
+//! Lines that are not lines of a script.
 
 use crate::played::plays;
 use crate::rows::none_is_wrong;
 use rw_text::ToolFault;
 use std::alloc::{AllocError, Global};
 
-/// Lines that are bad wherever they stand.
+/// Lines that are bad anywhere in a script.
 static BAD: [&[u8]; 46] = [
     b" place",
     b"place ",
@@ -55,7 +55,7 @@ static BAD: [&[u8]; 46] = [
     b"log series 1 {a=\"\xff\"}",
 ];
 
-/// A script whose fourth line is this one.
+/// Puts a script whose fourth line is this one.
 fn put_script(script: &mut Vec<u8>, line: &[u8]) -> Result<(), AllocError> {
     script.extend_from_slice(b"place\n\nclose\n")?;
     script.extend_from_slice(line)?;
@@ -66,7 +66,7 @@ fn bad() -> &'static [&'static [u8]] {
     &BAD
 }
 
-/// Whether the fourth line of a script is found to be bad, which is this one.
+/// Returns whether the fourth line of a script is found to be bad, which is this one.
 fn is_refused(alloc: Global, line: &[u8]) -> bool {
     let mut script = Vec::new(alloc);
     put_script(&mut script, line).is_ok() && plays(alloc, "", &script, Err(ToolFault::Line(4)), b"")
@@ -123,7 +123,7 @@ static ODD: [&str; 4] = [
     "reshard 0\nreshard 1001\nrestart\nsettle",
 ];
 
-/// The state where there is no entry.
+/// The state if there is no entry.
 const NOTHING: &[u8] = b"filtered 0\nreport complete 0\n";
 
 fn odd() -> &'static [&'static str] {
@@ -144,7 +144,7 @@ fn odd_lines(rt: HostRuntime) {
     none_is_wrong(&rt, wrong_odd(rt.alloc(), odd()));
 }
 
-/// A `log raw` line of so many times 32 KiB of byte 3, and these digits.
+/// Puts a `log raw` line of `chunks` times 32 KiB of byte 3, and these digits.
 fn push_raw(
     script: &mut Vec<u8>,
     digits: &[u8],
@@ -159,7 +159,7 @@ fn push_raw(
     script.extend_from_slice(b"\n")
 }
 
-/// Whether a record of 16 MiB is read, and a longer one behind it is not.
+/// Returns whether a record of 16 MiB is read, and a longer one after it is not.
 fn reads_most(alloc: Global, script: &mut Vec<u8>) -> Result<bool, AllocError> {
     let digits: Vec<u8> = vec![in alloc; b'3'; 64 * 1024]?;
     let is_longest = push_raw(script, &digits, 512, b"").is_ok()

@@ -6,7 +6,8 @@ use rw_text::ToolFault;
 use rw_types::{Room, Source};
 use std::alloc::Global;
 
-/// How a run ends, and what it writes with so much room; none where memory is refused before it begins.
+/// Returns how a run ends, and what it writes with this much room, or `None` if memory runs out
+/// before it begins.
 pub(crate) fn run<S: Source>(
     alloc: Global,
     settings: &[u8],
@@ -19,7 +20,7 @@ pub(crate) fn run<S: Source>(
     Some((ended, output.into_bytes()))
 }
 
-/// Whether a script ends so, and this is written.
+/// Returns whether a script ends in this way, and this is written.
 pub(crate) fn plays(
     alloc: Global,
     settings: &str,
@@ -37,7 +38,7 @@ pub(crate) fn plays(
 /// What a schedule shows, its settings, its script and the state at its end.
 pub(crate) type Schedule<'a> = (&'a str, &'a str, &'a str, &'a str);
 
-/// What the first schedule shows that leads to another state, if there is one.
+/// Returns what the first schedule shows that leads to another state, if there is one.
 pub(crate) fn first_wrong(alloc: Global, rows: &[Schedule<'static>]) -> Option<&'static str> {
     for (name, settings, script, state) in rows {
         if !plays(alloc, settings, script.as_bytes(), Ok(()), state.as_bytes()) {

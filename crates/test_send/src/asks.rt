@@ -1,4 +1,4 @@
-//! Requests and replies within memory, and names that stand for addresses.
+//! Requests and replies in memory, and names that stand for addresses.
 
 use crate::rows::none_is_wrong;
 use rw_tcp::{NoReply, ask, look_up};
@@ -10,7 +10,7 @@ use std::test::Fail;
 
 const REQUEST: &[u8] = b"POST / HTTP/1.1\r\n\r\n";
 
-/// A reply, and the status that is answered.
+/// A reply, and the status that is returned for it.
 type Row<'a> = (&'a [u8], Result<u16, NoReply>);
 
 static WHOLE: [Row<'static>; 7] = [
@@ -37,7 +37,7 @@ static HALF: [Row<'static>; 5] = [
     (b"SMTP ready\r\n", Err(NoReply::Device)),
 ];
 
-/// Whether a reply has this answer, and this is written where there is so much room.
+/// Returns whether a reply has this answer, and this is written if there is this much room.
 fn is_answered(
     alloc: Global,
     row: &Row<'_>,
@@ -75,7 +75,7 @@ fn replies(rt: HostRuntime) -> Result<(), Fail> {
     Ok(())
 }
 
-/// The writer fails: a refusal counts, and what would take the request does not.
+/// The writer fails: a refusal counts, and a status that would take the request does not.
 #[test]
 fn replies_to_half_a_request(rt: HostRuntime) -> Result<(), Fail> {
     none_is_wrong(&rt, wrong_reply(rt.alloc(), &HALF, 4, b"")?);

@@ -1,6 +1,6 @@
 //! What clients do, and what they read.
 
-use rw_stop::Sign;
+use rw_follow::StopSignal;
 use std::alloc::{AllocError, Global};
 use std::io::{self, Read, Write};
 use std::net::{Net, Shutdown, SocketAddr, TcpStream};
@@ -14,19 +14,20 @@ pub(crate) enum Clients {
     InTurn,
     /// A second one has its reply while a first one has a connection.
     SideBySide,
-    /// One has its reply, and keeps its connection when the end is wished.
+    /// One has its reply, and keeps its connection when the stop is requested.
     Stays,
-    /// One writes the last byte of its second request when the end is wished already.
+    /// One writes the last byte of its second request when the stop is requested already.
     IsInside,
-    /// The same, where an end at once is wished.
+    /// The same, if an end at once is requested.
     IsCutOff,
-    /// One writes a byte and is silent. Another one comes behind it.
+    /// One writes a byte and is silent. Another one comes after it.
     WritesOneByte,
     /// A third one comes while two keep their connections, and then those two go.
     OneTooMany,
-    /// Two come, and the first one goes. Five come one after the other while the second one keeps its connection.
+    /// Two come, and the first one goes. Five come one after the other while the second one keeps
+    /// its connection.
     OneStays,
-    /// One has its last reply, and writes on, as long as it may.
+    /// One has its last reply, and writes on, as long as it can.
     WritesOn,
 }
 
@@ -36,16 +37,17 @@ const PATIENCE_SECONDS: u64 = 10;
 /// The reply to a request that is taken.
 const TAKEN: &[u8] = b"HTTP/1.1 204 No Content\r\n\r\n";
 
-/// Where clients connect to, and how they ask for an end.
+/// Where clients connect to, and how they ask to stop.
 #[derive(Clone, Copy)]
 pub(crate) struct Door<'a, N> {
     pub(crate) net: &'a N,
     pub(crate) alloc: Global,
     pub(crate) address: SocketAddr,
-    pub(crate) sign: &'a Sign,
+    pub(crate) signal: &'a StopSignal,
 }
 
-/// A request to store the sample 1 of `{__name__="up"}` at 1000 ms and so many more, less than 8.
+/// Returns a request to store the sample 1 of `{__name__="up"}` at 1000 ms plus `later`, which is
+/// less than 8.
 fn request(alloc: Global, later: u8) -> Result<Vec<u8>, AllocError> {
     let mut bytes = Vec::from_slice(
         alloc,
@@ -56,7 +58,7 @@ fn request(alloc: Global, later: u8) -> Result<Vec<u8>, AllocError> {
     Ok(bytes)
 }
 
-/// A connection whose reads end, so that a test fails where a reply does not come.
+/// Returns a connection whose reads end, so that a test fails if a reply does not come.
 fn connected<N: Net<Stream = TcpStream>>(door: &Door<'_, N>) -> io::Result<TcpStream> {
     let stream = TcpStream::connect(door.net, door.address)?;
     stream.set_read_timeout(Some(Duration::from_secs(PATIENCE_SECONDS)))?;
@@ -80,7 +82,7 @@ fn ask(stream: &mut TcpStream, request: &[u8], read: &mut Vec<u8>) -> io::Result
     Ok(())
 }
 
-/// Five ask, the first of them for a sample so much later.
+/// Five ask, the first of them for a later sample.
 fn in_turn<N: Net<Stream = TcpStream>>(
     door: &Door<'_, N>,
     first: u8,
@@ -106,12 +108,12 @@ fn side_by_side<N: Net<Stream = TcpStream>>(
 fn stays<N: Net<Stream = TcpStream>>(door: &Door<'_, N>, read: &mut Vec<u8>) -> io::Result<()> {
     let mut stream = connected(door)?;
     ask(&mut stream, &request(door.alloc, 0)?, read)?;
-    door.sign.end();
+    door.signal.finish();
     stream.read_to_end(read)?;
     Ok(())
 }
 
-/// Writes a request, and another one of which the last byte comes when a stop is wished.
+/// Writes a request, and another one of which the last byte comes when a stop is requested.
 fn is_inside<N: Net<Stream = TcpStream> + Clock>(
     door: &Door<'_, N>,
     is_hard: bool,
@@ -124,9 +126,9 @@ fn is_inside<N: Net<Stream = TcpStream> + Clock>(
     stream.write_all(most)?;
     thread::sleep(door.net, Duration::from_millis(500));
     if is_hard {
-        door.sign.hard();
+        door.signal.abort();
     } else {
-        door.sign.end();
+        door.signal.finish();
     }
     thread::sleep(door.net, Duration::from_millis(500));
     let _ = stream.write_all(last);
@@ -178,7 +180,8 @@ fn one_stays<N: Net<Stream = TcpStream>>(door: &Door<'_, N>, read: &mut Vec<u8>)
     Ok(())
 }
 
-/// Has the reply to a request that is refused, and then writes a byte each 300 ms, until its connection is closed or 20 s have passed.
+/// Has the reply to a request that is refused, and then writes a byte each 300 ms, until its
+/// connection is closed or 20 s have passed.
 fn writes_on<N: Net<Stream = TcpStream> + Clock>(
     door: &Door<'_, N>,
     read: &mut Vec<u8>,
@@ -197,7 +200,7 @@ fn writes_on<N: Net<Stream = TcpStream> + Clock>(
     Ok(())
 }
 
-/// What the clients read, each behind the one before. They ask for an end at last.
+/// Returns what the clients read, each after the one before. They request a stop at the end.
 pub(crate) fn read_by<N: Net<Stream = TcpStream> + Clock>(
     door: &Door<'_, N>,
     clients: Clients,
@@ -214,7 +217,7 @@ pub(crate) fn read_by<N: Net<Stream = TcpStream> + Clock>(
         Clients::OneStays => one_stays(door, &mut read),
         Clients::WritesOn => writes_on(door, &mut read),
     };
-    door.sign.end();
+    door.signal.finish();
     done?;
     Ok(read)
 }

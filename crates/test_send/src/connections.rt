@@ -28,7 +28,7 @@ const UP_BODY: [u8; 32] = [
     0x75, 0x70, 0x12, 0x0c, 0x09, 0, 0, 0, 0, 0, 0, 0xf0, 0x3f, 0x10, 0xe8, 0x07,
 ];
 
-/// The request of a message.
+/// Returns the request of a message.
 fn request_of(alloc: Global, body: &[u8]) -> Result<Vec<u8>, AllocError> {
     request_bytes(alloc, &Target::standard(alloc)?, body)
 }
@@ -38,11 +38,12 @@ fn request_of(alloc: Global, body: &[u8]) -> Result<Vec<u8>, AllocError> {
 enum Client {
     /// It has a connection that says nothing until a second one has its reply.
     InTurn,
-    /// It writes nothing on one connection, a request without its last byte on the next, and no HTTP on the last.
+    /// It writes nothing on one connection, a request without its last byte on the next, and bytes
+    /// that are not HTTP on the last.
     Stray,
-    /// It asks so often by one transport.
+    /// It asks this often by one transport.
     Asks(u64),
-    /// It asks once, and its first address is one where nobody listens.
+    /// It asks once, and at its first address nobody listens.
     AsksBehindDeserted,
     /// It writes a whole request before it reads.
     WritesFirst,
@@ -67,7 +68,8 @@ struct Row<'a> {
     printed: &'a [u8],
 }
 
-/// What is replied on two connections, of which the first says nothing until the second has its reply.
+/// Returns what is replied on two connections, of which the first says nothing until the second has
+/// its reply.
 fn replies_in_turn<N: Net<Stream = TcpStream>>(
     net: &N,
     alloc: Global,
@@ -84,7 +86,7 @@ fn replies_in_turn<N: Net<Stream = TcpStream>>(
     Ok(replies)
 }
 
-/// What is replied to a request that is written whole before anything is read.
+/// Returns what is replied to a request that is written whole before anything is read.
 fn reply_after_all<N: Net<Stream = TcpStream>>(
     net: &N,
     alloc: Global,
@@ -98,7 +100,8 @@ fn reply_after_all<N: Net<Stream = TcpStream>>(
     Ok(reply)
 }
 
-/// Connects again and again while a first connection stands open, and says whether it was refused in the end.
+/// Connects again and again while a first connection is open, and returns whether it was refused in
+/// the end.
 fn comes_again<N: Net<Stream = TcpStream> + Clock>(
     net: &N,
     alloc: Global,
@@ -114,7 +117,8 @@ fn comes_again<N: Net<Stream = TcpStream> + Clock>(
     Ok(Vec::new(alloc))
 }
 
-/// Writes nothing on one connection, a request without its last byte on the next, and no HTTP on the last.
+/// Writes nothing on one connection, a request without its last byte on the next, and bytes that
+/// are not HTTP on the last.
 fn stray<N: Net<Stream = TcpStream>>(
     net: &N,
     address: SocketAddr,
@@ -130,12 +134,12 @@ fn stray<N: Net<Stream = TcpStream>>(
     Ok(())
 }
 
-/// An address where nobody listens any more.
+/// Returns an address at which nobody listens any more.
 fn deserted<N: Net<Stream = TcpStream, Listener = TcpListener>>(net: &N) -> io::Result<SocketAddr> {
     TcpListener::bind(net, "127.0.0.1:0")?.local_addr()
 }
 
-/// The statuses of so many requests with the same bytes, each behind a space.
+/// Returns the statuses of `count` requests with the same bytes, each after a space.
 fn statuses<N: Net<Stream = TcpStream> + Clock + Copy>(
     alloc: Global,
     transport: &mut TcpTransport<N>,
@@ -153,7 +157,7 @@ fn statuses<N: Net<Stream = TcpStream> + Clock + Copy>(
     Ok(statuses)
 }
 
-/// What a client reads.
+/// Returns what a client reads.
 fn read_by<N: Net<Stream = TcpStream, Listener = TcpListener> + Clock + Copy>(
     net: &N,
     alloc: Global,
@@ -177,7 +181,7 @@ fn read_by<N: Net<Stream = TcpStream, Listener = TcpListener> + Clock + Copy>(
     statuses(alloc, &mut transport, count, request)
 }
 
-/// Whether a receiver and its client do as a row says, in two threads.
+/// Returns whether a receiver and its client do as a row says, in two threads.
 fn are_served<
     R: Net<Stream = TcpStream, Listener = TcpListener>
         + Threads
@@ -217,7 +221,7 @@ fn are_served<
     Ok(ended == row.ended && read?.as_slice() == row.read)
 }
 
-/// Whether a receiver that is set so and its client do as a row says.
+/// Returns whether a receiver with this setting and its client do as a row says.
 fn does_with<
     R: Net<Stream = TcpStream, Listener = TcpListener>
         + Threads
@@ -233,7 +237,7 @@ fn does_with<
     Ok(is_so && (row.ended.is_err() || printed.as_slice() == row.printed))
 }
 
-/// Whether all is as a row says.
+/// Returns whether everything is as a row says.
 fn does<
     R: Net<Stream = TcpStream, Listener = TcpListener>
         + Threads
@@ -247,7 +251,7 @@ fn does<
     Ok(does_with(rt, alloc, row, &settings)?)
 }
 
-/// The name of the first row that goes otherwise.
+/// Returns the name of the first row that differs.
 fn wrong_row<
     R: Net<Stream = TcpStream, Listener = TcpListener>
         + Threads
@@ -277,7 +281,7 @@ static ROWS: [Row<'static>; 6] = [
         ended: Ok(()),
         printed: UP_AT_1000,
     },
-    // how a connection ends is no fault
+    // how a connection ends is not a fault
     Row {
         name: "nothing is held of nothing",
         settings: b"",
@@ -348,7 +352,7 @@ fn what_is_sent_is_received(rt: HostRuntime) -> Result<(), Fail> {
 const TOO_LARGE: &[u8] =
     b"HTTP/1.1 413 Content Too Large\r\nContent-Length: 0\r\nConnection: close\r\n\r\n";
 
-/// What a client reads whose body is over the limit.
+/// Returns what a client reads whose body is over the limit.
 fn refused<'a>(client: Client, body: &'a [u8], read: &'a [u8]) -> Row<'a> {
     Row {
         name: "a body over the limit",
@@ -363,7 +367,8 @@ fn refused<'a>(client: Client, body: &'a [u8], read: &'a [u8]) -> Row<'a> {
     }
 }
 
-/// The body is refused by its length alone, while most of it is still to be written. A client that writes all of it first sees the reply too.
+/// The body is refused by its length alone, while most of it is still to be written. A client that
+/// writes all of it first sees the reply too.
 #[test]
 fn a_body_over_the_limit_is_refused(rt: HostRuntime) -> Result<(), Fail> {
     let body: Vec<u8> = vec![in rt.alloc(); 0; 1 << 24]?;
@@ -380,7 +385,8 @@ fn a_body_over_the_limit_is_refused(rt: HostRuntime) -> Result<(), Fail> {
 /// How many samples a long request has: some 200 KB of them.
 const MANY: u16 = 6_250;
 
-/// A message of `MANY` samples 1 of `{__name__="up"}`, one each millisecond from 1000 on, each in a series field of its own.
+/// Returns a message of `MANY` samples 1 of `{__name__="up"}`, one each millisecond from 1000 on,
+/// each in a series field of its own.
 fn long_body(alloc: Global) -> Result<Vec<u8>, AllocError> {
     let (front, _) = UP_BODY.split_at(30);
     let mut body = Vec::new(alloc);
@@ -391,7 +397,7 @@ fn long_body(alloc: Global) -> Result<Vec<u8>, AllocError> {
     Ok(body)
 }
 
-/// What is printed of it.
+/// Returns what is printed of it.
 fn long_text(alloc: Global) -> Result<Vec<u8>, AllocError> {
     let mut text = Vec::from_slice(alloc, b"received {__name__=\"up\"}")?;
     for t in 1_000..1_000 + MANY {
@@ -401,7 +407,7 @@ fn long_text(alloc: Global) -> Result<Vec<u8>, AllocError> {
     Ok(text)
 }
 
-/// No one read or write takes such a request. All that it brings is held.
+/// No single read or write takes such a request. Everything that it brings is held.
 #[test]
 fn a_long_request_arrives_whole(rt: HostRuntime) -> Result<(), Fail> {
     let body = long_body(rt.alloc())?;
@@ -422,7 +428,7 @@ fn a_long_request_arrives_whole(rt: HostRuntime) -> Result<(), Fail> {
     Ok(())
 }
 
-/// Not less, and not seconds.
+/// A pause takes at least that long, and not seconds.
 #[test]
 fn a_pause_lasts_so_many_milliseconds(rt: HostRuntime) -> Result<(), Fail> {
     let start = Instant::now(&rt)?;
@@ -432,7 +438,8 @@ fn a_pause_lasts_so_many_milliseconds(rt: HostRuntime) -> Result<(), Fail> {
     Ok(())
 }
 
-/// Whether a receiver whose listener does not wait for a connection fails, and prints nothing.
+/// Returns whether a receiver whose listener does not wait for a connection fails, and prints
+/// nothing.
 fn fails_without_waiting<
     R: Net<Stream = TcpStream, Listener = TcpListener> + Threads + Wait + Clock + Sync,
 >(rt: &R, alloc: Global, settings: &Settings) -> io::Result<bool> {
@@ -450,7 +457,7 @@ fn fails_without_waiting<
     Ok(ended == Err(ToolFault::Device) && printed.as_slice().is_empty())
 }
 
-/// A listener that does not wait fails where no connection has come.
+/// A listener that does not wait fails if no connection has come.
 #[test]
 fn a_failed_accept_is_a_device_fault(rt: HostRuntime) -> Result<(), Fail> {
     let settings = read_settings(rt.alloc(), b"")?;
@@ -458,7 +465,7 @@ fn a_failed_accept_is_a_device_fault(rt: HostRuntime) -> Result<(), Fail> {
     Ok(())
 }
 
-/// A transport to one address, with a timeout of so many milliseconds.
+/// Returns a transport to one address, with a timeout in milliseconds.
 fn transport_to<N: Net<Stream = TcpStream> + Clock + Copy>(
     net: &N,
     alloc: Global,
@@ -470,12 +477,13 @@ fn transport_to<N: Net<Stream = TcpStream> + Clock + Copy>(
     Ok(TcpTransport::new(alloc, *net, addresses, timeout, counters))
 }
 
-/// Whether a request has no reply.
+/// Returns whether a request has no reply.
 fn is_lost<N: Net<Stream = TcpStream> + Clock + Copy>(transport: &mut TcpTransport<N>) -> bool {
     matches!(transport.exchange(b"POST"), Err(Lost))
 }
 
-/// Whether a request is lost that nobody answers within the timeout, and one where nobody listens any more.
+/// Returns whether a request is lost that nobody answers within the timeout, and one to an address
+/// at which nobody listens any more.
 fn are_lost<N: Net<Stream = TcpStream, Listener = TcpListener> + Clock + Copy>(
     net: &N,
     alloc: Global,
@@ -494,13 +502,13 @@ fn no_reply_is_lost(rt: HostRuntime) -> Result<(), Fail> {
     Ok(())
 }
 
-/// Reads the request of one connection whole, and closes it without a word.
+/// Reads the request of one connection whole, and closes it without a reply.
 fn hang_up(listener: &TcpListener) -> io::Result<()> {
     let (mut stream, _) = listener.accept()?;
     stream.read_exact(&mut [0; 4])
 }
 
-/// Whether a request is lost that a receiver takes whole, and does not answer.
+/// Returns whether a request is lost that a receiver takes whole, and does not answer.
 fn is_lost_in_silence<
     R: Net<Stream = TcpStream, Listener = TcpListener> + Threads + Clock + Copy + Send + Sync,
 >(rt: &R, alloc: Global) -> io::Result<bool> {
@@ -511,14 +519,15 @@ fn is_lost_in_silence<
     Ok(is_lost && read.is_ok())
 }
 
-/// Not even a request that was written whole and read whole counts as taken where no reply came.
+/// Not even a request that was written whole and read whole counts as taken if no reply came.
 #[test]
 fn a_connection_that_is_closed_without_a_reply_is_lost(rt: HostRuntime) -> Result<(), Fail> {
     assert!(rt; is_lost_in_silence(&rt, rt.alloc())?);
     Ok(())
 }
 
-/// Writes the head of a reply to one connection, a byte each 20 ms, until the client has gone or 40 s have passed.
+/// Writes the head of a reply to one connection, a byte each 20 ms, until the client has gone or 40
+/// s have passed.
 fn drip<R: Clock>(clock: &R, listener: &TcpListener) -> io::Result<()> {
     let (mut stream, _) = listener.accept()?;
     stream.write_all(b"HTTP/1.1 204 No Content\r\nX: ")?;
@@ -529,7 +538,8 @@ fn drip<R: Clock>(clock: &R, listener: &TcpListener) -> io::Result<()> {
     Ok(())
 }
 
-/// How long a request takes whose reply comes byte by byte, with a timeout of 200 ms; none where it has a reply.
+/// Returns how long a request takes whose reply comes byte by byte, with a timeout of 200 ms, or
+/// `None` if it has a reply.
 fn dripped<
     R: Net<Stream = TcpStream, Listener = TcpListener> + Threads + Clock + Copy + Send + Sync,
 >(rt: &R, alloc: Global) -> io::Result<Option<Duration>> {

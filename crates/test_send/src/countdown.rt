@@ -1,33 +1,35 @@
-//! Watches that say to stop after so many looks.
+//! Watches that ask to stop after a number of looks.
 
 ghost use Rattle.std.specs.Prelude.{◌≡◌, ◌<◌};
 
-use rw_follow::{Sign, Watch, Wish};
+use rw_follow::{StopRequest, Timed, Watch};
 use rw_metrics::SendCounters;
 use std::alloc::Global;
+use std::time::Clock;
 
-/// Says this wish once it was asked so often. What was fed is flushed at once, or never, and so is the number of shards asked for.
+/// Makes this request once it was asked `looks` times. What was fed is flushed at once, or never,
+/// and the number of shards is adjusted likewise.
 #[derive(Drop)]
 pub(crate) struct Countdown {
     pub(crate) looks: u32,
-    pub(crate) wish: Wish,
+    pub(crate) request: StopRequest,
     pub(crate) flushes: bool,
     pub(crate) reshards: bool,
-    pub(crate) said: Wish,
-    /// The naps so far. The greatest number stands for more, too.
-    pub(crate) naps: u32,
+    pub(crate) said: StopRequest,
+    /// The sleeps so far; the greatest number also stands for more.
+    pub(crate) sleeps: u32,
 }
 
 impl Countdown {
-    /// What is said at this look.
-    fn next(&mut self) -> Wish
-        ensures { self.new.naps ≡ self.old.naps }
+    /// Returns what is asked for at this look.
+    fn next(&mut self) -> StopRequest
+        ensures { self.new.sleeps ≡ self.old.sleeps }
     {
         if self.looks == 0 {
-            return self.wish;
+            return self.request;
         }
         self.looks -= 1;
-        Wish::Work
+        StopRequest::Continue
     }
 }
 
@@ -36,17 +38,17 @@ impl Watch for Countdown {
 
     ghost due = { λ c. c.flushes };
 
-    ghost tells = { λ c. c.naps < 4_294_967_295 };
+    ghost counts = { λ c. c.sleeps < 4_294_967_295 };
 
-    ghost naps = { λ c. c.naps };
+    ghost sleeps = { λ c. c.sleeps };
 
-    fn wish(&mut self) -> Wish {
+    fn stop_request(&mut self) -> StopRequest {
         self.said = self.next();
         self.said
     }
 
-    fn nap(&mut self) {
-        self.naps = self.naps.saturating_add(1);
+    fn sleep(&mut self) {
+        self.sleeps = self.sleeps.saturating_add(1);
     }
 
     fn is_flush_due(&mut self) -> bool {
@@ -58,34 +60,65 @@ impl Watch for Countdown {
     }
 }
 
-/// Asks for an end behind so many looks: at once if the counters tell then that one sample was placed and none waits, and in order otherwise.
+/// Asks to stop after `looks` looks: at once if the counters say then that one sample was placed
+/// and none waits, and otherwise to finish. Time passes as `timed` says.
 #[derive(Drop)]
-pub(crate) struct Onlooker<'a> {
+pub(crate) struct Onlooker<'a, K> {
     pub(crate) alloc: Global,
     pub(crate) counters: &'a SendCounters,
     pub(crate) looks: u32,
+    pub(crate) timed: Timed<K>,
+    pub(crate) said: StopRequest,
+    pub(crate) is_due: bool,
 }
 
-impl Onlooker<'_> {
-    /// Whether the counters tell that one sample was placed and none waits.
+impl<K: Clock> Onlooker<'_, K> {
+    /// Returns whether the counters say that one sample was placed and none waits.
     fn has_settled(&self) -> bool {
         match self.counters.numbers(self.alloc) {
             Ok(numbers) => numbers.placed == 1 && numbers.waiting == 0,
             Err(_) => false,
         }
     }
-}
 
-impl Sign for Onlooker<'_> {
-    fn wish(&mut self) -> Wish {
+    /// Returns what is asked for at this look.
+    fn next(&mut self) -> StopRequest {
         if self.looks > 0 {
             self.looks -= 1;
-            return Wish::Work;
+            return StopRequest::Continue;
         }
         if self.has_settled() {
-            Wish::Hard
+            StopRequest::Abort
         } else {
-            Wish::End
+            StopRequest::Finish
         }
+    }
+}
+
+impl<K: Clock> Watch for Onlooker<'_, K> {
+    ghost said = { λ o. o.said };
+
+    ghost due = { λ o. o.is_due };
+
+    ghost counts = { λ _. ⊥ };
+
+    ghost sleeps = { λ _. 0 };
+
+    fn stop_request(&mut self) -> StopRequest {
+        self.said = self.next();
+        self.said
+    }
+
+    fn sleep(&mut self) {
+        self.timed.sleep();
+    }
+
+    fn is_flush_due(&mut self) -> bool {
+        self.is_due = self.timed.is_flush_due();
+        self.is_due
+    }
+
+    fn is_reshard_due(&mut self) -> bool {
+        self.timed.is_reshard_due()
     }
 }

@@ -3,7 +3,7 @@
 use rw_metrics::{ReceiveCounters, ReceiveNumbers, SendCounters, SendNumbers};
 use std::alloc::Global;
 
-/// How often a word stands in a text.
+/// Returns how often a word is in a text.
 fn times(text: &[u8], word: &[u8]) -> u64 {
     let mut count = 0u64;
     for i in 0..text.len() {
@@ -14,7 +14,7 @@ fn times(text: &[u8], word: &[u8]) -> u64 {
     count
 }
 
-/// Whether a report says that so many were filtered, or nothing.
+/// Returns whether a report has this number of filtered samples, or is empty.
 fn says_filtered(alloc: Global, report: &[u8], filtered: u64) -> bool {
     match format!(in alloc; "filtered {filtered}\n") {
         Ok(line) => report.is_empty() || times(report, line.as_bytes()) == 1,
@@ -22,7 +22,8 @@ fn says_filtered(alloc: Global, report: &[u8], filtered: u64) -> bool {
     }
 }
 
-/// Whether a report names so many samples as dropped, by each reason, and so many that are not resolved.
+/// Returns whether a report lists as many dropped samples as the counters say, by each reason, and
+/// as many that are not resolved.
 fn names_as_many(report: &[u8], numbers: &SendNumbers) -> bool {
     let drops = &numbers.drops;
     let waiting = times(report, b"\nabandoned ");
@@ -34,7 +35,7 @@ fn names_as_many(report: &[u8], numbers: &SendNumbers) -> bool {
         && numbers.placed == numbers.resolved.saturating_add(waiting)
 }
 
-/// Whether counters of a sender that has stopped tell what its report says.
+/// Returns whether the counters of a stopped sender agree with its report.
 pub(crate) fn tells_as_printed(alloc: Global, counters: &SendCounters, report: &[u8]) -> bool {
     match counters.numbers(alloc) {
         Ok(numbers) => {
@@ -46,13 +47,15 @@ pub(crate) fn tells_as_printed(alloc: Global, counters: &SendCounters, report: &
     }
 }
 
-/// Whether so many samples stand in what a receiver printed, and no connection is open. No label has a space.
+/// Returns whether a receiver printed as many samples as it counted, and no connection is open. No
+/// label has a space.
 fn has_printed(printed: &[u8], numbers: &ReceiveNumbers) -> bool {
     let held = times(printed, b" ").saturating_sub(times(printed, b"\n"));
     numbers.connections == 0 && numbers.samples == held
 }
 
-/// Whether counters of a receiver that has ended tell of so many samples as it printed, and of no open connection.
+/// Returns whether the counters of a receiver that has ended agree with what it printed, with no
+/// open connection.
 pub(crate) fn holds_as_printed(alloc: Global, counters: &ReceiveCounters, printed: &[u8]) -> bool {
     match counters.numbers(alloc) {
         Ok(numbers) => has_printed(printed, &numbers),

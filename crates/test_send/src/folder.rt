@@ -9,7 +9,7 @@ use crate::shipped::settings_of;
 use http::StatusCode;
 use rw_log_folder::{Opened, SegmentFile, segment_files};
 use rw_metrics::SendCounters;
-use rw_send::{Counted, StopFlag, run_send};
+use rw_send::{SendOptions, StopFlag, run_send};
 use rw_text::ToolFault;
 use rw_types::{Room, Source, read_to_end};
 use std::alloc::{AllocError, Global};
@@ -22,7 +22,7 @@ use std::thread::Threads;
 use std::time::{Clock, Duration};
 use std::{env, fs};
 
-/// Adds what the segments hold, one after the other. No, where one cannot be read.
+/// Adds what the segments hold, one after the other. The answer is no if one cannot be read.
 fn are_read<R: Files<File = File> + Drop>(
     alloc: Global,
     segments: Vec<Opened<SegmentFile<R>>>,
@@ -37,14 +37,14 @@ fn are_read<R: Files<File = File> + Drop>(
     true
 }
 
-/// Whether the segments of a folder hold this.
+/// Returns whether the segments of a folder hold this.
 fn holds(rt: &HostRuntime, dir: &str, wanted: &[u8]) -> Result<bool, AllocError> {
     let mut text = Vec::new(rt.alloc());
     let segments = segment_files(rt, dir, None)?;
     Ok(are_read(rt.alloc(), segments, &mut text) && text.as_slice() == wanted)
 }
 
-/// A new folder of this name.
+/// Returns a new folder of this name.
 pub(crate) fn new_folder(rt: &HostRuntime, name: &str) -> Result<PathBuf, Fail> {
     let temp = env::temp_dir(rt)?;
     let dir = temp.as_path().join(rt.alloc(), name)?;
@@ -100,7 +100,7 @@ fn put_long(text: &mut Vec<u8>) -> Result<(), AllocError> {
     Ok(())
 }
 
-/// Whether a file of the folder is read as it was written.
+/// Returns whether a file of the folder is read as it was written.
 fn is_read_back(rt: &HostRuntime, dir: &str, text: &[u8]) -> Result<bool, Fail> {
     fs::write(rt, Path::new(dir).join(rt.alloc(), "00000000")?, text)?;
     Ok(holds(rt, dir, text)?)
@@ -126,7 +126,7 @@ fn a_missing_folder_cannot_be_read(rt: HostRuntime) -> Result<(), Fail> {
     Ok(())
 }
 
-/// Receivers that take each request at once.
+/// Returns receivers that take each request at once.
 pub(crate) fn ready<R: Copy>(clock: &R) -> Receivers<R> {
     Receivers {
         clock: *clock,
@@ -166,13 +166,13 @@ fn send_listed<R: Threads + Wait + Clock + Copy + Send + 'static>(
     let settings = settings_of(alloc, b"")?;
     let segments = segment_files(rt, dir.as_str(), None)?;
     have_changed(rt, dir, changes);
-    let line = Counted {
+    let options = SendOptions {
         connect: ready(threads),
         counters: &counters,
         max_batch_bytes: None,
         stop,
     };
-    Ok(run_send(threads, alloc, settings, segments, line, printed))
+    Ok(run_send(threads, alloc, settings, segments, options, printed))
 }
 
 /// What happens to a folder of two segments once they are listed, the answer, and what is printed.
@@ -217,7 +217,7 @@ static LISTED: [Row<'static>; 3] = [
     ),
 ];
 
-/// The second segment is gone, or a folder stands in its place.
+/// The second segment is gone, or there is a folder in its place.
 #[test]
 fn what_is_gone_is_no_end(rt: HostRuntime) -> Result<(), Fail> {
     none_is_wrong(&rt, wrong_row(&rt, &rt, &LISTED)?);

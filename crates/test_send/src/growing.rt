@@ -6,7 +6,7 @@ use crate::countdown::Countdown;
 use crate::kept::{Kept, follow_into};
 use crate::rows::none_is_wrong;
 use Happens::{Gap, More, Next, Quiet, Turn};
-use rw_follow::{Broken, Event, Listed, Stop, Wish};
+use rw_follow::{Event, Listed, SegmentError, StopRequest};
 use std::alloc::{AllocError, Global};
 use std::collections::VecDeque;
 use std::sync::Wait;
@@ -22,14 +22,15 @@ enum Happens<'a> {
     Gap(u64),
 }
 
-/// What happens, after how many looks it is to stop, by which wish, in pieces of how many bytes; how the following ends, the segments that were given whole,
-/// the beginning of the next one, and how often it was flushed.
+/// What happens, after how many looks it is to stop, by which request, in pieces of how many bytes;
+/// how the following ends, the segments that were read whole, the part of the next one, and how
+/// often it was flushed.
 type Row<'a> = (
     &'a [Happens<'a>],
     u32,
-    Wish,
+    StopRequest,
     usize,
-    Result<Stop, Option<u64>>,
+    Result<StopRequest, Option<u64>>,
     &'a [&'a [u8]],
     &'a [u8],
     u64,
@@ -58,32 +59,32 @@ fn put_events(
     Ok(())
 }
 
-/// Follows the log of a row, and gives the number of the missing segment where it broke so.
+/// Follows the log of a row, and returns the number of the missing segment if that ended it.
 fn followed<R: Wait>(
     rt: &R,
     log: &mut Listed,
     kept: &mut Kept,
     row: &Row<'_>,
     buf: &mut [u8],
-) -> Result<Result<Stop, Option<u64>>, AllocError>
+) -> Result<Result<StopRequest, Option<u64>>, AllocError>
     requires { 0 < length buf.old }
 {
     let mut watch = Countdown {
         looks: row.1,
-        wish: row.2,
+        request: row.2,
         flushes: true,
         reshards: false,
-        said: Wish::Work,
-        naps: 0,
+        said: StopRequest::Continue,
+        sleeps: 0,
     };
     Ok(match follow_into(rt, kept, log, &mut watch, buf)? {
         Ok(stop) => Ok(stop),
-        Err(Broken::Missing(number)) => Err(Some(number)),
+        Err(SegmentError::Missing(number)) => Err(Some(number)),
         Err(_) => Err(None),
     })
 }
 
-/// Whether these segments were given whole.
+/// Returns whether these segments were given whole.
 fn are_whole(kept: &Kept, wanted: &[&[u8]]) -> bool {
     if kept.whole.len() != wanted.len() {
         return false;
@@ -96,7 +97,7 @@ fn are_whole(kept: &Kept, wanted: &[&[u8]]) -> bool {
     true
 }
 
-/// Whether a row is so.
+/// Returns whether a row holds.
 fn does<R: Wait>(rt: &R, alloc: Global, row: &Row<'_>) -> Result<bool, AllocError> {
     let mut events = VecDeque::new(alloc);
     put_events(alloc, &mut events, row.0)?;
@@ -126,18 +127,18 @@ fn wrong_row<R: Wait>(
     Ok(None)
 }
 
-const ORDERLY: Result<Stop, Option<u64>> = Ok(Stop::Orderly);
+const FINISHED: Result<StopRequest, Option<u64>> = Ok(StopRequest::Finish);
 
 static GROWING: [Row<'static>; 9] = [
     // nothing
-    (&[], 3, Wish::End, 8, ORDERLY, &[], b"", 0),
+    (&[], 3, StopRequest::Finish, 8, FINISHED, &[], b"", 0),
     // bytes
     (
         &[More(b"ab"), Quiet, Quiet, More(b"c")],
         4,
-        Wish::End,
+        StopRequest::Finish,
         8,
-        ORDERLY,
+        FINISHED,
         &[],
         b"abc",
         2,
@@ -146,9 +147,9 @@ static GROWING: [Row<'static>; 9] = [
     (
         &[More(b"abcde")],
         1,
-        Wish::End,
+        StopRequest::Finish,
         2,
-        ORDERLY,
+        FINISHED,
         &[],
         b"abcde",
         3,
@@ -157,20 +158,20 @@ static GROWING: [Row<'static>; 9] = [
     (
         &[More(b"ab"), Quiet, Next(b"cd")],
         9,
-        Wish::End,
+        StopRequest::Finish,
         8,
-        ORDERLY,
+        FINISHED,
         &[b"ab"],
         b"cd",
         2,
     ),
-    // the last bytes of a segment come with the next one, behind the look that found nothing left
+    // the last bytes of a segment come with the next one, after the look that found nothing left
     (
         &[More(b"ab"), Quiet, Turn(b"c", b"d")],
         9,
-        Wish::End,
+        StopRequest::Finish,
         8,
-        ORDERLY,
+        FINISHED,
         &[b"abc"],
         b"d",
         3,
@@ -179,9 +180,9 @@ static GROWING: [Row<'static>; 9] = [
     (
         &[Next(b""), Next(b""), Next(b"a")],
         9,
-        Wish::End,
+        StopRequest::Finish,
         8,
-        ORDERLY,
+        FINISHED,
         &[b"", b"", b""],
         b"a",
         1,
@@ -190,9 +191,9 @@ static GROWING: [Row<'static>; 9] = [
     (
         &[More(b"a"), Turn(b"b", b"c"), Next(b"d")],
         20,
-        Wish::End,
+        StopRequest::Finish,
         8,
-        ORDERLY,
+        FINISHED,
         &[b"ab", b"c"],
         b"d",
         4,
@@ -201,18 +202,18 @@ static GROWING: [Row<'static>; 9] = [
     (
         &[More(b"a"), Quiet, Gap(7)],
         9,
-        Wish::End,
+        StopRequest::Finish,
         8,
         Err(Some(7)),
         &[],
         b"a",
         1,
     ),
-    // one is missing behind the next one
+    // one is missing after the next one
     (
         &[More(b"a"), Next(b"b"), Gap(9)],
         9,
-        Wish::End,
+        StopRequest::Finish,
         8,
         Err(Some(9)),
         &[b"a"],
@@ -228,35 +229,44 @@ fn logs_grow(rt: HostRuntime) -> Result<(), Fail> {
 }
 
 static STOPPED: [Row<'static>; 4] = [
-    // the sign comes, and then some bytes and a segment that stood
+    // the request comes, and then some bytes and a segment that were there
     (
         &[Quiet, Quiet, More(b"ab"), Turn(b"c", b"d")],
         1,
-        Wish::End,
+        StopRequest::Finish,
         8,
-        ORDERLY,
+        FINISHED,
         &[b"abc"],
         b"d",
         3,
     ),
     // before the first look
-    (&[More(b"ab")], 0, Wish::End, 1, ORDERLY, &[], b"ab", 2),
+    (
+        &[More(b"ab")],
+        0,
+        StopRequest::Finish,
+        1,
+        FINISHED,
+        &[],
+        b"ab",
+        2,
+    ),
     // at once
     (
         &[More(b"ab"), More(b"c")],
         1,
-        Wish::Hard,
+        StopRequest::Abort,
         8,
-        Ok(Stop::Hard),
+        Ok(StopRequest::Abort),
         &[],
         b"ab",
         1,
     ),
-    // a segment is missing, and the sign has come
+    // a segment is missing, and the request has come
     (
         &[More(b"ab"), Gap(3)],
         0,
-        Wish::End,
+        StopRequest::Finish,
         8,
         Err(Some(3)),
         &[],

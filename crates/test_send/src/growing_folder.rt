@@ -5,10 +5,10 @@ use crate::folder::{new_folder, ready, write_name};
 use crate::kept::{Kept, follow_into};
 use crate::shipped::settings_of;
 use Change::{Dir, Goes, Grows, Nothing};
-use rw_follow::{Broken, Sign, Timed, Wish};
+use rw_follow::{SegmentError, StopRequest, Watch};
 use rw_log_folder::Folder;
 use rw_metrics::SendCounters;
-use rw_send::{Counted, FollowFault, StopFlag, run_follow};
+use rw_send::{FollowFault, SendOptions, StopFlag, run_follow};
 use rw_text::ToolFault;
 use rw_types::Room;
 use std::alloc::{AllocError, Global};
@@ -20,13 +20,13 @@ use std::rt::Files;
 use std::sync::{Arc, Wait};
 use std::test::Fail;
 use std::thread::Threads;
-use std::time::{Clock, Duration};
+use std::time::Clock;
 
 /// What happens to a folder.
 #[derive(Clone, Copy)]
 pub(crate) enum Change {
     Nothing,
-    /// A file has these bytes more. It comes where it is not there.
+    /// A file grows by these bytes. It is created if it does not exist.
     Grows(&'static str, &'static [u8]),
     /// A file goes.
     Goes(&'static str),
@@ -34,7 +34,7 @@ pub(crate) enum Change {
     Dir(&'static str),
 }
 
-/// The text of a file that goes on.
+/// Returns the text of a file that is being extended.
 fn has_grown<R: Files<File = File>>(rt: &R, path: Path<'_>, bytes: &[u8]) -> bool {
     let mut options = OpenOptions::new();
     options.append(true).create(true);
@@ -66,31 +66,62 @@ pub(crate) fn has_changed<R: Files<File = File> + AllocGlobal>(
     }
 }
 
-/// Lets a change happen at each look, and says to end behind the last one, or where one cannot be.
+/// Makes a change at each look, and asks to finish after the last one, or to end at once if one
+/// cannot be made.
 #[derive(Drop)]
 struct Writer<R> {
     rt: R,
     dir: PathBuf,
     changes: &'static [Change],
     at: usize,
+    said: StopRequest,
 }
 
-impl<R: Files<File = File> + AllocGlobal> Sign for Writer<R> {
-    fn wish(&mut self) -> Wish {
+impl<R: Files<File = File> + AllocGlobal> Writer<R> {
+    /// Makes the next change, and returns what is asked for then.
+    fn next(&mut self) -> StopRequest {
         if self.at >= self.changes.len() {
-            return Wish::End;
+            return StopRequest::Finish;
         }
         let change = self.changes[self.at];
         self.at += 1;
         if has_changed(&self.rt, self.dir.as_path(), change) {
-            Wish::Work
+            StopRequest::Continue
         } else {
-            Wish::Hard
+            StopRequest::Abort
         }
     }
 }
 
-/// What was given, a bar behind each segment that is over, and at the end the number that is missing or a point.
+impl<R: Files<File = File> + AllocGlobal> Watch for Writer<R> {
+    ghost use Rattle.std.specs.Prelude.{false};
+
+    ghost said = { λ w. w.said };
+
+    ghost due = { λ _. false };
+
+    ghost counts = { λ _. ⊥ };
+
+    ghost sleeps = { λ _. 0 };
+
+    fn stop_request(&mut self) -> StopRequest {
+        self.said = self.next();
+        self.said
+    }
+
+    fn sleep(&mut self) {}
+
+    fn is_flush_due(&mut self) -> bool {
+        false
+    }
+
+    fn is_reshard_due(&mut self) -> bool {
+        false
+    }
+}
+
+/// Returns what was read, with a bar after each segment that is over, and at the end the number
+/// that is missing or a point.
 fn text_of(alloc: Global, kept: &Kept, end: Option<u64>) -> Result<String, AllocError> {
     let mut text = Vec::new(alloc);
     for segment in &kept.whole {
@@ -116,24 +147,23 @@ fn followed<W: Wait>(
     let mut buf = [0u8; 3];
     let counters = Arc::new(alloc, SendCounters::new(alloc)?)?;
     let mut folder = Folder::new(*rt, String::from_str(alloc, dir.as_str())?, counters);
-    let writer = Writer {
+    let mut writer = Writer {
         rt: *rt,
         dir,
         changes,
         at: 0,
+        said: StopRequest::Continue,
     };
-    let moment = Duration::from_millis(1);
-    let mut watch = Timed::new(*rt, writer, moment, moment, moment);
     let mut kept = Kept::new(alloc);
-    let end = match follow_into(waits, &mut kept, &mut folder, &mut watch, &mut buf)? {
+    let end = match follow_into(waits, &mut kept, &mut folder, &mut writer, &mut buf)? {
         Ok(_) => None,
-        Err(Broken::Missing(number)) => Some(number),
+        Err(SegmentError::Missing(number)) => Some(number),
         Err(_) => Some(u64::MAX),
     };
     text_of(alloc, &kept, end)
 }
 
-/// Other names are passed over, and what was there before is read first, in order.
+/// Other names are skipped, and what was there before is read first, in order.
 static COMES: [Change; 9] = [
     Nothing,
     Grows("checkpoint.00000007", b"x"),
@@ -157,7 +187,7 @@ fn files_come_and_grow(rt: HostRuntime) -> Result<(), Fail> {
     Ok(())
 }
 
-/// A file that is read goes, and so does the next one before it was seen.
+/// A file that is read is removed, and so is the next one before it was seen.
 static GOES: [Change; 6] = [
     Grows("00000001", b"a"),
     Nothing,
@@ -175,7 +205,7 @@ fn a_missing_file_is_told(rt: HostRuntime) -> Result<(), Fail> {
     Ok(())
 }
 
-/// Follows a folder by the command `send`, and says to end behind some looks.
+/// Follows a folder by the command `send`, and asks for a stop after some looks.
 fn follow_sending<R: Threads + Wait + Clock + Copy + Send + 'static>(
     rt: &HostRuntime,
     threads: &R,
@@ -191,13 +221,13 @@ fn follow_sending<R: Threads + Wait + Clock + Copy + Send + 'static>(
     let mut folder = Folder::new(*rt, dir, opened);
     let mut watch = Countdown {
         looks: 5,
-        wish: Wish::End,
+        request: StopRequest::Finish,
         flushes: false,
         reshards: false,
-        said: Wish::Work,
-        naps: 0,
+        said: StopRequest::Continue,
+        sleeps: 0,
     };
-    let line = Counted {
+    let options = SendOptions {
         connect: ready(threads),
         counters: &counters,
         max_batch_bytes: None,
@@ -208,13 +238,13 @@ fn follow_sending<R: Threads + Wait + Clock + Copy + Send + 'static>(
         alloc,
         settings,
         &mut folder,
-        line,
+        options,
         &mut watch,
         printed,
     ))
 }
 
-/// Whether a folder that is followed is told as one that cannot be read.
+/// Returns whether following a folder is reported as one that cannot be read.
 fn is_unreadable<R: Threads + Wait + Clock + Copy + Send + 'static>(
     rt: &HostRuntime,
     threads: &R,
@@ -226,7 +256,7 @@ fn is_unreadable<R: Threads + Wait + Clock + Copy + Send + 'static>(
     Ok(is_printed && answer == Err(FollowFault::Tool(ToolFault::Device)))
 }
 
-/// A folder can be opened as a file is, and cannot be read so.
+/// A folder can be opened as a file is, but cannot be read so.
 #[test]
 fn what_cannot_be_read_is_no_quiet_log(rt: HostRuntime) -> Result<(), Fail> {
     let dir = new_folder(&rt, "rwship-what-cannot-be-read-is-no-quiet-log")?;

@@ -7,19 +7,19 @@ use std::alloc::{AllocError, Global};
 /// One sample, the value 1 at 1000 of `{__name__="up"}`.
 pub(crate) const UP: &[u8] = b"series 1 {__name__=\"up\"}\nsample 1 1000 1\n";
 
-/// Of the samples of one series the second and the third do not rise.
+/// Of the samples of one series the second and the third are not later than the first.
 pub(crate) const FALLS: &[u8] =
     b"series 1 {__name__=\"up\"}\nsample 1 10 1\nsample 1 10 1\nsample 1 5 2\nsample 1 20 3\n";
 
-/// Two references stand for one series, and the second is behind.
+/// Two references stand for one series, and the second is late.
 pub(crate) const BEHIND: &[u8] =
     b"series 1 {__name__=\"up\"}\nseries 2 {__name__=\"up\"}\nsample 1 20 1\nsample 2 10 2\n";
 
-/// Two series with names that are no legacy ones.
+/// Two series with names that are not legacy names.
 pub(crate) const NAMES: &[u8] =
     b"series 1 {__name__=\"http.rate\",\"s\xc3\xa4ge\"=\"1\"}\nseries 2 {\"9x\"=\"1\"}\nsample 1 10 1\nsample 2 10 2\n";
 
-/// Samples of one series, so many, from 0 ms on.
+/// Returns `count` samples of one series, from 0 ms on.
 pub(crate) fn samples(alloc: Global, count: u32) -> Result<Vec<u8>, AllocError> {
     let mut text = Vec::from_slice(alloc, b"series 1 {__name__=\"up\",job=\"api\"}\n")?;
     for t in 0..count {
@@ -29,7 +29,7 @@ pub(crate) fn samples(alloc: Global, count: u32) -> Result<Vec<u8>, AllocError> 
     Ok(text)
 }
 
-/// The segment of log text, of at most 4 pages.
+/// Returns the segment of log text, of at most 4 pages.
 pub(crate) fn segment(alloc: Global, text: &[u8]) -> Result<Vec<u8>, AllocError> {
     let mut reader = text;
     let mut writer = Room::new(alloc, 131_072)?;

@@ -4,7 +4,7 @@ use crate::counted::holds_as_printed;
 use crate::logs::{BEHIND, FALLS, NAMES, UP, segment};
 use rw_metrics::{ReceiveCounters, SendCounters};
 use rw_receive::{Service, run_receive};
-use rw_send::{Counted, StopFlag, TcpConnect, run_send};
+use rw_send::{SendOptions, StopFlag, TcpConnect, run_send};
 use rw_sender::Connect;
 use rw_settings::read_settings;
 use rw_tcp::look_up;
@@ -17,7 +17,8 @@ use std::thread;
 use std::thread::Threads;
 use std::time::Clock;
 
-/// The settings of both, the connections that the sender makes, the log, and what the sender and the receiver print.
+/// The settings of both, the connections that the sender makes, the log, and what the sender and
+/// the receiver print.
 type Row<'a> = (&'a [u8], u64, &'a [u8], &'a [u8], &'a [u8]);
 
 const COMPLETE: &[u8] = b"filtered 0\nreport complete 2\n";
@@ -81,7 +82,8 @@ fn connect_to<N: Net<Stream = TcpStream> + Drop>(
     Ok(TcpConnect::new(alloc, net, addresses, Bounded::new(10_000), counters))
 }
 
-/// Whether a receiver takes the connections of a sender, or one where there are none, ends well and has counted what it holds.
+/// Returns whether a receiver takes the connections of a sender, or one if the sender makes none,
+/// ends well and has counted what it holds.
 fn receives<R: Threads + Wait + Clock + Sync>(
     rt: &R,
     alloc: Global,
@@ -108,7 +110,7 @@ fn receives<R: Threads + Wait + Clock + Sync>(
     has_ended && holds_as_printed(alloc, &counters, row.4)
 }
 
-/// Whether a sender ships a log and ends well.
+/// Returns whether a sender ships a log and ends well.
 fn sends<R: Threads + Wait + Clock + Copy + Send + 'static, C: Connect + Drop>(
     rt: &R,
     alloc: Global,
@@ -126,25 +128,27 @@ fn sends<R: Threads + Wait + Clock + Copy + Send + 'static, C: Connect + Drop>(
     let Ok(stop) = StopFlag::new(alloc) else {
         return false;
     };
-    let line = Counted {
+    let options = SendOptions {
         connect,
         counters: &counters,
         max_batch_bytes: None,
         stop,
     };
     match read_settings(alloc, row.0) {
-        Ok(settings) => run_send(rt, alloc, settings, segments, line, printed).is_ok(),
+        Ok(settings) => run_send(rt, alloc, settings, segments, options, printed).is_ok(),
         Err(_) => false,
     }
 }
 
-/// Whether somebody else connects and says nothing, once a sender that does not connect has ended. A receiver ends after one connection.
+/// Returns whether the sender made a connection, or another client can connect after it: a receiver
+/// ends after one connection.
 fn passes_by<N: Net<Stream = TcpStream>>(net: &N, row: &Row<'_>, address: SocketAddr) -> bool {
     row.1 > 0 || TcpStream::connect(net, address).is_ok()
 }
 
-/// A receiver that is busy for the first connection takes the sample of the second one. Samples that do not rise are named and not sent, and
-/// so are names that the sender does not take.
+/// A receiver that is busy for the first connection takes the sample of the second one. Samples
+/// that are not later than the last one are listed and not sent, and so are those with names that
+/// the sender does not accept.
 #[test]
 fn what_is_sent_is_received(rt: HostRuntime) -> Result<(), Fail> {
     let alloc = rt.alloc();

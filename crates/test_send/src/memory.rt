@@ -7,7 +7,7 @@ use crate::rows::none_is_wrong;
 use Part::{Changed, Cut, Fails, Many, Whole};
 use http::StatusCode;
 use rw_metrics::SendCounters;
-use rw_send::{Counted, StopFlag, run_send};
+use rw_send::{SendOptions, StopFlag, run_send};
 use rw_settings::read_settings;
 use rw_text::ToolFault;
 use rw_types::Room;
@@ -22,17 +22,18 @@ use std::time::{Clock, Duration};
 #[derive(Clone, Copy)]
 enum Part<'a> {
     Whole(&'a [u8]),
-    /// It has one series and so many samples.
+    /// It has one series and this many samples.
     Many(u32),
     /// Its last byte is changed.
     Changed(&'a [u8]),
-    /// It ends behind 34 bytes, inside a record.
+    /// It ends after 34 bytes, inside a record.
     Cut(&'a [u8]),
-    /// Its reader fails behind it.
+    /// Its reader fails after it.
     Fails(&'a [u8]),
 }
 
-/// How receivers answer: by which status, after how many milliseconds, and how many requests before they refuse. For the shards of the epochs from this one on there is no memory.
+/// How receivers answer: by which status, after how many milliseconds, and how many requests before
+/// they refuse. There is no memory for the shards of the epochs from this one on.
 #[derive(Clone, Copy)]
 struct Answers {
     status: u16,
@@ -111,7 +112,7 @@ fn put_readers(alloc: Global, readers: &mut Vec<Torn>, log: &[Part<'_>]) -> Resu
     Ok(())
 }
 
-/// Receivers that answer so.
+/// Returns receivers that answer in this way.
 fn receivers_of<R: Copy>(clock: &R, answers: Answers) -> Result<Receivers<R>, AllocError> {
     match StatusCode::from_u16(answers.status) {
         Ok(status) => Ok(Receivers {
@@ -135,19 +136,19 @@ fn shipped<R: Threads + Wait + Clock + Copy + Send + 'static>(
 ) -> Result<Result<(), ToolFault>, AllocError> {
     let mut readers = Vec::new(alloc);
     put_readers(alloc, &mut readers, row.1)?;
-    let line = Counted {
+    let options = SendOptions {
         connect: receivers_of(rt, row.2)?,
         counters,
         max_batch_bytes: None,
         stop: StopFlag::new(alloc)?,
     };
     match read_settings(alloc, row.0) {
-        Ok(settings) => Ok(run_send(rt, alloc, settings, readers, line, printed)),
+        Ok(settings) => Ok(run_send(rt, alloc, settings, readers, options, printed)),
         Err(_) => Err(AllocError),
     }
 }
 
-/// Whether a run does as a row says, and is counted so.
+/// Returns whether a run does as a row says, and is counted accordingly.
 fn does<R: Threads + Wait + Clock + Copy + Send + 'static>(
     rt: &R,
     alloc: Global,
@@ -248,7 +249,8 @@ static ONE_SEGMENT: [Row<'static>; 11] = [
         Ok(()),
         b"dropped 3 notrising\nfiltered 0\nreport complete 4\n",
     ),
-    // a batch of 2,000 samples, whose labels in each of them would take more than 64 KiB, makes one request
+    // a batch of 2,000 samples, whose labels in each of them would take more than 64 KiB, makes one
+    // request
     (
         b"",
         &[Many(2_000)],
@@ -321,8 +323,8 @@ static SEVERAL_SEGMENTS: [Row<'static>; 5] = [
     ),
 ];
 
-/// A sample in a later segment may be one of a series of an earlier one. A segment that ends inside a record is no fault where it is the
-/// last one; behind a fault nothing is read.
+/// A sample in a later segment may be one of a series of an earlier one. A segment that ends inside
+/// a record is no fault if it is the last one; after a fault nothing is read.
 #[test]
 fn logs_of_several_segments(rt: HostRuntime) -> Result<(), Fail> {
     none_is_wrong(&rt, wrong_row(&rt, rt.alloc(), &SEVERAL_SEGMENTS)?);
@@ -384,14 +386,15 @@ static FAILING: [Row<'static>; 3] = [
     ),
 ];
 
-/// The receivers are always busy, so that a sample that was read is not resolved when the work is stopped. Of two shards with full queues each hears of the stop.
+/// The receivers are always busy, so that a sample that was read is not resolved when the work is
+/// stopped. Both of two shards with full queues are stopped.
 #[test]
 fn a_reader_that_fails(rt: HostRuntime) -> Result<(), Fail> {
     none_is_wrong(&rt, wrong_row(&rt, rt.alloc(), &FAILING)?);
     Ok(())
 }
 
-/// A first segment of four samples, and a second one behind it with one.
+/// A first segment of four samples, and a second one after it with one.
 const FOUR: &[u8] =
     b"series 1 {__name__=\"up\"}\nsample 1 10 1\nsample 1 20 1\nsample 1 30 1\nsample 1 40 1\n";
 
@@ -458,8 +461,9 @@ static SHARDS: [Row<'static>; 5] = [
     ),
 ];
 
-/// A queue and a batch of one sample each: where the receiver is slow, two of four samples may wait, so one shard is to become three. Where
-/// that is refused the work ends. Nothing changes where the receiver keeps up, and behind the last segment.
+/// A queue and a batch of one sample each: if the receiver is slow, two of four samples may wait,
+/// so one shard is to become three. If that fails, the work ends. Nothing changes if the receiver
+/// keeps up, and after the last segment.
 #[test]
 fn the_number_of_shards_follows_the_load(rt: HostRuntime) -> Result<(), Fail> {
     none_is_wrong(&rt, wrong_row(&rt, rt.alloc(), &SHARDS)?);

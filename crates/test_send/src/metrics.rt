@@ -61,9 +61,15 @@ rwship_receive_samples_held 17
 # HELP rwship_receive_label_sets Label sets of which samples are held.
 # TYPE rwship_receive_label_sets gauge
 rwship_receive_label_sets 3
+# HELP rwship_receive_max_samples How many samples may be held; 0 if there is no limit.
+# TYPE rwship_receive_max_samples gauge
+rwship_receive_max_samples 0
+# HELP rwship_receive_max_label_sets Of how many label sets samples may be held; 0 if there is no limit.
+# TYPE rwship_receive_max_label_sets gauge
+rwship_receive_max_label_sets 0
 ";
 
-/// What is replied to a request that is all that a client writes.
+/// Returns what is replied to a request that is all that a client writes.
 fn reply_to<N: Net<Stream = TcpStream>>(
     net: &N,
     alloc: Global,
@@ -78,7 +84,7 @@ fn reply_to<N: Net<Stream = TcpStream>>(
     Ok(reply)
 }
 
-/// The first request that is answered otherwise, by the page of a receiver that has done nothing.
+/// Returns the first request that the page of a receiver that has done nothing answers differently.
 fn wrong_reply<
     N: Net<Stream = TcpStream, Listener = TcpListener> + Threads + Clock + Copy + Send + 'static,
 >(rt: &N, alloc: Global) -> io::Result<Option<usize>> {
@@ -102,7 +108,7 @@ fn the_page_is_served(rt: HostRuntime) -> Result<(), Fail> {
     Ok(())
 }
 
-/// Whether this is the page of a receiver that has done something.
+/// Returns whether this is the page of a receiver that has done something.
 fn is_counted(alloc: Global) -> Result<bool, AllocError> {
     let counters = ReceiveCounters::new(alloc)?;
     counters.begin_connection();
@@ -127,15 +133,14 @@ fn a_receiver_counts(rt: HostRuntime) -> Result<(), Fail> {
 /// What is dropped of a log.
 static DROPPED: [(u64, Reason); 2] = [(3, Reason::NoSeries), (5, Reason::NotRising)];
 
-/// Whether these are the lines of a sender that has done something.
+/// Returns whether these are the lines of a sender that has done something.
 fn are_told(alloc: Global) -> Result<bool, AllocError> {
     let counters = SendCounters::new(alloc)?;
     counters.begin_segment(7);
     counters.read_bytes(456);
     counters.set_entries(1234);
     counters.set_shards(4);
-    counters.set_load(1200, 1100, 100);
-    counters.set_load(1200, 1000, 200);
+    counters.set_load(1200, 200);
     counters.set_folder_bytes(1000);
     counters.drop_unsent(&DROPPED[..1]);
     counters.drop_unsent(&DROPPED);
@@ -151,7 +156,7 @@ fn are_told(alloc: Global) -> Result<bool, AllocError> {
             && drops.as_slice()
                 == b"dropped 3 noseries 1 badlabels 0 notrising 1 status_400 1".as_slice()
             && line.as_slice()
-                == b"entries 1234 placed 1200 resolved 1100 dropped 3 filtered 0 waiting 200 shards 4 \
+                == b"entries 1234 read 1202 acknowledged 0 dropped 3 filtered 0 in_flight 1199 shards 4 \
                     attempts 1 failed 2 last status_503 segment 7 bytes 456 percent 45"
                     .as_slice(),
     )

@@ -7,7 +7,8 @@ use std::alloc::AllocError;
 use std::thread;
 use std::time::{Clock, Duration};
 
-/// Answers each request by one status, after some time. Behind so many requests it refuses each.
+/// Answers each request with one status, after some time. After a number of requests it refuses
+/// each.
 #[derive(Drop)]
 pub(crate) struct Always<R> {
     clock: R,
@@ -51,7 +52,8 @@ impl Pause for Quick {
     fn pause(&mut self, _ms: u64) {}
 }
 
-/// Each worker's receiver answers so many requests by this status, after so long, and refuses each later one. For the epochs after the first few there is no memory.
+/// The receiver of each worker answers a number of requests with this status, after some time, and
+/// refuses each later one. There is no memory for the epochs after the first few.
 #[derive(Drop)]
 pub(crate) struct Receivers<R> {
     pub(crate) clock: R,

@@ -1,4 +1,4 @@
-//! The assertion behind each table.
+//! The assertion after each table.
 
 use std::process::Abort;
 

@@ -1,11 +1,12 @@
-//! A receiver, which is stopped by a sign or ends behind its connections, and its clients, in threads of one process.
+//! A receiver, which is stopped by a signal or ends after its connections, and its clients, in
+//! threads of one process.
 
 use crate::clients::{Clients, Door, read_by};
 use crate::counted::holds_as_printed;
+use rw_follow::StopSignal;
 use rw_metrics::ReceiveCounters;
 use rw_receive::{Service, run_receive, run_receive_until};
 use rw_settings::{Settings, read_settings};
-use rw_stop::Sign;
 use rw_types::{Bounded, Room};
 use std::alloc::Global;
 use std::net::{Net, TcpListener, TcpStream};
@@ -15,10 +16,12 @@ use std::thread::Threads;
 use std::time::{Clock, Duration, Instant};
 use std::{io, thread};
 
-/// The bounds of a service, what clients do, how many replies they have, and what is printed at last.
+/// The bounds of a service, what clients do, how many replies they have, and what is printed at the
+/// end.
 #[derive(Drop)]
 struct Row<'a> {
-    /// Whether it serves until it is stopped. Else it serves as many connections as it may at once.
+    /// Whether it serves until it is stopped. Otherwise it serves as many connections as it may at
+    /// once.
     has_sign: bool,
     most: u64,
     idle_ms: u64,
@@ -30,7 +33,7 @@ struct Row<'a> {
 /// The reply to a request that is taken.
 const TAKEN: &[u8] = b"HTTP/1.1 204 No Content\r\n\r\n";
 
-/// Whether these are so many replies to requests that were taken.
+/// Returns whether these are `count` replies to requests that were taken.
 fn are_replies(read: &[u8], count: usize) -> bool {
     let mut left = read;
     for _ in 0..count {
@@ -42,15 +45,16 @@ fn are_replies(read: &[u8], count: usize) -> bool {
     left.is_empty()
 }
 
-/// For how many seconds a service and its clients may run. No row asks for waits of more than two; a slow machine may do other work.
+/// For how many seconds a service and its clients may run. No row asks for waits of more than two;
+/// a slow machine may do other work.
 const MOST_SECONDS: u64 = 15;
 
-/// Whether a service and its clients were done in time.
+/// Returns whether a service and its clients were done in time.
 fn is_quick<K: Clock>(clock: &K, begun: Instant) -> bool {
     matches!(begun.elapsed(clock), Ok(took) if took < Duration::from_secs(MOST_SECONDS))
 }
 
-/// A service with these bounds.
+/// Returns a service with these bounds.
 fn service_of(
     most: Bounded<1, 1_000>,
     idle_ms: Bounded<10, 3_600_000>,
@@ -64,7 +68,8 @@ fn service_of(
     }
 }
 
-/// Whether a service and its clients do as a row says, in time, and is counted so.
+/// Returns whether a service and its clients do as a row says, in time, and are counted
+/// accordingly.
 fn does_with<R: Net<Stream = TcpStream, Listener = TcpListener> + Threads + Wait + Clock + Sync>(
     rt: &R,
     alloc: Global,
@@ -77,12 +82,12 @@ fn does_with<R: Net<Stream = TcpStream, Listener = TcpListener> + Threads + Wait
         return Ok(false);
     };
     let listener = TcpListener::bind(rt, "127.0.0.1:0")?;
-    let sign = Sign::new();
+    let signal = StopSignal::new();
     let door = Door {
         net: rt,
         alloc,
         address: listener.local_addr()?,
-        sign: &sign,
+        signal: &signal,
     };
     let counters = ReceiveCounters::new(alloc)?;
     let (clients, has_sign) = (row.clients, row.has_sign);
@@ -93,7 +98,7 @@ fn does_with<R: Net<Stream = TcpStream, Listener = TcpListener> + Threads + Wait
         || {
             if has_sign {
                 let service = service_of(most, idle_ms, &counters);
-                run_receive_until(rt, alloc, settings, service, &sign, listener, printed)
+                run_receive_until(rt, alloc, settings, service, &signal, listener, printed)
             } else {
                 let service = service_of(most, idle_ms, &counters);
                 run_receive(rt, alloc, settings, service, listener, printed)
@@ -105,7 +110,7 @@ fn does_with<R: Net<Stream = TcpStream, Listener = TcpListener> + Threads + Wait
     Ok(is_done && are_replies(&read?, row.replies) && is_counted)
 }
 
-/// The place of the first row that goes otherwise.
+/// Returns the number of the first row that differs.
 fn wrong_row<R: Net<Stream = TcpStream, Listener = TcpListener> + Threads + Wait + Clock + Sync>(
     rt: &R,
     alloc: Global,
@@ -147,7 +152,7 @@ static ROWS: [Row<'static>; 11] = [
         replies: 2,
         printed: b"received {__name__=\"up\"} 1000=1 1001=1\n",
     },
-    // whoever is in no request is closed at the stop
+    // a connection without a request is closed at the stop
     Row {
         has_sign: true,
         most: 2,
@@ -156,7 +161,7 @@ static ROWS: [Row<'static>; 11] = [
         replies: 1,
         printed: b"received {__name__=\"up\"} 1000=1\n",
     },
-    // whoever is in a request has its reply
+    // a connection in a request has its reply
     Row {
         has_sign: true,
         most: 2,
@@ -173,7 +178,7 @@ static ROWS: [Row<'static>; 11] = [
         replies: 1,
         printed: b"received {__name__=\"up\"} 1000=1\n",
     },
-    // nobody holds the only seat by silence
+    // a silent client does not keep the only seat
     Row {
         has_sign: true,
         most: 1,
@@ -199,7 +204,7 @@ static ROWS: [Row<'static>; 11] = [
         replies: 7,
         printed: b"received {__name__=\"up\"} 1000=1 1001=1 1002=1 1003=1 1004=1 1005=1 1006=1\n",
     },
-    // nobody holds the end by silence, nor by writing on behind the last reply
+    // neither a silent client nor one that writes on after its last reply delays the end
     Row {
         has_sign: false,
         most: 2,

@@ -10,16 +10,16 @@ use crate::receivers::Receivers;
 use crate::rows::none_is_wrong;
 use Part::{Cut, Gap, More, Next, Padded, Quiet, Rest};
 use http::StatusCode;
-use rw_follow::{Event, Listed, Sign, Timed, Watch, Wish};
+use rw_follow::{Event, Listed, StopRequest, StopSignal, Timed, Watch};
 use rw_metrics::SendCounters;
-use rw_send::{Counted, FollowFault, StopFlag, run_follow};
+use rw_send::{FollowFault, SendOptions, StopFlag, run_follow};
 use rw_settings::{Settings, read_settings};
 use rw_text::ToolFault;
 use rw_types::Room;
 use rw_wal_format::TailFault;
 use std::alloc::{AllocError, Global};
 use std::collections::VecDeque;
-use std::sync::Wait;
+use std::sync::{Arc, Wait};
 use std::test::Fail;
 use std::thread::{self, Threads};
 use std::time::{Clock, Duration};
@@ -110,15 +110,15 @@ fn follow<R: Threads + Wait + Clock + Copy + Send + 'static, W: Watch>(
     alloc: Global,
     settings: Settings,
     parts: &[Part<'_>],
-    line: Counted<'_, Receivers<R>>,
+    options: SendOptions<'_, Receivers<R>>,
     watch: &mut W,
     printed: &mut Room,
 ) -> Result<Result<(), FollowFault>, AllocError> {
     let mut log = log_of(alloc, parts)?;
-    Ok(run_follow(rt, alloc, settings, &mut log, line, watch, printed))
+    Ok(run_follow(rt, alloc, settings, &mut log, options, watch, printed))
 }
 
-/// Receivers that answer one request by this status at once. They refuse each later one.
+/// Returns receivers that answer one request with this status at once. They refuse each later one.
 fn receivers_of<R: Copy>(clock: &R, status: StatusCode) -> Receivers<R> {
     Receivers {
         clock: *clock,
@@ -129,10 +129,18 @@ fn receivers_of<R: Copy>(clock: &R, status: StatusCode) -> Receivers<R> {
     }
 }
 
-/// What happens, after how many looks it is to stop, by which wish; the answer, and what is printed.
-type Row<'a> = (&'a [Part<'a>], u32, Wish, Result<(), FollowFault>, &'a [u8]);
+/// What happens, after how many looks it is to stop, by which request; the answer, and what is
+/// printed.
+type Row<'a> = (
+    &'a [Part<'a>],
+    u32,
+    StopRequest,
+    Result<(), FollowFault>,
+    &'a [u8],
+);
 
-/// Whether a run does as a row says, where the number of shards is asked for at each turn, or never.
+/// Returns whether a run does as a row says, if the number of shards is adjusted at each turn, or
+/// never.
 fn does<R: Threads + Wait + Clock + Copy + Send + 'static>(
     rt: &R,
     alloc: Global,
@@ -143,20 +151,28 @@ fn does<R: Threads + Wait + Clock + Copy + Send + 'static>(
     let mut printed = Room::new(alloc, 4096)?;
     let mut watch = Countdown {
         looks: row.1,
-        wish: row.2,
+        request: row.2,
         flushes: false,
         reshards,
-        said: Wish::Work,
-        naps: 0,
+        said: StopRequest::Continue,
+        sleeps: 0,
     };
     let counters = SendCounters::new(alloc)?;
-    let line = Counted {
+    let options = SendOptions {
         connect: receivers_of(rt, StatusCode::NO_CONTENT),
         counters: &counters,
         max_batch_bytes: None,
         stop: StopFlag::new(alloc)?,
     };
-    let answer = follow(rt, alloc, settings, row.0, line, &mut watch, &mut printed)?;
+    let answer = follow(
+        rt,
+        alloc,
+        settings,
+        row.0,
+        options,
+        &mut watch,
+        &mut printed,
+    )?;
     let is_counted = tells_as_printed(alloc, &counters, row.4);
     Ok(answer == row.3 && printed.as_slice() == row.4 && is_counted)
 }
@@ -178,14 +194,14 @@ static SHIPPED: [Row<'static>; 10] = [
     (
         &[],
         2,
-        Wish::End,
+        StopRequest::Finish,
         Ok(()),
         b"filtered 0\nreport complete 0\n",
     ),
     (
         &[More(UP)],
         5,
-        Wish::End,
+        StopRequest::Finish,
         Ok(()),
         b"filtered 0\nreport complete 2\n",
     ),
@@ -193,15 +209,15 @@ static SHIPPED: [Row<'static>; 10] = [
     (
         &[More(UP), Quiet, More(LATER)],
         5,
-        Wish::End,
+        StopRequest::Finish,
         Ok(()),
         b"filtered 0\nreport complete 3\n",
     ),
-    // the sign has come before the log was looked at
+    // the request has come before the log was looked at
     (
         &[More(UP)],
         0,
-        Wish::End,
+        StopRequest::Finish,
         Ok(()),
         b"filtered 0\nreport complete 2\n",
     ),
@@ -209,7 +225,7 @@ static SHIPPED: [Row<'static>; 10] = [
     (
         &[Cut(UP, 34), Quiet, Quiet, Rest(UP, 34)],
         5,
-        Wish::End,
+        StopRequest::Finish,
         Ok(()),
         b"filtered 0\nreport complete 2\n",
     ),
@@ -217,7 +233,7 @@ static SHIPPED: [Row<'static>; 10] = [
     (
         &[Padded(UP), Quiet, Next(LATER)],
         5,
-        Wish::End,
+        StopRequest::Finish,
         Ok(()),
         b"filtered 0\nreport complete 3\n",
     ),
@@ -225,7 +241,7 @@ static SHIPPED: [Row<'static>; 10] = [
     (
         &[More(UP), Quiet, Next(LATER)],
         5,
-        Wish::End,
+        StopRequest::Finish,
         Ok(()),
         b"filtered 0\nreport complete 3\n",
     ),
@@ -233,7 +249,7 @@ static SHIPPED: [Row<'static>; 10] = [
     (
         &[Cut(UP, 34), Quiet, Next(LATER)],
         9,
-        Wish::End,
+        StopRequest::Finish,
         Err(FollowFault::Tool(ToolFault::Log(TailFault::TornSegment))),
         b"filtered 0\nreport damaged 8\n",
     ),
@@ -241,7 +257,7 @@ static SHIPPED: [Row<'static>; 10] = [
     (
         &[More(UP), Quiet, Gap(3)],
         9,
-        Wish::End,
+        StopRequest::Finish,
         Err(FollowFault::Missing(3)),
         b"filtered 0\nabandoned 1\nreport abandoned 2\n",
     ),
@@ -249,7 +265,7 @@ static SHIPPED: [Row<'static>; 10] = [
     (
         &[More(UP)],
         3,
-        Wish::Hard,
+        StopRequest::Abort,
         Err(FollowFault::Stopped),
         b"filtered 0\nabandoned 1\nreport abandoned 2\n",
     ),
@@ -261,7 +277,8 @@ fn logs_are_shipped(rt: HostRuntime) -> Result<(), Fail> {
     Ok(())
 }
 
-/// Follows a log of one sample for some looks by the clock, and is stopped at once if the counters tell then that nothing waits.
+/// Follows a log of one sample for some looks by the clock, and is stopped at once if the counters
+/// then say that nothing waits.
 fn flushed<R: Threads + Wait + Clock + Copy + Send + 'static>(
     rt: &R,
     alloc: Global,
@@ -269,22 +286,33 @@ fn flushed<R: Threads + Wait + Clock + Copy + Send + 'static>(
 ) -> Result<Result<(), FollowFault>, AllocError> {
     let settings = settings_of(alloc, b"")?;
     let counters = SendCounters::new(alloc)?;
-    let sign = Onlooker {
-        alloc,
-        counters: &counters,
-        looks: 200,
-    };
+    let signal = Arc::new(alloc, StopSignal::new())?;
     let poll = Duration::from_millis(5);
     let patience = Duration::from_millis(20);
     let reshard = Duration::from_secs(3600);
-    let mut watch = Timed::new(*rt, sign, poll, patience, reshard);
-    let line = Counted {
+    let mut watch = Onlooker {
+        alloc,
+        counters: &counters,
+        looks: 200,
+        timed: Timed::new(*rt, signal, poll, patience, reshard),
+        said: StopRequest::Continue,
+        is_due: false,
+    };
+    let options = SendOptions {
         connect: receivers_of(rt, StatusCode::BAD_REQUEST),
         counters: &counters,
         max_batch_bytes: None,
         stop: StopFlag::new(alloc)?,
     };
-    follow(rt, alloc, settings, &[More(UP)], line, &mut watch, printed)
+    follow(
+        rt,
+        alloc,
+        settings,
+        &[More(UP)],
+        options,
+        &mut watch,
+        printed,
+    )
 }
 
 /// The sample of a quiet log is sent though no batch is full.
@@ -298,45 +326,30 @@ fn a_quiet_log_is_flushed(rt: HostRuntime) -> Result<(), Fail> {
     Ok(())
 }
 
-/// The sign of the program, as a follower sees it.
-#[derive(Drop)]
-struct Seen<'a> {
-    sign: &'a rw_stop::Sign,
-}
-
-impl Sign for Seen<'_> {
-    fn wish(&mut self) -> Wish {
-        match self.sign.wish() {
-            rw_stop::Wish::Work => Wish::Work,
-            rw_stop::Wish::End => Wish::End,
-            rw_stop::Wish::Hard => Wish::Hard,
-        }
-    }
-}
-
-/// Asks for an end in order, and later for one at once, which workers are told behind the sign.
-fn stop_twice<R: Clock>(rt: &R, sign: &rw_stop::Sign, workers: &StopFlag) {
+/// Asks to finish, and later to end at once; the flag of the workers is set after the signal.
+fn stop_twice<R: Clock>(rt: &R, signal: &StopSignal, workers: &StopFlag) {
     thread::sleep(rt, Duration::from_millis(200));
-    sign.end();
+    signal.finish();
     thread::sleep(rt, Duration::from_millis(200));
-    sign.hard();
+    signal.abort();
     workers.set();
 }
 
-/// Follows a log while its receiver is always busy, until the sign or the flag of the workers ends that.
+/// Follows a log while its receiver is always busy, until the signal or the flag of the workers
+/// ends that.
 fn follow_in_vain<R: Threads + Wait + Clock + Copy + Send + 'static>(
     rt: &R,
     alloc: Global,
     text: &[u8],
-    sign: &rw_stop::Sign,
+    signal: Arc<StopSignal, Global>,
     stop: StopFlag,
     printed: &mut Room,
 ) -> Result<Result<(), FollowFault>, AllocError> {
     let settings = settings_of(alloc, b"[send]\ncapacity = 1\nbatch = 1\n")?;
     let counters = SendCounters::new(alloc)?;
     let moment = Duration::from_millis(5);
-    let mut watch = Timed::new(*rt, Seen { sign }, moment, moment, moment);
-    let line = Counted {
+    let mut watch = Timed::new(*rt, signal, moment, moment, moment);
+    let options = SendOptions {
         connect: Receivers {
             clock: *rt,
             status: StatusCode::SERVICE_UNAVAILABLE,
@@ -353,13 +366,13 @@ fn follow_in_vain<R: Threads + Wait + Clock + Copy + Send + 'static>(
         alloc,
         settings,
         &[More(text)],
-        line,
+        options,
         &mut watch,
         printed,
     )
 }
 
-/// Follows a log in vain, and is stopped twice.
+/// Follows a log whose receiver is always busy, and is stopped twice.
 fn stopped_twice<R: Threads + Wait + Clock + Copy + Send + Sync + 'static>(
     rt: &R,
     alloc: Global,
@@ -368,11 +381,12 @@ fn stopped_twice<R: Threads + Wait + Clock + Copy + Send + Sync + 'static>(
 ) -> Result<Result<(), FollowFault>, AllocError> {
     let stop = StopFlag::new(alloc)?;
     let workers = stop.share()?;
-    let sign = rw_stop::Sign::new();
+    let signal = Arc::new(alloc, StopSignal::new())?;
+    let seen = Arc::try_clone(&signal)?;
     let (answer, ()) = thread::join(
         rt,
-        || follow_in_vain(rt, alloc, text, &sign, stop, printed),
-        || stop_twice(rt, &sign, &workers),
+        || follow_in_vain(rt, alloc, text, seen, stop, printed),
+        || stop_twice(rt, &signal, &workers),
     );
     answer
 }
@@ -381,7 +395,7 @@ fn stopped_twice<R: Threads + Wait + Clock + Copy + Send + Sync + 'static>(
 const FOUR: &[u8] =
     b"series 1 {__name__=\"up\"}\nsample 1 10 1\nsample 1 20 1\nsample 1 30 1\nsample 1 40 1\n";
 
-/// Whether a log is stopped at once though its receiver is away.
+/// Returns whether a log is stopped at once though its receiver is away.
 fn is_stopped<R: Threads + Wait + Clock + Copy + Send + Sync + 'static>(
     rt: &R,
     alloc: Global,
@@ -395,7 +409,8 @@ fn is_stopped<R: Threads + Wait + Clock + Copy + Send + Sync + 'static>(
     Ok(is_printed && answer == Err(FollowFault::Stopped))
 }
 
-/// A stop at once is seen while the end in order waits for the receiver, and while a full queue is waited for.
+/// A stop at once is seen while the end in order waits for the receiver, and while a full queue is
+/// waited for.
 #[test]
 fn a_receiver_that_is_away_hides_no_stop(rt: HostRuntime) -> Result<(), Fail> {
     assert!(rt;

@@ -1,85 +1,100 @@
-//! What sets a sign.
+//! What sets a stop signal.
 
-use rw_stop::{Sign, Wish, watch_file, watch_input};
+use rw_follow::{StopRequest, StopSignal, watch_file, watch_input};
 use std::alloc::Global;
 use std::fs::Files;
 use std::test::Fail;
 use std::time::{Clock, Duration};
 use std::{fs, io, thread};
 
-/// What is wished behind an input.
-fn wish_behind(alloc: Global, text: &[u8]) -> Wish {
-    let sign = Sign::new();
+/// Returns what is asked for after an input.
+fn request_after_input(alloc: Global, text: &[u8]) -> StopRequest {
+    let signal = StopSignal::new();
     let mut input = text;
-    watch_input(alloc, &mut input, &sign);
-    sign.wish()
+    watch_input(alloc, &mut input, &signal);
+    signal.request()
 }
 
-/// The place of the first input behind which something else is wished.
+/// Returns the index of the first input after which something else is asked for.
 fn wrong_input(alloc: Global) -> Option<usize> {
-    INPUTS
-        .iter()
-        .position(|(text, wish)| wish_behind(alloc, text) != *wish)
+    INPUTS.iter().position(|(text, request)| request_after_input(alloc, text) != *request)
 }
 
-/// Only a whole line asks for an end at once, and its end is a line feed.
-static INPUTS: [(&[u8], Wish); 7] = [
-    (b"", Wish::End),
-    (b"hard", Wish::End),
-    (b"hard\n", Wish::Hard),
-    (b"soft\nhard\nsoft\n", Wish::Hard),
-    (b"hardly\n hard\nHARD\n", Wish::End),
-    (b"hard\r\n", Wish::End),
+/// Only a whole line asks to end at once, and its end is a line feed.
+static INPUTS: [(&[u8], StopRequest); 7] = [
+    (b"", StopRequest::Finish),
+    (b"hard", StopRequest::Finish),
+    (b"hard\n", StopRequest::Abort),
+    (b"soft\nhard\nsoft\n", StopRequest::Abort),
+    (b"hardly\n hard\nHARD\n", StopRequest::Finish),
+    (b"hard\r\n", StopRequest::Finish),
     (
         b"0123456789012345678901234567890123456789012345678901234567890123hard\n",
-        Wish::End,
+        StopRequest::Finish,
     ),
 ];
 
 #[test]
-fn an_input_sets_a_sign(rt: HostRuntime) -> Result<(), Fail> {
+fn an_input_sets_a_signal(rt: HostRuntime) -> Result<(), Fail> {
     assert_eq!(rt; wrong_input(rt.alloc()), None);
     Ok(())
 }
 
 #[test]
-fn nothing_is_wished_at_first(rt: HostRuntime) -> Result<(), Fail> {
-    let sign = Sign::new();
-    let first = sign.wish();
-    sign.hard();
-    sign.end();
-    assert!(rt; first == Wish::Work && sign.wish() == Wish::Hard);
+fn nothing_is_asked_for_at_first(rt: HostRuntime) -> Result<(), Fail> {
+    let signal = StopSignal::new();
+    let first = signal.request();
+    signal.abort();
+    signal.finish();
+    assert!(rt; first == StopRequest::Continue && signal.request() == StopRequest::Abort);
     Ok(())
 }
 
-/// Writes this to a file, which a watch looks at, and gives what is wished a while later.
-fn wish_after<R: Clock + Files>(rt: &R, path: &str, text: &[u8], sign: &Sign) -> Option<Wish> {
+/// Writes this to a file, which a watch looks at, and returns what is asked for a while later.
+fn request_after_file<R: Clock + Files>(
+    rt: &R,
+    path: &str,
+    text: &[u8],
+    signal: &StopSignal,
+) -> Option<StopRequest> {
     fs::write(rt, path, text).ok()?;
     thread::sleep(rt, Duration::from_millis(1_000));
-    Some(sign.wish())
+    Some(signal.request())
 }
 
-/// Makes a file, which a watch has looked for then, and writes to it. Gives what was wished behind an empty file, behind another line, and behind the line
-/// `hard`; and asks for an end at once, so that the watch ends.
-fn write_later<R: Clock + Files>(rt: &R, path: &str, sign: &Sign) -> [Option<Wish>; 3] {
+/// Makes a file that a watch looks for, and writes to it. Returns what was asked for after an empty
+/// file, after another line, and after the line `hard`; and asks to end at once, so that the watch
+/// ends.
+fn write_later<R: Clock + Files>(
+    rt: &R,
+    path: &str,
+    signal: &StopSignal,
+) -> [Option<StopRequest>; 3] {
     thread::sleep(rt, Duration::from_millis(300));
-    let empty = wish_after(rt, path, b"", sign);
-    let other = wish_after(rt, path, b"hardly\n", sign);
-    let hard = wish_after(rt, path, b"hard\nnow\n", sign);
-    sign.hard();
+    let empty = request_after_file(rt, path, b"", signal);
+    let other = request_after_file(rt, path, b"hardly\n", signal);
+    let hard = request_after_file(rt, path, b"hard\nnow\n", signal);
+    signal.abort();
     [empty, other, hard]
 }
 
-/// The file comes behind the first look, and is looked at again.
+/// The file comes after the first look, and is looked at again.
 #[test]
-fn a_file_sets_a_sign(rt: HostRuntime) -> io::Result<()> {
-    let sign = Sign::new();
-    let ((), wishes) = thread::join(
+fn a_file_sets_a_signal(rt: HostRuntime) -> io::Result<()> {
+    let signal = StopSignal::new();
+    let ((), requests) = thread::join(
         &rt,
-        || watch_file(&rt, "stop", &sign),
-        || write_later(&rt, "stop", &sign),
+        || watch_file(&rt, "stop", &signal),
+        || write_later(&rt, "stop", &signal),
     );
     fs::remove_file(&rt, "stop")?;
-    assert!(rt; wishes == [Some(Wish::End), Some(Wish::End), Some(Wish::Hard)]);
+    assert!(rt;
+        requests
+            == [
+                Some(StopRequest::Finish),
+                Some(StopRequest::Finish),
+                Some(StopRequest::Abort)
+            ]
+    );
     Ok(())
 }

@@ -1,8 +1,11 @@
 //! Timers over a clock of the test.
 
-use rw_follow::{Sign, Timed, Watch, Wish};
+use rw_follow::{StopSignal, Timed, Watch};
+use std::alloc::{AllocError, Global};
 use std::io;
+use std::sync::Arc;
 use std::sync::atomic::{AtomicU64, Ordering};
+use std::test::Fail;
 use std::time::{Clock, Duration};
 
 /// A clock on which half a second passes from each reading to the next.
@@ -37,25 +40,18 @@ impl Clock for Ticks {
     }
 }
 
-/// A sign that is never set.
-#[derive(Drop)]
-struct Unset;
-
-impl Sign for Unset {
-    fn wish(&mut self) -> Wish {
-        Wish::Work
-    }
-}
-
-/// A watch of five seconds between two looks, where something may wait for three, and the number of shards is asked for behind two.
-fn watch_by(ticks: &Ticks) -> Timed<&Ticks, Unset> {
+/// Returns a watch with five seconds between two looks, a flush after three, and an adjustment of
+/// the number of shards after two. Nobody sets its signal.
+fn watch_by(alloc: Global, ticks: &Ticks) -> Result<Timed<&Ticks>, AllocError> {
+    let signal = Arc::new(alloc, StopSignal::new())?;
     let poll = Duration::from_secs(5);
     let patience = Duration::from_secs(3);
     let reshard = Duration::from_secs(2);
-    Timed::new(ticks, Unset, poll, patience, reshard)
+    Ok(Timed::new(ticks, signal, poll, patience, reshard))
 }
 
-/// Whether a flush is due when it is asked for at 0, 1, 2 s and so on, and the number of shards at 0.5, 1.5, 2.5 s.
+/// Whether a flush is due when asked at 0, 1, 2 s and so on, and an adjustment of the shards at
+/// 0.5, 1.5, 2.5 s.
 static DUE: [(bool, bool); 9] = [
     (false, false),
     (false, false),
@@ -68,7 +64,7 @@ static DUE: [(bool, bool); 9] = [
     (false, true),
 ];
 
-/// The first two questions of which one is answered otherwise.
+/// Returns the first two questions of which one is answered differently.
 fn wrong_answer(watch: &mut impl Watch) -> Option<usize> {
     for (i, due) in DUE.iter().enumerate() {
         let answers = (watch.is_flush_due(), watch.is_reshard_due());
@@ -79,16 +75,20 @@ fn wrong_answer(watch: &mut impl Watch) -> Option<usize> {
     None
 }
 
-/// A timer begins anew once it is due, and each goes by its own time.
+/// A timer starts again once it is due, and each has its own time.
 #[test]
-fn timers_begin_anew(rt: HostRuntime) {
-    assert_eq!(rt; wrong_answer(&mut watch_by(&Ticks::new())), None);
+fn timers_begin_anew(rt: HostRuntime) -> Result<(), Fail> {
+    let ticks = Ticks::new();
+    let mut watch = watch_by(rt.alloc(), &ticks)?;
+    assert_eq!(rt; wrong_answer(&mut watch), None);
+    Ok(())
 }
 
-/// A nap is as long as it is from one look to the next.
+/// A sleep lasts from one look to the next.
 #[test]
-fn a_nap_lasts_until_the_next_look(rt: HostRuntime) {
+fn a_sleep_lasts_until_the_next_look(rt: HostRuntime) -> Result<(), Fail> {
     let ticks = Ticks::new();
-    watch_by(&ticks).nap();
+    watch_by(rt.alloc(), &ticks)?.sleep();
     assert_eq!(rt; ticks.slept.load(Ordering::Relaxed), 5);
+    Ok(())
 }

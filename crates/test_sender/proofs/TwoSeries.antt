@@ -10,7 +10,7 @@ use Rattle.rw_batch.specs.Groups.{Groups, StandsFor, with_number}
 use Rattle.rw_batch.proofs.LabelLemmas.{eq-flip}
 use Rattle.rw_batch.proofs.MessageLemmas.{labels_of-with_sample}
 
--- the labels stand where the number does
+-- the labels are where the number is
 abbrev pub Together : ℕ → Labels → List ℕ → List Labels → Type 0
 Together n l ns ls = (i : ℕ) → (slice_get ns i ≡ Some n) ↔ (slice_get ls i ≡ Some l)
 

@@ -1,5 +1,5 @@
-//! Batches that are built and frozen. The calls that take memory are made again where it is refused, so each test can be
-//! run with each allocation refused in turn: the refused call changes nothing.
+//! Batches that are built and frozen. The calls that take memory are made again if they fail, so
+//! each test can be run with each allocation failing in turn: the failed call changes nothing.
 
 ghost use Rattle.std.specs.Prelude.{◌<◌, ◌≤◌};
 
@@ -11,7 +11,7 @@ use rw_plain_queue::{Item, Kind};
 use rw_types::LabelFault;
 use std::alloc::{AllocError, Global};
 
-/// The sample numbered `seq`, at the position of that number.
+/// Returns the sample numbered `seq`, at the position of that number.
 fn item(alloc: Global, seq: u64, row: Row) -> Result<Item, LabelFault> {
     sample(alloc, seq, seq, row)
 }
@@ -26,7 +26,7 @@ fn builder_of(alloc: Global, batch: usize) -> Result<Builder, AllocError>
     }
 }
 
-/// Takes a sample, where there is room and it is the next one.
+/// Takes a sample, if there is room and it is the next one.
 fn take(builder: &mut Builder, item: Item) -> bool {
     if builder.is_full() || !builder.can_take(&item) {
         return false;
@@ -54,7 +54,7 @@ fn take_all(alloc: Global, builder: &mut Builder, rows: &[Row]) {
     }
 }
 
-/// A builder with room for so many samples that took these.
+/// Returns a builder with room for `batch` samples that took these.
 fn built(alloc: Global, batch: usize, rows: &[Row]) -> Result<Builder, AllocError>
     requires some { 0 < batch }
     requires most { batch ≤ 10000 }
@@ -79,7 +79,7 @@ static BODIES: [Body; 2] = [
     ),
 ];
 
-/// The body of the builder's batch, asked for again where memory was refused.
+/// Returns the body of the builder's batch, asked for again if memory ran out.
 fn body_of(builder: &Builder) -> Result<Vec<u8>, AllocError> {
     if builder.is_empty() {
         return Err(AllocError);
@@ -90,7 +90,7 @@ fn body_of(builder: &Builder) -> Result<Vec<u8>, AllocError> {
     }
 }
 
-/// Whether the builder's batch would have this body.
+/// Returns whether the builder's batch would have this body.
 fn has_body(builder: &Builder, body: &[u8]) -> bool {
     match body_of(builder) {
         Ok(found) => found.as_slice() == body,
@@ -113,7 +113,7 @@ fn freeze_again(builder: Builder, ledger: &mut Ledger) -> Result<Batch, AllocErr
     }
 }
 
-/// Freezes, and where memory is refused and nothing was changed freezes again.
+/// Freezes, and freezes again if memory ran out and nothing was changed.
 fn frozen(builder: Builder, ledger: &mut Ledger) -> Result<Batch, AllocError> {
     let (len, left) = (builder.len(), ledger.left());
     match freeze(builder, ledger) {
@@ -128,7 +128,7 @@ fn frozen(builder: Builder, ledger: &mut Ledger) -> Result<Batch, AllocError> {
     }
 }
 
-/// Whether a batch has so many samples from the number 7 on, and this body.
+/// Returns whether a batch has this many samples from the number 7 on, and this body.
 fn is_batch(batch: &Batch, samples: usize, body: &[u8]) -> bool {
     let id = BatchId {
         epoch: 3,
@@ -138,7 +138,8 @@ fn is_batch(batch: &Batch, samples: usize, body: &[u8]) -> bool {
     batch.id() == id && batch.places().len() == samples && batch.body().as_slice() == body
 }
 
-/// Whether a builder makes a batch of so many samples with this body, and room for them in the ledger.
+/// Returns whether a builder makes a batch of this many samples with this body, and room for them
+/// in the ledger.
 fn makes_batch(alloc: Global, builder: Builder, samples: usize, body: &[u8]) -> bool {
     let mut ledger = Ledger::new(alloc);
     match frozen(builder, &mut ledger) {
@@ -149,7 +150,7 @@ fn makes_batch(alloc: Global, builder: Builder, samples: usize, body: &[u8]) -> 
     }
 }
 
-/// Whether these samples make this body, and a batch with it.
+/// Returns whether these samples make this body, and a batch with it.
 fn make_body(alloc: Global, samples: &[Row], body: &[u8]) -> bool {
     match built(alloc, 3, samples) {
         Ok(builder) => {
@@ -181,7 +182,8 @@ const TWO: &[Row] = &[("a", 0, 1), ("b", 0, 2)];
 
 const THREE: &[Row] = &[("a", 0, 1), ("b", 0, 2), ("b", 0, 3)];
 
-/// Samples that a builder of three took, a sample with its number, and whether that can be taken next.
+/// Samples that a builder of three took, a sample with its number, and whether that can be taken
+/// next.
 type Next = (&'static [Row], u64, Row, bool);
 
 static NEXT: [Next; 4] = [
@@ -191,7 +193,7 @@ static NEXT: [Next; 4] = [
     (THREE, 10, ("a", 0, 4), false),
 ];
 
-/// Whether a builder of three has so many samples, is full or not, and takes no mark.
+/// Returns whether a builder of three has this many samples, is full or not, and takes no mark.
 fn has_taken(builder: &Builder, count: usize) -> bool {
     builder.len() == count
         && builder.is_full() == (count == 3)
@@ -199,7 +201,7 @@ fn has_taken(builder: &Builder, count: usize) -> bool {
         && !builder.can_take(&Item::End(Kind::Orderly))
 }
 
-/// Whether a builder of three that took these samples can take the next one, or not.
+/// Returns whether a builder of three that took these samples can take the next one, or not.
 fn takes(alloc: Global, samples: &[Row], next: &Item, can: bool) -> bool {
     match built(alloc, 3, samples) {
         Ok(builder) => has_taken(&builder, samples.len()) && builder.can_take(next) == can,
@@ -207,7 +209,7 @@ fn takes(alloc: Global, samples: &[Row], next: &Item, can: bool) -> bool {
     }
 }
 
-/// The same of the sample of this number.
+/// Returns the same for the sample of this number.
 fn takes_row(alloc: Global, samples: &[Row], seq: u64, row: Row, can: bool) -> bool {
     match item(alloc, seq, row) {
         Ok(next) => takes(alloc, samples, &next, can),
@@ -233,7 +235,7 @@ fn only_the_next_sample_is_taken(rt: HostRuntime) {
     none_is_wrong(&rt, wrong_next(rt.alloc(), nexts()));
 }
 
-/// Whether a builder has ten samples, each with this field.
+/// Returns whether a builder has ten samples, each with this field.
 fn has_fields(builder: &Builder, field: &[u8]) -> bool {
     for k in 0..builder.len() {
         if builder.field(k) != field {
@@ -243,7 +245,7 @@ fn has_fields(builder: &Builder, field: &[u8]) -> bool {
     builder.len() == 10
 }
 
-/// Whether ten samples of the word 3 at -1 ms have this field each.
+/// Returns whether ten samples of the word 3 at -1 ms have this field each.
 fn have_field(alloc: Global, field: &[u8]) -> bool {
     match built(alloc, 10, &[("up", 0x4008_0000_0000_0000, -1); 10]) {
         Ok(builder) => has_fields(&builder, field),

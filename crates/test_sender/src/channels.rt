@@ -1,4 +1,4 @@
-//! The queue between threads: both ends in one thread, and each in a thread of its own.
+//! The queue between threads: both ends in one thread, and each in its own.
 
 ghost use Rattle.std.specs.Prelude.{◌≡◌, IfSome};
 
@@ -14,7 +14,7 @@ fn no_labels(alloc: Global) -> Result<Arc<LabelSet>, AllocError> {
     Ok(Arc::new(alloc, LabelSet::empty(alloc))?)
 }
 
-/// What was taken: the position of a sample, nothing of a Flush, and the end where an End was taken.
+/// What was taken: the position of a sample, nothing of a Flush, and the end if an End was taken.
 #[derive(Drop)]
 struct Haul {
     positions: Vec<Option<u64>>,
@@ -28,7 +28,7 @@ fn position(item: &Item) -> Option<u64> {
     }
 }
 
-/// Takes as long as something is put.
+/// Takes items as long as some are put.
 fn drained<R: Wait>(rt: &R, drain: Drain<Open>, positions: Vec<Option<u64>>) -> Haul
     ensures { IfSome result.end (λ e. e.1.queue ≡ drain.queue) }
 {
@@ -57,7 +57,7 @@ fn drained<R: Wait>(rt: &R, drain: Drain<Open>, positions: Vec<Option<u64>>) -> 
     unreachable!()
 }
 
-/// Whether all was taken as it was put, up to an orderly End.
+/// Returns whether all was taken as it was put, up to an orderly End.
 fn is_whole<R: Wait>(rt: &R, fed: Option<Feed<Ended>>, haul: Haul) -> bool
     requires { IfSome fed (λ f. IfSome haul.end (λ e. f.queue ≡ e.1.queue)) }
 {
@@ -72,7 +72,7 @@ fn is_whole<R: Wait>(rt: &R, fed: Option<Feed<Ended>>, haul: Haul) -> bool
     kind == Kind::Orderly && positions.as_slice() == [Some(5), None, Some(9)].as_slice()
 }
 
-/// Whether a thread takes all behind what it has put.
+/// Returns whether a thread takes all after what it has put.
 fn takes_in_one_thread<R: Wait>(rt: &R, alloc: Global) -> Result<bool, AllocError> {
     let labels = no_labels(alloc)?;
     let positions = Vec::with_capacity(alloc, 3)?;
@@ -91,7 +91,7 @@ fn one_thread(rt: HostRuntime) {
     holds(&rt, takes_in_one_thread(&rt, rt.alloc()) == Ok(true));
 }
 
-/// Whether a thread takes all that another one puts.
+/// Returns whether a thread takes all that another one puts.
 fn takes_in_two_threads<R: Threads + Wait + Sync>(
     rt: &R,
     alloc: Global,
@@ -113,7 +113,7 @@ fn two_threads(rt: HostRuntime) {
     holds(&rt, takes_in_two_threads(&rt, rt.alloc()) == Ok(true));
 }
 
-/// Whether an end that waits for room is told when the other end is given up.
+/// Returns whether an end that waits for room returns when the other end is given up.
 fn feed_is_told<R: Threads + Wait + Sync>(rt: &R, alloc: Global) -> Result<bool, AllocError> {
     let (mut feed, drain) = open(alloc, 3, 1, 1)?;
     let is_put = feed.put(rt, Item::Flush).is_ok();
@@ -130,7 +130,7 @@ fn feed_is_told<R: Threads + Wait + Sync>(rt: &R, alloc: Global) -> Result<bool,
     Ok(is_put && is_told && is_told_at_end)
 }
 
-/// Whether an end that waits for an item is told.
+/// Returns whether an end that waits for an item returns when the other end is given up.
 fn drain_is_told<R: Threads + Wait + Sync>(rt: &R, alloc: Global) -> Result<bool, AllocError> {
     let (feed, drain) = open(alloc, 3, 1, 1)?;
     let (haul, ()) = join(rt, || drained(rt, drain, Vec::new(alloc)), || drop(feed));

@@ -1,5 +1,5 @@
-//! Samples grouped by label set. The calls that take memory are made again where it is refused, so each test can be run
-//! with each allocation refused in turn: the refused call changes nothing.
+//! Samples grouped by label set. The calls that take memory are made again if they fail, so each
+//! test can be run with each allocation failing in turn: the failed call changes nothing.
 
 ghost use Rattle.std.specs.Prelude.{◌≡◌, ◌∷◌, [], codes, OnOk};
 ghost use Rattle.rw_batch.specs.Grouping.{with_sample};
@@ -32,7 +32,7 @@ fn add(
     }
 }
 
-/// Whether a series has this metric's name as its only label, and these samples.
+/// Returns whether a series has this metric's name as its only label, and these samples.
 fn shows(series: &Series, name: &str, samples: &[(Word, i64)]) -> bool {
     series.labels.len() == 1
         && series.labels[0].0.as_str() == "__name__"
@@ -49,7 +49,7 @@ fn add_all(alloc: Global, grouping: &mut Grouping) -> Result<(), LabelFault>
     add(alloc, grouping, 4, "a", 3)
 }
 
-/// Whether a message has the two series.
+/// Returns whether a message has the two series.
 fn has_both(message: &Message) -> bool {
     message.series.len() == 2
         && shows(&message.series[0], "a", &[(Word(0), 1), (Word(0), 3)])

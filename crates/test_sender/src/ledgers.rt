@@ -1,5 +1,5 @@
-//! Dropped samples. The calls that take memory are made again where it is refused, so each test can be run with each
-//! allocation refused in turn: the refused call changes nothing.
+//! Dropped samples. The calls that take memory are made again if they fail, so each test can be run
+//! with each allocation failing in turn: the failed call changes nothing.
 
 use crate::rows::holds;
 use rw_ledger::{Ledger, Reason};
@@ -23,14 +23,15 @@ static SORTED: [Name; 4] = [
     (9, Reason::NoSeries),
 ];
 
-/// Adds room for so many names, and answers whether a refused call, if there was one, changed nothing.
+/// Reserves room for `n` names, and returns whether a failed call, if there was one, changed
+/// nothing.
 fn add_room(ledger: &mut Ledger, n: usize) -> bool {
     let (left, total) = (ledger.left(), ledger.total());
     ledger.room(n).is_ok()
         || (ledger.left() == left && ledger.total() == total && ledger.room(n).is_ok())
 }
 
-/// Names a position, where there is room for it and it has no name.
+/// Names a position, if there is room for it and it has no name.
 fn add_name(ledger: &mut Ledger, pos: u64, reason: Reason) -> bool {
     if ledger.left() == 0 || ledger.get(pos).is_some() {
         return false;
@@ -48,7 +49,7 @@ fn add_names(ledger: &mut Ledger) -> bool {
     true
 }
 
-/// Gives the room back that is left, where that is so much.
+/// Gives the room back that is left, if that is `n`.
 fn give_back(ledger: &mut Ledger, n: usize) -> bool {
     if ledger.left() != n {
         return false;
@@ -57,12 +58,12 @@ fn give_back(ledger: &mut Ledger, n: usize) -> bool {
     ledger.left() == 0
 }
 
-/// Whether a position has this name, and the one behind it none.
+/// Returns whether a position has this name, and the one after it none.
 fn is_named(ledger: &Ledger, pos: u64, reason: Reason) -> bool {
     ledger.get(pos) == Some(reason) && ledger.get(pos.saturating_add(1)).is_none()
 }
 
-/// Whether these are all names that there are.
+/// Returns whether these are all names in the ledger.
 fn has_names(ledger: &Ledger) -> bool {
     for (pos, reason) in SORTED {
         if !is_named(ledger, pos, reason) {
@@ -72,7 +73,7 @@ fn has_names(ledger: &Ledger) -> bool {
     ledger.total() == 4 && ledger.iter().eq(SORTED.iter())
 }
 
-/// Whether names can be made in room for five, and one of the five given back.
+/// Returns whether names can be made in room for five, and one of the five given back.
 fn names_stand(ledger: &mut Ledger) -> bool {
     add_room(ledger, 3)
         && add_room(ledger, 2)

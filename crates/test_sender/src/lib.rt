@@ -1,5 +1,5 @@
-//! Tests of the sender's parts: batches and their messages, shards, replies, retries and sets of shards,
-//! queues between threads, and a worker over them.
+//! Tests of the sender's parts: batches and their messages, shards, replies, retries and sets of
+//! shards, queues between threads, and a worker over them.
 #![tactic(auto)]
 
 #[cfg(test)]

@@ -14,7 +14,8 @@ pub struct Note {
     pub answer: Result<Reply, Lost>,
 }
 
-/// Answers as its list says, and loses what comes behind it. It notes each exchange, and sets a stop flag at one of them.
+/// Answers as its list says, and loses what comes after it. It notes each exchange, and sets a stop
+/// flag at one of them.
 #[derive(Drop)]
 pub struct Script {
     alloc: Global,
@@ -26,7 +27,7 @@ pub struct Script {
 }
 
 impl Script {
-    /// The exchanges are counted from 1.
+    /// Returns a transport with these answers. Exchanges count from 1.
     pub fn new(
         alloc: Global,
         answers: Vec<Result<Reply, Lost>>,
@@ -46,12 +47,12 @@ impl Script {
         }
     }
 
-    /// The exchanges so far.
+    /// Returns the exchanges so far.
     pub fn notes(&self) -> &[Note] {
         &self.notes
     }
 
-    /// Whether memory sufficed to note all of them.
+    /// Returns whether there was memory to note all of them.
     pub fn is_complete(&self) -> bool {
         self.is_complete
     }
@@ -101,11 +102,11 @@ impl Transport for Script {
     }
 }
 
-/// The pauses that were asked for, in milliseconds. It waits for nothing.
+/// Notes the pauses that were asked for, in milliseconds. It never waits.
 #[derive(Drop)]
 pub struct Times {
     pub milliseconds: Vec<u64>,
-    /// Whether memory sufficed to note all of them.
+    /// Whether there was memory to note all of them.
     pub is_complete: bool,
 }
 

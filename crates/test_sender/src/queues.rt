@@ -1,5 +1,5 @@
-//! The queue within one thread. The call that takes memory is made again where it is refused, so each test can be run
-//! with each allocation refused in turn.
+//! The queue within one thread. The call that takes memory is made again if it fails, so each test
+//! can be run with each allocation failing in turn.
 
 use crate::rows::none_is_wrong;
 use rw_plain_queue::{Item, Kind, PlainQueue, PutFault};
@@ -8,7 +8,7 @@ use std::alloc::{AllocError, Global};
 /// What is done with a queue, and what is then seen.
 #[derive(Clone, Copy)]
 enum Step {
-    /// An End is put, with the number of the fault, or 0 where it is not refused.
+    /// An End is put, with the number of the fault, or 0 if it is not refused.
     Put(Kind, u8),
     /// A Flush is put.
     PutFlush,
@@ -16,11 +16,11 @@ enum Step {
     Take(Option<Kind>),
     Close,
     Kill,
-    /// So many items are there.
+    /// There are this many items.
     Len(usize),
     /// Nothing can be put, for this reason.
     Refusal(PutFault),
-    /// Flushes alone are there.
+    /// There are only Flushes.
     Flushes,
 }
 
@@ -35,7 +35,8 @@ fn is_end(item: &Item, kind: Kind) -> bool {
     matches!(item, Item::End(of) if *of == kind)
 }
 
-/// Whether putting an End has a fault of this number, and gives it back, or none, where that is 0.
+/// Returns whether putting an End has the fault of this number, and gives it back, or has none if
+/// the number is 0.
 fn puts(queue: &mut PlainQueue, kind: Kind, fault: u8) -> bool {
     match queue.put(Item::End(kind)) {
         Ok(()) => fault == 0,
@@ -43,7 +44,7 @@ fn puts(queue: &mut PlainQueue, kind: Kind, fault: u8) -> bool {
     }
 }
 
-/// Whether an End of this kind is taken, or nothing.
+/// Returns whether an End of this kind is taken, or nothing.
 fn takes(queue: &mut PlainQueue, kind: Option<Kind>) -> bool {
     match (queue.take(), kind) {
         (Some(item), Some(kind)) => is_end(&item, kind),
@@ -52,7 +53,7 @@ fn takes(queue: &mut PlainQueue, kind: Option<Kind>) -> bool {
     }
 }
 
-/// Whether Flushes alone are there.
+/// Returns whether there are only Flushes.
 fn has_flushes(queue: &PlainQueue) -> bool {
     for item in queue.iter() {
         if !matches!(item, Item::Flush) {
@@ -62,7 +63,7 @@ fn has_flushes(queue: &PlainQueue) -> bool {
     true
 }
 
-/// Whether a step goes as it says.
+/// Returns whether a step goes as it says.
 fn does(queue: &mut PlainQueue, step: Step) -> bool {
     match step {
         Step::Put(kind, fault) => puts(queue, kind, fault),
@@ -82,7 +83,7 @@ fn does(queue: &mut PlainQueue, step: Step) -> bool {
     }
 }
 
-/// The first of these steps that goes otherwise.
+/// Returns the first of these steps that differs.
 fn wrong_step(queue: &mut PlainQueue, steps: &[Step]) -> Option<usize> {
     for (i, step) in steps.iter().enumerate() {
         if !does(queue, *step) {
@@ -92,7 +93,7 @@ fn wrong_step(queue: &mut PlainQueue, steps: &[Step]) -> Option<usize> {
     None
 }
 
-/// The same with a new queue of this capacity.
+/// Returns the same with a new queue of this capacity.
 fn wrong_step_of(alloc: Global, capacity: usize, steps: &[Step]) -> Option<usize> {
     match queue_of(alloc, capacity) {
         Ok(mut queue) => wrong_step(&mut queue, steps),

@@ -9,10 +9,10 @@ const NO_CONTENT: &[u8] = b"HTTP/1.1 204 No Content\r\nConnection: close\r\n\r\n
 
 const CONTINUE: &[u8] = b"HTTP/1.1 100 Continue\r\n\r\n";
 
-/// A status, so many fields, and how many bytes the first of them has as its value.
+/// A status, the number of fields, and how many bytes the first of them has as its value.
 type Head = (&'static [u8], usize, usize);
 
-/// Puts so many copies of these bytes at the end.
+/// Appends a number of copies of these bytes.
 fn push_times(text: &mut Vec<u8>, bytes: &[u8], times: usize) -> Result<(), AllocError> {
     for _ in 0..times {
         text.extend_from_slice(bytes)?;
@@ -20,7 +20,7 @@ fn push_times(text: &mut Vec<u8>, bytes: &[u8], times: usize) -> Result<(), Allo
     Ok(())
 }
 
-/// Puts the bytes of such a head at the end.
+/// Appends the bytes of such a head.
 fn push_head(text: &mut Vec<u8>, head: Head) -> Result<(), AllocError> {
     let (status, fields, value) = head;
     text.extend_from_slice(b"HTTP/1.1 ")?;
@@ -31,7 +31,7 @@ fn push_head(text: &mut Vec<u8>, head: Head) -> Result<(), AllocError> {
     text.extend_from_slice(b"\r\n\r\n")
 }
 
-/// The bytes of such a head beside its first value, where it has that field alone.
+/// The bytes of such a head without its first value, if it has only that field.
 const AROUND_VALUE: usize = 21;
 
 /// The most bytes of such a value.
@@ -130,7 +130,7 @@ fn rows() -> &'static [Row] {
     &ROWS
 }
 
-/// The first row that reads otherwise.
+/// Returns the first row that is read differently.
 fn wrong_row(alloc: Global, rows: &[Row]) -> Option<usize> {
     for (i, row) in rows.iter().enumerate() {
         if !is_so(alloc, row) {
@@ -140,7 +140,7 @@ fn wrong_row(alloc: Global, rows: &[Row]) -> Option<usize> {
     None
 }
 
-/// How much of a text has to be there until it says something.
+/// Returns how much of a text has to come until it says something.
 fn decisive(text: &[u8]) -> usize {
     for len in 0..text.len() {
         if read_reply(&text[..len]) != ReplyRead::Partial {

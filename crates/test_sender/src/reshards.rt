@@ -19,7 +19,7 @@ impl Shard for Part {
     }
 }
 
-/// Makes so many parts, and then no more.
+/// Makes a number of parts, and then no more.
 #[derive(Drop)]
 struct Maker {
     left: u32,
@@ -54,7 +54,8 @@ fn are_wanted() -> bool {
         && want(1, 0, 1, u64::MAX, 1, 1000) == 1000
 }
 
-/// The shards of the second epoch, where `next` came once before the old ones were drained and once ran out of memory.
+/// Returns the shards of the second epoch, if `next` came once before the old ones were drained and
+/// once ran out of memory.
 fn second_epoch(alloc: Global) -> Option<Fleet<Part, Running>> {
     let mut maker = Maker { left: 1 };
     let Ok(fleet) = Fleet::first(alloc, 2, &mut Maker { left: 2 }) else {
@@ -81,7 +82,7 @@ fn second_epoch(alloc: Global) -> Option<Fleet<Part, Running>> {
     if old.len() == 2 { Some(fleet) } else { None }
 }
 
-/// Whether these are the parts of the second epoch, in order.
+/// Returns whether these are the parts of the second epoch, in order.
 fn are_numbered(parts: &[Part]) -> bool {
     for (i, part) in parts.iter().enumerate() {
         if part.epoch != 1 || part.shard as usize != i {
@@ -91,7 +92,7 @@ fn are_numbered(parts: &[Part]) -> bool {
     true
 }
 
-/// Whether these are the three shards of the second epoch, and no others were made.
+/// Returns whether these are the three shards of the second epoch, and no others were made.
 fn are_second(fleet: Fleet<Part, Running>) -> bool {
     let (parts, made) = fleet.into_shards();
     made.len() == 0 && parts.len() == 3 && are_numbered(&parts)

@@ -20,7 +20,7 @@ fn is_judged(number: u16, judgement: Judgement) -> bool {
     }
 }
 
-/// The first of these numbers after which something else becomes of a batch.
+/// Returns the first of these numbers after which something else becomes of a batch.
 fn wrong_number(numbers: &[u16], judgement: Judgement) -> Option<u16> {
     for number in numbers {
         if !is_judged(*number, judgement) {

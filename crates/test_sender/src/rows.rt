@@ -7,7 +7,7 @@ pub(crate) fn none_is_wrong(rt: &impl Abort, row: Option<usize>) {
     assert_eq!(rt; row, None);
 }
 
-/// Stops where something does not hold.
+/// Stops if something does not hold.
 pub(crate) fn holds(rt: &impl Abort, is_so: bool) {
     assert!(rt; is_so);
 }

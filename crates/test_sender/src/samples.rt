@@ -1,4 +1,4 @@
-//! Label sets of one label, and samples. The calls that take memory are made again where it is refused.
+//! Label sets of one label, and samples. The calls that take memory are made again if they fail.
 
 ghost use Rattle.std.specs.Prelude.{◌≡◌, ◌∷◌, [], codes, IfOk};
 ghost use Rattle.rw_plain_queue.specs.declared.item.Item.TheVariants as item;
@@ -11,7 +11,7 @@ use std::sync::Arc;
 /// A metric's name, a word and a time.
 pub(crate) type Row = (&'static str, u64, i64);
 
-/// The label set of a metric's name alone.
+/// Returns the label set of a metric's name alone.
 fn metric_once(alloc: Global, name: &str) -> Result<LabelSet, LabelFault>
     ensures { IfOk result (λ s. s ≡ (codes "__name__", name.now) ∷ []) }
 {
@@ -29,7 +29,7 @@ pub(crate) fn metric(alloc: Global, name: &str) -> Result<LabelSet, LabelFault>
     }
 }
 
-/// The label set of a metric's name alone, to be shared.
+/// Returns the label set of a metric's name alone, to be shared.
 pub(crate) fn shared_metric(alloc: Global, name: &str) -> Result<Arc<LabelSet>, LabelFault> {
     match Arc::new(alloc, metric(alloc, name)?) {
         Ok(labels) => Ok(labels),
@@ -40,7 +40,8 @@ pub(crate) fn shared_metric(alloc: Global, name: &str) -> Result<Arc<LabelSet>, 
     }
 }
 
-/// The sample numbered `seq` of shard 1 of epoch 3, at this position. Its number of series is 0.
+/// Returns the sample numbered `seq` of shard 1 of epoch 3, at this position. Its number of series
+/// is 0.
 pub(crate) fn sample_item(seq: u64, pos: u64, t: i64, word: Word, labels: Arc<LabelSet>) -> Item
     ensures { result ≡ item.Sample
         (record { epoch = 3; shard = 1; seq = seq; pos = pos; series = 0 }) t word labels }
@@ -55,7 +56,7 @@ pub(crate) fn sample_item(seq: u64, pos: u64, t: i64, word: Word, labels: Arc<La
     Item::Sample(place, t, word, labels)
 }
 
-/// The same, with a label set of its own.
+/// Returns the same, with its own label set.
 pub(crate) fn sample(alloc: Global, seq: u64, pos: u64, row: Row) -> Result<Item, LabelFault> {
     let (name, word, t) = row;
     Ok(sample_item(seq, pos, t, Word(word), shared_metric(alloc, name)?))

@@ -1,5 +1,6 @@
-//! A shard behind its queue: what it takes, sends and resolves. The calls that take memory are made again where it is refused, so
-//! each test can be run with each allocation refused in turn: the refused call changes nothing.
+//! A shard behind its queue: what it takes, sends and resolves. The calls that take memory are made
+//! again if they fail, so each test can be run with each allocation failing in turn: the failed
+//! call changes nothing.
 
 use crate::rows::{holds, none_is_wrong};
 use crate::samples::sample;
@@ -21,7 +22,7 @@ const UP: &[u8] = &[
 const UP_REQUEST: &[u8] =
     b"POST /api/v1/write HTTP/1.1\r\nHost: localhost:9090\r\nUser-Agent: rwship/1.0\r\nContent-Type: application/x-protobuf\r\nX-Prometheus-Remote-Write-Version: 0.1.0\r\nConnection: close\r\nContent-Length: 32\r\n\r\n";
 
-/// The sample numbered `seq`, at the position 10 + `seq`: 1 at 1000 ms of the series `up`.
+/// Returns the sample numbered `seq`, at the position 10 + `seq`: 1 at 1000 ms of the series `up`.
 fn up(alloc: Global, seq: u64) -> Result<Item, LabelFault> {
     sample(
         alloc,
@@ -38,7 +39,7 @@ fn target(alloc: Global) -> Result<Target, AllocError> {
     }
 }
 
-/// Shard 1 of epoch 3, with batches of two samples.
+/// Returns shard 1 of epoch 3, with batches of two samples.
 fn core_of(alloc: Global) -> Result<ShardCore, AllocError> {
     let target = target(alloc)?;
     match ShardCore::new(alloc, &target, 3, 1, 2) {
@@ -56,7 +57,8 @@ enum Step {
     End(Kind),
     /// The builder is frozen, or not.
     Freeze(bool),
-    /// The batch whose first sample has this number is sent, with the bytes of the attempt before it, or of none.
+    /// The batch whose first sample has this number is sent, with the bytes of the attempt before
+    /// it if there is one. `None` if nothing is sent.
     Send(Option<u64>),
     /// A reply to the batch whose first sample has this number, with this status.
     Reply(u64, u16, Option<Judgement>),
@@ -107,7 +109,8 @@ fn take_sample(alloc: Global, shard: &mut Shard) -> bool {
     }
 }
 
-/// Whether freezing answers this. Where memory is refused nothing is changed, and it freezes again.
+/// Returns whether freezing has this result. If memory runs out, nothing is changed, and it freezes
+/// again.
 fn freezes(core: &mut ShardCore, ledger: &mut Ledger, done: bool) -> bool {
     let (due, left, pending) = (core.due(), ledger.left(), core.pending_places().len());
     if let Ok(answer) = core.freeze(ledger) {
@@ -120,7 +123,7 @@ fn freezes(core: &mut ShardCore, ledger: &mut Ledger, done: bool) -> bool {
         && core.freeze(ledger) == Ok(done)
 }
 
-/// Whether two attempts have the same bytes, if they are of one batch.
+/// Returns whether two attempts have the same bytes, if they are of one batch.
 fn is_again(last: &Option<Attempt>, attempt: &Attempt) -> bool {
     match last {
         Some(last) if last.id == attempt.id => {
@@ -130,7 +133,8 @@ fn is_again(last: &Option<Attempt>, attempt: &Attempt) -> bool {
     }
 }
 
-/// Whether this is an attempt to send the batch whose first sample has this number, with the bytes of the attempt before it, or none.
+/// Returns whether this is an attempt to send the batch whose first sample has this number, with
+/// the bytes of the attempt before it, or none.
 fn note_attempt(last: &mut Option<Attempt>, attempt: Option<Attempt>, seq: Option<u64>) -> bool {
     match attempt {
         Some(attempt) => {
@@ -142,7 +146,7 @@ fn note_attempt(last: &mut Option<Attempt>, attempt: Option<Attempt>, seq: Optio
     }
 }
 
-/// Attempts. Where memory is refused nothing is changed, and it attempts again.
+/// Begins an attempt. If memory runs out, nothing is changed, and it tries again.
 fn sends(shard: &mut Shard, seq: Option<u64>) -> bool {
     let id = shard.core.batch_id();
     if let Ok(attempt) = shard.core.attempt() {
@@ -155,7 +159,8 @@ fn sends(shard: &mut Shard, seq: Option<u64>) -> bool {
     }
 }
 
-/// Whether a reply of this status to the batch whose first sample has the number `seq` is judged so.
+/// Returns whether a reply of this status to the batch whose first sample has the number `seq` gets
+/// this judgement.
 fn judges(shard: &mut Shard, seq: u64, status: u16, wanted: Option<Judgement>) -> bool {
     let id = BatchId {
         epoch: 3,
@@ -171,7 +176,7 @@ fn judges(shard: &mut Shard, seq: u64, status: u16, wanted: Option<Judgement>) -
     }
 }
 
-/// Whether the open batch is the one that was sent last, with this head and this body.
+/// Returns whether the open batch is the one that was sent last, with this head and this body.
 fn is_sent(shard: &Shard, head: &[u8], body: &[u8]) -> bool {
     match &shard.last {
         Some(last) => {
@@ -182,7 +187,7 @@ fn is_sent(shard: &Shard, head: &[u8], body: &[u8]) -> bool {
     }
 }
 
-/// Whether what is seen is so.
+/// Returns whether the shard is as a step says.
 fn sees(shard: &Shard, step: Step) -> bool {
     match step {
         Step::CanTake(can) => shard.core.can_take() == can,
@@ -197,7 +202,7 @@ fn sees(shard: &Shard, step: Step) -> bool {
     }
 }
 
-/// Whether the sample of this number cannot be taken.
+/// Returns whether the sample of this number cannot be taken.
 fn is_not_taken(alloc: Global, core: &ShardCore, seq: u64) -> bool {
     match up(alloc, seq) {
         Ok(item) => !core.may_take(&item),
@@ -205,7 +210,7 @@ fn is_not_taken(alloc: Global, core: &ShardCore, seq: u64) -> bool {
     }
 }
 
-/// Whether a step goes as it says.
+/// Returns whether a step goes as it says.
 fn does(alloc: Global, shard: &mut Shard, step: Step) -> bool {
     match step {
         Step::Sample => take_sample(alloc, shard),
@@ -224,7 +229,7 @@ fn does(alloc: Global, shard: &mut Shard, step: Step) -> bool {
     }
 }
 
-/// The first of these steps that goes otherwise.
+/// Returns the first of these steps that differs.
 fn wrong_step(alloc: Global, shard: &mut Shard, steps: &[Step]) -> Option<usize> {
     for (i, step) in steps.iter().enumerate() {
         if !does(alloc, shard, *step) {
@@ -234,7 +239,7 @@ fn wrong_step(alloc: Global, shard: &mut Shard, steps: &[Step]) -> Option<usize>
     None
 }
 
-/// The same with a new shard.
+/// Returns the same with a new shard.
 fn wrong_step_of(alloc: Global, steps: &[Step]) -> Option<usize> {
     match core_of(alloc) {
         Ok(core) => {
@@ -368,7 +373,7 @@ fn request(alloc: Global, target: &Target) -> Result<Vec<u8>, AllocError> {
     }
 }
 
-/// Whether the request to a target that carries the message has that head.
+/// Returns whether the request to a target that carries the message has that head.
 fn is_requested_of(alloc: Global, target: &Target) -> bool {
     match request(alloc, target) {
         Ok(request) => request.strip_prefix(UP_REQUEST) == Some(UP),

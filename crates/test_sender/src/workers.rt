@@ -22,7 +22,7 @@ const UP: &[u8] =
 
 const ONE: Word = Word(0x3ff0_0000_0000_0000);
 
-/// A status, or no answer for 0.
+/// Returns a status, or no answer for 0.
 fn answer(status: u16) -> Result<Reply, Lost> {
     match StatusCode::from_u16(status) {
         Ok(status) => Ok(Reply { status }),
@@ -49,27 +49,27 @@ enum Feeding {
     Two,
 }
 
-/// What a worker takes, how it is answered, and what it is to do then.
+/// What a worker takes, how it is answered, and what is expected of it.
 struct Row<'a> {
     name: &'a str,
     feeding: Feeding,
     batch: u64,
-    /// No answer for 0.
+    /// 0 stands for no answer.
     statuses: &'a [u16],
     /// At which exchange the stop flag is set, counted from 1; 0 before the first one.
     stops_at: Option<usize>,
     wanted: Wanted<'a>,
 }
 
-/// What a worker is to do.
+/// What is expected of a worker.
 struct Wanted<'a> {
-    /// The End that it takes; none where it gives its end of the queue up.
+    /// The End that it takes, or `None` if it gives its end of the queue up.
     end: Option<Kind>,
     stopped: bool,
     resolved: u64,
     dropped: &'a [(u64, Reason)],
     exchanges: usize,
-    /// What each request is, where all are one.
+    /// What each request is, if all are the same.
     request: Option<&'a [u8]>,
     milliseconds: Option<&'a [u64]>,
 }
@@ -99,7 +99,7 @@ fn asks_as_wanted(script: &Script, wanted: &Wanted<'_>) -> bool {
         && notes.iter().all(|note| note.request.as_slice() == request)
 }
 
-/// Whether a report and the pauses are what is wanted.
+/// Returns whether a report and the pauses are as expected.
 fn reports_as_wanted(report: &WorkerReport<Script>, wanted: &Wanted<'_>) -> bool {
     ends_as_wanted(&report.end, wanted)
         && report.stopped.is_some() == wanted.stopped
@@ -115,7 +115,7 @@ fn waits_as_wanted(times: &Times, wanted: &Wanted<'_>) -> bool {
     }
 }
 
-/// Whether all was put.
+/// Returns whether all was put.
 fn fed<R: Wait>(rt: &R, feed: Feed<Open>, labels: Arc<LabelSet>, feeding: Feeding) -> bool
     requires { (feed.queue.epoch ≡ 3) × (feed.queue.shard ≡ 1) × (feed.put ≡ []) }
 {
@@ -126,7 +126,7 @@ fn fed<R: Wait>(rt: &R, feed: Feed<Open>, labels: Arc<LabelSet>, feeding: Feedin
     }
 }
 
-/// Whether the worker does as wanted.
+/// Returns whether the worker does as expected.
 fn works_as_wanted<R: Wait>(
     rt: &R,
     alloc: Global,
@@ -143,7 +143,7 @@ fn works_as_wanted<R: Wait>(
     waits_as_wanted(&times, wanted) && reports_as_wanted(&report, wanted)
 }
 
-/// Answers by the statuses of a row, and sets this flag as it says.
+/// Returns a transport that answers with the statuses of a row, and sets this flag as it says.
 fn script_of(alloc: Global, stop: &StopFlag, row: &Row<'_>) -> Result<Script, AllocError> {
     let stops_at = row.stops_at.unwrap_or(0);
     if row.stops_at == Some(0) {
@@ -153,7 +153,7 @@ fn script_of(alloc: Global, stop: &StopFlag, row: &Row<'_>) -> Result<Script, Al
     Ok(Script::new(alloc, answers(alloc, row.statuses)?, share, stops_at))
 }
 
-/// A worker of a queue that holds so many items, and the end that it is fed by.
+/// Returns a worker of a queue that holds this many items, and the end that feeds it.
 fn worker_of(
     alloc: Global,
     config: &Config,
@@ -169,7 +169,7 @@ fn worker_of(
     }
 }
 
-/// Whether a worker that is fed all does as a row wants.
+/// Returns whether a worker that is fed everything does as a row expects.
 fn fed_and_run<R: Wait>(
     rt: &R,
     alloc: Global,
@@ -192,7 +192,7 @@ fn config_of(alloc: Global, batch: u64) -> Result<Option<Config>, AllocError> {
     Ok(Config::new(fields))
 }
 
-/// Whether a worker does as a row wants.
+/// Returns whether a worker does as a row expects.
 fn does_as_wanted<R: Wait>(rt: &R, alloc: Global, row: &Row<'_>) -> Result<bool, LabelFault> {
     let labels = shared_metric(alloc, "up")?;
     match config_of(alloc, row.batch)? {
@@ -201,7 +201,7 @@ fn does_as_wanted<R: Wait>(rt: &R, alloc: Global, row: &Row<'_>) -> Result<bool,
     }
 }
 
-/// The name of the first row that a worker does not do.
+/// Returns the name of the first row that a worker does not do.
 fn wrong_row<R: Wait>(rt: &R, alloc: Global) -> Result<Option<&'static str>, LabelFault> {
     for row in &ROWS {
         if !does_as_wanted(rt, alloc, row)? {
@@ -221,7 +221,8 @@ const REFUSED: Wanted<'static> = Wanted {
     milliseconds: Some(&[30, 30]),
 };
 
-/// In batches of one, of two and of 2,000 samples the Flush makes two batches. The pauses of each begin anew.
+/// In batches of one, of two and of 2,000 samples the Flush makes two batches. The pauses of each
+/// start again.
 static ROWS: [Row<'static>; 9] = [
     Row {
         name: "a batch is sent until the answer is final",
@@ -363,7 +364,7 @@ static IN_A_THREAD: Wanted<'static> = Wanted {
 /// The answers to a worker in a thread.
 static STATUSES: [u16; 4] = [0, 204, 503, 404];
 
-/// Puts what a worker in its thread takes, and joins it. Whether it did as wanted.
+/// Puts what a worker in its thread takes, and joins it. Returns whether it did as expected.
 fn fed_in_a_thread<R: Threads + Wait + Copy + Send + 'static>(
     rt: &R,
     alloc: Global,
@@ -392,7 +393,7 @@ fn does_in_a_thread<R: Threads + Wait + Copy + Send + 'static>(
     Ok(fed_in_a_thread(rt, alloc, &config, labels)?)
 }
 
-/// The queue holds one item, so the two threads wait for one another.
+/// The queue holds one item, so the two threads wait for each other.
 #[test]
 fn a_worker_in_a_thread(rt: HostRuntime) {
     holds(&rt, does_in_a_thread(&rt, rt.alloc()) == Ok(true));

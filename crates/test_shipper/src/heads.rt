@@ -18,7 +18,8 @@ use std::marker::Brand;
 use std::sync::{Arc, Wait};
 use std::thread::Threads;
 
-/// What is shipped to so many seats of a head, what is wanted, and the samples that the head then has, all of one metric.
+/// What is shipped to this many seats of a head, what is expected, and the samples that the head
+/// then has, all of one metric.
 struct Row<'a> {
     seats: u64,
     task: Task<'a>,
@@ -33,7 +34,7 @@ fn put_seats<R: Drop, L: Endpoint>(seats: &mut Vec<Seat<L>>, lines: Vec<Line<R, 
     }
 }
 
-/// A receiver over the head, and so many seats of it.
+/// Returns a receiver over the head, and this many seats of it.
 fn opened<L: Endpoint>(
     alloc: Global,
     limits: Limits,
@@ -55,7 +56,7 @@ fn opened<L: Endpoint>(
     Ok((Arc::new(alloc, receiver)?, seats))
 }
 
-/// The head, where all seats are back and nobody else has a part in it.
+/// Returns the head, if all seats were returned and nobody else shares it.
 fn gathered<L: Endpoint>(
     receiver: Arc<Receiver<L>>,
     seats: Vec<Seat<L>>,
@@ -70,7 +71,8 @@ fn gathered<L: Endpoint>(
     Some(receiver.into_shared().gather(seats))
 }
 
-/// Ships to the seats of the head, of which each worker takes one, and gathers them. Gives whether all was done as wanted, and the head.
+/// Ships to the seats of the head, of which each worker takes one, and gathers them. Returns
+/// whether everything was done as expected, and the head.
 fn shipped<R: Threads + Wait + Copy + Send + 'static, L: Endpoint + Send + Sync + 'static>(
     rt: &R,
     alloc: Global,
@@ -99,7 +101,7 @@ fn shipped<R: Threads + Wait + Copy + Send + 'static, L: Endpoint + Send + Sync 
     Some((is_so, gathered(receiver, seats, count)?))
 }
 
-/// The same for so many seats.
+/// Returns the same for this many seats.
 fn shipped_to_seats<R: Threads + Wait + Copy + Send + 'static>(
     rt: &R,
     alloc: Global,
@@ -120,7 +122,7 @@ fn texts(alloc: Global, name: &str) -> Result<Vec<(String, String)>, AllocError>
     Ok(texts)
 }
 
-/// The labels of the metric of this name.
+/// Returns the labels of the metric of this name.
 fn labels(alloc: Global, name: &str) -> Result<LabelSet, LabelFault> {
     let texts = texts(alloc, name)?;
     let mut labels = LabelSet::empty(alloc);
@@ -128,7 +130,7 @@ fn labels(alloc: Global, name: &str) -> Result<LabelSet, LabelFault> {
     Ok(labels)
 }
 
-/// Whether these are the samples.
+/// Returns whether these are the samples.
 fn are(held: &[(i64, Word)], wanted: &[(i64, u64)]) -> bool {
     for (a, b) in held.iter().zip(wanted) {
         if a.0 != b.0 || a.1 != Word(b.1) {
@@ -138,7 +140,7 @@ fn are(held: &[(i64, Word)], wanted: &[(i64, u64)]) -> bool {
     held.len() == wanted.len()
 }
 
-/// Whether the head has these samples for the metric of this name, and no others.
+/// Returns whether the head has these samples for the metric of this name, and no others.
 fn holds(
     alloc: Global,
     head: &Head,
@@ -150,7 +152,7 @@ fn holds(
     Ok(head.total() == wanted.len() as u64 && are(&held, wanted))
 }
 
-/// Whether a head has what a row wants.
+/// Returns whether a head has what a row expects.
 fn has_all<R: Threads + Wait + Copy + Send + 'static>(
     rt: &R,
     alloc: Global,
@@ -246,13 +248,15 @@ static THAT_RISE: Row<'static> = Row {
     samples: &[(10, ONE), (20, TWO)],
 };
 
-/// The third and the fourth reference are one series, of which the second epoch has a sample at the timestamp of the first one's.
+/// The third and the fourth reference are one series, of which the second epoch has a sample at the
+/// timestamp of the first one's.
 #[test]
 fn the_head_has_the_samples_that_rise(rt: HostRuntime) {
     assert_eq!(rt; has_all(&rt, rt.alloc(), &THAT_RISE), Ok(true));
 }
 
-/// Ships two segments, of which the second one has a sample at the time of the first one's, over three shards.
+/// Ships two segments, of which the second one has a sample at the time of the first one's, over
+/// three shards.
 fn shipped_whole<R: Threads + Wait + Copy + Send + 'static>(
     rt: &R,
     alloc: Global,
@@ -269,7 +273,8 @@ fn shipped_whole<R: Threads + Wait + Copy + Send + 'static>(
     Ok(Some(ship(rt, alloc, config, log, limits, Quick)?))
 }
 
-/// Whether it is complete, names the sample that does not rise, and the head has the others.
+/// Returns whether it is complete, names the sample that does not rise, and the head has the
+/// others.
 fn is_whole(alloc: Global, shipped: &Shipped) -> Result<bool, LabelFault> {
     let holds = holds(alloc, &shipped.head, "c", &[(10, ONE), (20, TWO)])?;
     Ok(
@@ -290,7 +295,7 @@ fn is_shipped_whole<R: Threads + Wait + Copy + Send + 'static>(
     }
 }
 
-/// The third and the fourth reference are one series. The limit on bodies does not count.
+/// The third and the fourth reference are one series. The limit on bodies does not apply.
 #[test]
 fn a_log_is_shipped_to_a_head_in_this_process(rt: HostRuntime) {
     assert_eq!(rt; is_shipped_whole(&rt, rt.alloc()), Ok(true));

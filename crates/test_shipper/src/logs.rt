@@ -75,7 +75,7 @@ fn record_of(alloc: Global, samples: Samples<'_>) -> Result<Vec<u8>, AllocError>
     }
 }
 
-/// Whether there is a record, and it is logged.
+/// Returns whether there is a record, and it is logged.
 fn is_logged(writer: &mut SegmentWriter<Room>, record: Result<Vec<u8>, AllocError>) -> bool {
     match record {
         Ok(record) => !record.is_empty() && writer.log(&record).is_ok(),
@@ -105,7 +105,7 @@ fn are_logged(
     is_logged(writer, record_of(alloc, samples))
 }
 
-/// A segment that defines these series, and then has these samples.
+/// Returns a segment that defines these series, and then has these samples.
 pub(crate) fn segment(
     alloc: Global,
     series: &[Named],

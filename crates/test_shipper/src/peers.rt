@@ -25,7 +25,7 @@ impl Pause for Quick {
     fn pause(&mut self, _ms: u64) {}
 }
 
-/// Through which one worker waits until another one was answered.
+/// A gate at which one worker waits until another one was answered.
 #[derive(Drop)]
 struct Gate {
     is_held: bool,
@@ -33,7 +33,7 @@ struct Gate {
 }
 
 impl Gate {
-    /// Whether it was opened in time.
+    /// Returns whether it was opened in time.
     fn opens(&self) -> bool {
         for _ in 0..TURNS {
             if self.has_answered.load(Ordering::SeqCst) {
@@ -44,7 +44,7 @@ impl Gate {
         false
     }
 
-    /// Whether the worker may go on, which opens the gate for the one that is held.
+    /// Returns whether the worker may go on; this opens the gate for the one that is held.
     fn passes(&self) -> bool {
         if self.is_held {
             return self.opens();
@@ -54,7 +54,8 @@ impl Gate {
     }
 }
 
-/// It notes each request for which there is memory, and answers all of them by one status. One that waits at a gate in vain loses its request.
+/// Notes each request for which there is memory, and answers all of them with one status. A worker
+/// that waits at a gate for too long loses its request.
 #[derive(Drop)]
 pub(crate) struct Peer {
     epoch: u64,
@@ -66,7 +67,7 @@ pub(crate) struct Peer {
 }
 
 impl Peer {
-    /// The requests so far.
+    /// Returns the requests so far.
     pub(crate) fn requests(&self) -> &[Vec<u8>] {
         &self.requests
     }

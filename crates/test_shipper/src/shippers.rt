@@ -32,19 +32,21 @@ const SECOND_OF_C: &[u8] = &[
     0x63, 0x12, 0x0b, 0x09, 0x00, 0x00, 0x00, 0x00, 0x00, 0x00, 0x00, 0x40, 0x10, 0x14,
 ];
 
-/// What a shipper does, how its receivers answer, and what is wanted.
+/// What a shipper does, how its receivers answer, and what is expected.
 struct Row<'a> {
     task: Task<'a>,
     status: u16,
     /// For how many receivers there is memory.
     receivers: u64,
     wanted: Wanted<'a>,
-    /// The bodies that the first and the last receiver get, each in one request; an empty one for no request.
+    /// The bodies that the first and the last receiver get, each in one request; an empty one means
+    /// no request.
     sent: Option<(&'a [u8], &'a [u8])>,
     loads: Option<&'a [Load]>,
 }
 
-/// Receivers that answer by one status, each at once, or one of them when another one has answered.
+/// Returns receivers that answer with one status, each at once, or one of them after another one
+/// has answered.
 fn peers_of(
     alloc: Global,
     status: u16,
@@ -63,7 +65,7 @@ fn peers_of(
     })
 }
 
-/// Whether one request was made, with this body, or none for no body.
+/// Returns whether one request was made, with this body, or none if the body is empty.
 fn has_sent(peer: Option<&Peer>, body: &[u8]) -> bool {
     let Some(peer) = peer else {
         return false;
@@ -89,7 +91,7 @@ fn has_loads(work: &Work, loads: Option<&[Load]>) -> bool {
     }
 }
 
-/// Whether a shipper does as a row wants.
+/// Returns whether a shipper does as a row expects.
 fn does<R: Threads + Wait + Copy + Send + 'static>(rt: &R, alloc: Global, row: &Row<'_>) -> bool {
     let Ok(peers) = peers_of(alloc, row.status, row.receivers, None) else {
         return false;
@@ -147,7 +149,8 @@ static NAMED: Row<'static> = Row {
     loads: None,
 };
 
-/// A sample whose reference has no series is named in the feeder's part, and a refused one in its shard's.
+/// A sample whose reference has no series is named in the feeder's part, and a refused one in its
+/// shard's.
 #[test]
 fn samples_that_are_not_stored_are_named(rt: HostRuntime) {
     assert!(rt; does(&rt, rt.alloc(), &NAMED));
@@ -203,7 +206,8 @@ static ONE_SERIES: Row<'static> = Row {
     loads: Some(&[ONE_OF_ONE, ONE_OF_ONE, ONE_OF_ONE, TWO_OF_TWO]),
 };
 
-/// An epoch that ended is no backlog, and neither is a sample that only waits for its batch to be full.
+/// An epoch that ended is no backlog, and neither is a sample that only waits for its batch to be
+/// full.
 #[test]
 fn one_series_goes_on_in_the_next_epoch(rt: HostRuntime) {
     assert!(rt; does(&rt, rt.alloc(), &ONE_SERIES));
@@ -296,7 +300,7 @@ fn a_damaged_log_is_placed_to_its_fault(rt: HostRuntime) {
 
 const REFUSED: Option<FeedFault> = Some(FeedFault::OutOfMemory);
 
-/// The second call is refused.
+/// The second call fails.
 static REFUSED_EPOCH: Row<'static> = Row {
     task: Task {
         shards: 2,
@@ -324,7 +328,7 @@ static REFUSED_EPOCH: Row<'static> = Row {
     loads: None,
 };
 
-/// A shipper that has failed answers its fault from then on, and is then stopped at once.
+/// A shipper that has failed returns its fault from then on, and is then stopped at once.
 #[test]
 fn a_refused_epoch_ends_the_work(rt: HostRuntime) {
     assert!(rt; does(&rt, rt.alloc(), &REFUSED_EPOCH));
@@ -357,7 +361,8 @@ static STOPPED: [Task<'static>; 2] = [
     },
 ];
 
-/// Whether a fault was kept, if there was one, and the report names just what was placed and is not resolved.
+/// Returns whether a fault was kept, if there was one, and the report lists just what was placed
+/// and is not resolved.
 fn is_kept(work: &Work, stop: Stop) -> bool {
     let is_whole = work.has_no_fault();
     let ends = match (is_whole, stop) {
@@ -367,7 +372,8 @@ fn is_kept(work: &Work, stop: Stop) -> bool {
     work.accounts_for_all(4) && ends && (is_whole || work.keeps_its_fault())
 }
 
-/// Whether the fault of a task is kept; none where it does not start, or where there is no memory for what is compared.
+/// Returns whether the fault of a task is kept, or `None` if it does not start, or if there is no
+/// memory for the comparison.
 fn keeps_its_fault<R: Threads + Wait + Copy + Send + 'static>(
     rt: &R,
     alloc: Global,
@@ -378,7 +384,7 @@ fn keeps_its_fault<R: Threads + Wait + Copy + Send + 'static>(
     Some(is_kept(&work, task.stop))
 }
 
-/// The same, again where there was none.
+/// Returns the same, with another try if there was none.
 fn keeps_any_fault<R: Threads + Wait + Copy + Send + 'static>(
     rt: &R,
     alloc: Global,
@@ -390,8 +396,8 @@ fn keeps_any_fault<R: Threads + Wait + Copy + Send + 'static>(
     }
 }
 
-/// Holds whichever growth is refused; `tools/refuse-each` refuses each of them in turn. A call that fails is never passed over, its fault is kept,
-/// and the report names just what is not resolved.
+/// Holds whichever allocation fails; `tools/refuse-each` lets each of them fail in turn. A call
+/// that fails is never skipped, its fault is kept, and the report lists just what is not resolved.
 #[test]
 fn a_fault_is_kept(rt: HostRuntime) {
     for task in &STOPPED {
@@ -407,8 +413,8 @@ static NO_CALLS: Task<'static> = Task {
     limit: None,
 };
 
-/// Whether a shipper of two shards does not start if there is memory for this number of receivers,
-/// and nothing that it began keeps its part of what the receivers share.
+/// Returns whether a shipper of two shards does not start if there is memory for this number of
+/// receivers, and keeps no share of what the receivers share.
 fn leaves_nothing<R: Threads + Wait + Copy + Send + 'static>(
     rt: &R,
     alloc: Global,
@@ -420,8 +426,8 @@ fn leaves_nothing<R: Threads + Wait + Copy + Send + 'static>(
     Ok(is_refused && Arc::into_inner(shared).is_some())
 }
 
-/// The receiver of the first shard is refused, or that of the second one, after the first shard has
-/// its worker.
+/// The receiver of the first shard cannot be made, or that of the second one, after the first shard
+/// has its worker.
 #[test]
 fn a_refused_start(rt: HostRuntime) -> Result<(), Fail> {
     for receivers in [0, 1] {
@@ -439,7 +445,8 @@ static ONE_EACH: Task<'static> = Task {
     limit: None,
 };
 
-/// Whether each of two shards makes one request, where the receiver of this shard is held until the other one has answered.
+/// Returns whether each of two shards makes one request, if the receiver of this shard is held
+/// until the other one has answered.
 fn send_at_once<R: Threads + Wait + Copy + Send + 'static>(
     rt: &R,
     alloc: Global,
@@ -456,7 +463,7 @@ fn send_at_once<R: Threads + Wait + Copy + Send + 'static>(
     Ok(is_one_each && ends_so(&work.outcome, Ending::Complete(6)))
 }
 
-/// A request that waited in vain would be made once more.
+/// A request that has waited for too long would be made once more.
 #[test]
 fn workers_send_at_once(rt: HostRuntime) -> Result<(), Fail> {
     for shard in [0, 1] {
@@ -465,7 +472,7 @@ fn workers_send_at_once(rt: HostRuntime) -> Result<(), Fail> {
     Ok(())
 }
 
-/// Whether this load is told in time.
+/// Returns whether this load is reported in time.
 fn comes_to(shipper: &Shipper<Peers>, load: Load) -> bool {
     for _ in 0..TURNS {
         thread::yield_now();
@@ -476,10 +483,11 @@ fn comes_to(shipper: &Shipper<Peers>, load: Load) -> bool {
     false
 }
 
-/// How many shards there are, how many samples a batch has, what is fed at once, and which load is to be told in time then.
+/// How many shards there are, how many samples a batch has, what is fed at once, and which load is
+/// to be reported in time then.
 type Fed<'a> = (u64, u64, Samples<'a>, Load);
 
-/// Whether it is, with no call behind the one that fed.
+/// Returns whether it is, with no call after the one that fed.
 fn resolves_in_time<R: Threads + Wait + Copy + Send + 'static>(
     rt: &R,
     alloc: Global,
@@ -496,14 +504,14 @@ fn resolves_in_time<R: Threads + Wait + Copy + Send + 'static>(
     Ok(is_so)
 }
 
-/// What was fed is with the workers, and they tell what they have done.
+/// What was fed is with the workers, and they report what they have done.
 #[test]
 fn a_fed_sample_is_resolved_without_a_flush(rt: HostRuntime) {
     let fed = (2, 1, [(1, 10, ONE), (2, 20, TWO)].as_slice(), TWO_OF_TWO);
     assert_eq!(rt; resolves_in_time(&rt, rt.alloc(), &fed), Ok(true));
 }
 
-/// The last sample waits for another one to be sent with, behind a batch that is answered for.
+/// The last sample waits for another one to be sent with, after a batch that is acknowledged.
 #[test]
 fn a_sample_that_waits_for_a_full_batch_is_no_backlog(rt: HostRuntime) {
     let fed = (
@@ -515,7 +523,7 @@ fn a_sample_that_waits_for_a_full_batch_is_no_backlog(rt: HostRuntime) {
     assert_eq!(rt; resolves_in_time(&rt, rt.alloc(), &fed), Ok(true));
 }
 
-/// Whether a sample that a flush cut off is told as waiting, where its receiver is busy.
+/// Returns whether a sample that a flush cut off is reported as waiting, if its receiver is busy.
 fn waits_in_time<R: Threads + Wait + Copy + Send + 'static>(
     rt: &R,
     alloc: Global,
@@ -544,7 +552,8 @@ const SHORT: &[Call<'static>] = &[Feed(&[UP], &[(1, 10, ONE), (1, 20, TWO)], Non
 /// A sample of each of three metrics whose names have 200 bytes: each counts 232 bytes.
 const LARGE: &[Call<'static>] = &[Feed(&LONG, &[(1, 10, ONE), (2, 10, ONE), (3, 10, ONE)], None)];
 
-/// What is called, how many entries that places, how many bytes a batch may take, and how many each body takes.
+/// What is called, how many entries that places, how many bytes a batch may take, and how many each
+/// body takes.
 static LIMITED: [(&[Call<'static>], u64, Option<u64>, &[usize]); 9] = [
     (SHORT, 3, None, &[44]),
     (SHORT, 3, Some(62), &[44]),
@@ -557,7 +566,7 @@ static LIMITED: [(&[Call<'static>], u64, Option<u64>, &[usize]); 9] = [
     (LARGE, 6, Some(1), &[232, 232, 232]),
 ];
 
-/// How many bytes stand behind the empty line of a request.
+/// Returns how many bytes are after the empty line of a request.
 fn body_len(request: &[u8]) -> usize {
     for i in 0..request.len() {
         let rest = &request[i..];
@@ -568,7 +577,7 @@ fn body_len(request: &[u8]) -> usize {
     0
 }
 
-/// Whether the bodies of the requests are so long.
+/// Returns whether the bodies of the requests have these lengths.
 fn has_lens(peer: &Peer, lens: &[usize]) -> bool {
     for (request, len) in peer.requests().iter().zip(lens) {
         if body_len(request) != *len {
@@ -578,7 +587,7 @@ fn has_lens(peer: &Peer, lens: &[usize]) -> bool {
     peer.requests().len() == lens.len()
 }
 
-/// Whether all is sent, in bodies that are so long, where batches have this limit.
+/// Returns whether everything is sent, in bodies of these lengths, if batches have this limit.
 fn sends_in<R: Threads + Wait + Copy + Send + 'static>(
     rt: &R,
     alloc: Global,
@@ -598,7 +607,7 @@ fn sends_in<R: Threads + Wait + Copy + Send + 'static>(
     }
 }
 
-/// The number of the first limit at which all is not sent as it says.
+/// Returns the number of the first limit at which not everything is sent as it says.
 fn wrong_limit<R: Threads + Wait + Copy + Send + 'static>(rt: &R, alloc: Global) -> Option<usize> {
     for (i, (calls, placed, limit, lens)) in LIMITED.iter().enumerate() {
         let task = Task {

@@ -14,7 +14,8 @@ use std::thread::Threads;
 /// One call of a shipper.
 #[derive(Clone, Copy)]
 pub(crate) enum Call<'a> {
-    /// Bytes that define these series and have these samples, and a byte that begins no record, where there is one.
+    /// Bytes that define these series and have these samples, and then a byte that does not begin a
+    /// record, if there is one.
     Feed(&'a [Named], Samples<'a>, Option<u8>),
     NextSegment,
     Flush,
@@ -36,7 +37,7 @@ pub(crate) enum Stop {
     Hard,
 }
 
-/// What a shipper is set to, what is called, and how it is stopped.
+/// What a shipper is set to, which calls are made, and how it is stopped.
 #[derive(Clone, Copy)]
 pub(crate) struct Task<'a> {
     pub(crate) shards: u64,
@@ -51,7 +52,7 @@ pub(crate) struct Task<'a> {
 /// What a shipper did.
 #[derive(Drop)]
 pub(crate) struct Work {
-    /// What each call answered, and the load after it.
+    /// The result of each call, and the load after it.
     pub(crate) faults: Vec<Option<FeedFault>>,
     pub(crate) loads: Vec<Load>,
     pub(crate) outcome: Outcome,
@@ -98,7 +99,7 @@ pub(crate) fn ends_so(outcome: &Outcome, ending: Ending<'_>) -> bool {
     }
 }
 
-/// Whether these are all numbers from one up to another.
+/// Returns whether these are all numbers from one up to another.
 fn are_all(numbers: &[u64], from: u64, to: u64) -> bool {
     let mut next = from;
     for number in numbers {
@@ -111,7 +112,7 @@ fn are_all(numbers: &[u64], from: u64, to: u64) -> bool {
 }
 
 impl Work {
-    /// Whether it is what is wanted. Each worker that was not stopped takes all.
+    /// Returns whether it is as expected. Each worker that was not stopped takes everything.
     pub(crate) fn is(&self, wanted: &Wanted<'_>) -> bool {
         self.faults.as_slice() == wanted.faults
             && ends_so(&self.outcome, wanted.ending)
@@ -121,7 +122,7 @@ impl Work {
             && self.counts_all()
     }
 
-    /// Whether a call failed, and each later one answered as it did.
+    /// Returns whether a call failed, and each later one returned the same.
     pub(crate) fn keeps_its_fault(&self) -> bool {
         let mut kept = None;
         for fault in &self.faults {
@@ -133,7 +134,7 @@ impl Work {
         kept.is_some()
     }
 
-    /// Whether no call failed.
+    /// Returns whether no call failed.
     pub(crate) fn has_no_fault(&self) -> bool {
         for fault in &self.faults {
             if fault.is_some() {
@@ -143,8 +144,9 @@ impl Work {
         true
     }
 
-    /// Whether nothing is named, and of the samples behind so many series, which are all of one series, just those are listed as abandoned that
-    /// were placed behind the resolved ones.
+    /// Returns whether nothing is named, and of the samples after the first `series` entries, which
+    /// are all of one series, just those are listed as abandoned that were placed after the
+    /// resolved ones.
     pub(crate) fn accounts_for_all(&self, series: u64) -> bool {
         let mut known = series;
         for resolved in &self.resolved {
@@ -162,7 +164,8 @@ impl Work {
         is_so && self.named.is_empty()
     }
 
-    /// Whether nothing is filtered, each shard has a part beside the feeder's, and is whole or stopped.
+    /// Returns whether nothing is filtered, each shard has a part beside the feeder's, and is whole
+    /// or stopped.
     fn counts_all(&self) -> bool {
         let shards = self.resolved.len();
         self.filtered == 0
@@ -171,7 +174,7 @@ impl Work {
     }
 }
 
-/// So many shards, and batches of so many samples.
+/// Returns a configuration of this many shards, and batches of this many samples.
 pub(crate) fn config_of(alloc: Global, shards: u64, batch: u64) -> Option<Config> {
     let shards = Bounded::try_new(shards)?;
     let batch = Bounded::try_new(batch)?;
@@ -244,7 +247,7 @@ fn counted<T: Transport>(
     (resolved, transport)
 }
 
-/// What a report says, and the transports.
+/// Returns what a report says, and the transports.
 fn work_of<T: Transport + Drop>(
     alloc: Global,
     faults: Vec<Option<FeedFault>>,
@@ -290,7 +293,7 @@ fn fault_of<R: Threads + Wait + Copy + Send + 'static, C: Connect + Drop>(
     answer.err()
 }
 
-/// Takes these steps, and notes what each answered and the load after it.
+/// Takes these steps, and notes the result of each and the load after it.
 fn take_steps<R: Threads + Wait + Copy + Send + 'static, C: Connect + Drop>(
     rt: &R,
     shipper: &mut Shipper<C>,
@@ -333,7 +336,8 @@ fn ship<R: Threads + Wait + Copy + Send + 'static, C: Connect + Drop>(
     work_of(alloc, faults, loads, report_of(rt, shipper, task.stop))
 }
 
-/// Does a task. Gives what was done, and the transports; none where the start is refused, or memory is.
+/// Does a task. Returns what was done, and the transports, or `None` if it does not start or memory
+/// runs out.
 pub(crate) fn done<R: Threads + Wait + Copy + Send + 'static, C: Connect + Drop>(
     rt: &R,
     alloc: Global,

@@ -26,7 +26,7 @@ pub fn of_worlds() {
     let _ = (World::promises, World::request);
 }
 
-/// What a world tells.
+/// What a world returns.
 pub fn of_told_worlds() {
     let _ = (World::received, World::label_sets, World::filtered);
     let _ = (World::ledger, World::report);

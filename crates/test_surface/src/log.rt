@@ -6,7 +6,7 @@ use rw_codes::{
 use rw_relabel::{Action, Choice, Rule, RuleFault, Rules};
 use rw_series_cache::{Cache, Known, Router};
 use rw_types::{Entry, LabelFault, LabelSet, Names, Place, RawLabels, Sink, Source, Word};
-use rw_wal_tail::{Piece, Tail, TailFault, is_out_of_memory};
+use rw_wal_tail::{Piece, SkippedType, Tail, TailFault, is_out_of_memory};
 use rw_wal_write::{LogFault, SegmentWriter, sample_record, series_record};
 use rw_write_request::{Message, Series, WireFault, decode, encode};
 
@@ -14,6 +14,7 @@ use rw_write_request::{Message, Series, WireFault, decode, encode};
 pub type Types<'a> = (
     (Word, RawLabels, LabelSet, LabelFault, Entry, Place, Names),
     (CodeFault, LogFault, Piece, Tail, TailFault),
+    SkippedType,
     (Action, Rule, RuleFault, Rules, Cache, Known<'a>),
     (Message, Series, WireFault),
 );
@@ -37,7 +38,9 @@ pub fn of_parts<W: Sink>() {
         SegmentWriter::<W>::into_inner,
     );
     let _ = (Tail::feed_piece, Tail::fault_place, Tail::copy);
-    let _ = (TailFault::number, is_out_of_memory);
+    let _ = (TailFault::number, is_out_of_memory, Tail::skipped_of);
+    let _ = (SkippedType::from_byte, SkippedType::of, SkippedType::number);
+    let _ = (SkippedType::loses_samples, SkippedType::name);
 }
 
 /// The calls of rw_relabel, rw_series_cache and rw_write_request.

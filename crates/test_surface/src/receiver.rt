@@ -17,7 +17,8 @@ pub type Types<'a, R, L> = (
 pub fn of_heads() {
     let _ = (Head::new, Head::apply, Head::answer, Head::samples);
     let _ = (Head::label_sets, Head::total, Head::series, Head::places);
-    let _ = (Head::sealed, Head::open, Head::stage, Block::samples);
+    let _ = (Head::sealed, Head::open, Head::stage, Head::admit);
+    let _ = Block::samples;
     let _ = (HeldSeries::labels, HeldSeries::samples, Limits::standard);
 }
 

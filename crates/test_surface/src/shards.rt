@@ -15,7 +15,7 @@ pub fn of_configs() {
     let _ = Target::standard;
 }
 
-/// What the core of a shard tells.
+/// What the core of a shard returns.
 pub fn of_cores() {
     let _ = (ShardCore::is_empty, ShardCore::has_ended);
     let _ = (ShardCore::batch_id, ShardCore::may_take);
@@ -30,7 +30,7 @@ pub fn of_flags<T: Transport>() {
     let _ = StoppedShard::<T>::is_resolved;
 }
 
-/// What a set of shards tells.
+/// What a set of shards returns.
 pub fn of_sets<C: Connect + Drop>() {
     let _ = (ShardSet::<C>::new, ShardSet::<C>::len);
     let _ = (ShardSet::<C>::epoch, ShardSet::<C>::window);
@@ -53,7 +53,7 @@ pub fn of_ended_sets<C: Connect + Drop, R: Threads + Wait>() {
     let _ = (ShardSet::<C>::close::<R>, ShardSet::<C>::finish::<R>);
 }
 
-/// The start of a worker on a thread of its own.
+/// The start of a worker on its own thread.
 pub fn of_started_workers<
     T: Transport + Send + Drop + 'static,
     P: Pause + Send + Drop + 'static,

@@ -27,7 +27,7 @@ pub fn of_shards() {
     let _ = (ShardCore::lost, ShardCore::kill, request_bytes, read_reply);
 }
 
-/// The making of a worker.
+/// How a worker is made.
 pub fn of_new_workers() {
     let _ = Worker::new;
 }

@@ -1,19 +1,24 @@
-//! What the engines of the program take: folders, connections, counters, settings, stop signs.
+//! What the engines of the program take: folders, connections, counters, settings, stop signals.
 
 use rw_tool::{
     Folder, Open, Opened, ReceiveCounters, SegmentFile, Segments, SendCounters, SettingsFault,
-    Sign, TcpConnect, ToolFault, Watch, read_settings, run_log_dir, segment_files,
+    StopSignal, TcpConnect, ToolFault, Watch, read_settings, run_log_dir, segment_files,
 };
 use rw_types::Source;
 use std::alloc::{AllocGlobal, Global};
 use std::fs::File;
 use std::rt::Files;
 
-/// The calls of settings, faults and stop signs.
+/// The calls of settings, faults and stop signals.
 pub fn of_settings() {
     let _ = (read_settings, SettingsFault::number);
     let _ = ToolFault::exit_status;
-    let _ = (Sign::new, Sign::wish, Sign::end, Sign::hard);
+    let _ = (
+        StopSignal::new,
+        StopSignal::request,
+        StopSignal::finish,
+        StopSignal::abort,
+    );
 }
 
 /// The engine that writes a folder.
@@ -39,7 +44,12 @@ pub fn of_folders<R: Files<File = File> + AllocGlobal + Copy>() {
 /// The calls of what the engines are given.
 pub fn of_given<O: Open, S: Segments, W: Watch, N>() {
     let _ = (O::open, Opened::<O>::place, S::advance);
-    let _ = (W::wish, W::nap, W::is_flush_due, W::is_reshard_due);
+    let _ = (
+        W::stop_request,
+        W::sleep,
+        W::is_flush_due,
+        W::is_reshard_due,
+    );
     let _ = TcpConnect::<N>::new;
 }
 
@@ -50,6 +60,7 @@ pub fn of_receive_counters() {
     let _ = ReceiveCounters::end_connection;
     let _ = ReceiveCounters::refuse_connection;
     let _ = (ReceiveCounters::answer, ReceiveCounters::hold_label_sets);
+    let _ = ReceiveCounters::set_limits;
 }
 
 /// The counters of a sender: what was read and placed.
@@ -58,7 +69,9 @@ pub fn of_send_counters() {
     let _ = (SendCounters::begin_segment, SendCounters::read_bytes);
     let _ = (SendCounters::set_folder_bytes, SendCounters::set_entries);
     let _ = (SendCounters::set_shards, SendCounters::set_load);
-    let _ = SendCounters::set_filtered;
+    let _ = (SendCounters::set_filtered, SendCounters::set_newest);
+    let _ = (SendCounters::set_newest_segment, SendCounters::set_skipped);
+    let _ = SendCounters::skipped;
 }
 
 /// The counters of a sender: what became of the samples.
@@ -66,5 +79,6 @@ pub fn of_resolved_counters() {
     let _ = (SendCounters::set_resolved, SendCounters::attempt);
     let _ = (SendCounters::drop_sample, SendCounters::drop_unsent);
     let _ = (SendCounters::dropped, SendCounters::fail);
+    let _ = (SendCounters::acknowledge, SendCounters::refuse);
     let _ = SendCounters::succeed;
 }

@@ -1,4 +1,5 @@
-//! The command `body`. Segments and bodies are written out in hexadecimal; they were made by another program.
+//! The command `body`. Segments and bodies are written out in hexadecimal; they were made by
+//! another program.
 
 use crate::rows::none_is_wrong;
 use Row::{Body, Bytes, Fault, Spaced};
@@ -29,13 +30,14 @@ const A_AND_B: &str =
 const REDEFINED_SEGMENT: &str =
     "01001565cc629301000000000000000101085f5f6e616d655f5f016101001b74934011020000000000000001000000000000000100000000000000000000010015769c916701000000000000000101085f5f6e616d655f5f016201001bc8ed2ea3020000000000000001000000000000000200000000000000000000010015c720f3cd01000000000000000701085f5f6e616d655f5f016101001bc733e823020000000000000007000000000000000300000000000000000000";
 
-/// Samples of reference 1 before it is defined, where it has the name `9`, where it is `a`, and where it has the name `9` again.
+/// Samples of reference 1 before it is defined, while it has the name `9`, while it is `a`, and
+/// while it has the name `9` again.
 const LEFT_OUT_SEGMENT: &str =
     "01001b74934011020000000000000001000000000000000100000000000000000000010015be30e08f01000000000000000101085f5f6e616d655f5f013901001bc8ed2ea302000000000000000100000000000000020000000000000000000001001565cc629301000000000000000101085f5f6e616d655f5f016101001b74934011020000000000000001000000000000000100000000000000000000010015be30e08f01000000000000000101085f5f6e616d655f5f013901001b5f9cd962020000000000000001000000000000000300000000000000000000";
 
 const ONE_OF_A: &str = "0a130a0d0a085f5f6e616d655f5f12016112021001";
 
-/// Whether a run over an input ends so, and writes this.
+/// Returns whether a run over an input ends so, and writes this.
 fn writes(
     alloc: Global,
     input: &[u8],
@@ -83,7 +85,7 @@ static ROWS: [Row; 17] = [
     Bytes(CHANGED_SEGMENT, ToolFault::Log(TailFault::BadCrc)),
 ];
 
-/// Whether the text of a segment gives the text of the body, and a newline.
+/// Returns whether the text of a segment gives the text of the body, and a newline.
 fn writes_text(alloc: Global, segment: &str, body: &str) -> bool {
     match format!(in alloc; "{body}\n") {
         Ok(line) => writes(alloc, segment.as_bytes(), true, Ok(()), line.as_bytes()),
@@ -91,7 +93,7 @@ fn writes_text(alloc: Global, segment: &str, body: &str) -> bool {
     }
 }
 
-/// Whether the bytes of a segment have this outcome, and give the bytes of the body.
+/// Returns whether the bytes of a segment have this outcome, and give the bytes of the body.
 fn writes_bytes(alloc: Global, segment: &str, outcome: Result<(), ToolFault>, body: &[u8]) -> bool {
     match read_digits(alloc, segment.as_bytes()) {
         Ok(Some(segment)) => writes(alloc, &segment, false, outcome, body),
@@ -99,7 +101,7 @@ fn writes_bytes(alloc: Global, segment: &str, outcome: Result<(), ToolFault>, bo
     }
 }
 
-/// Whether they give the bytes of this text of a body.
+/// Returns whether they give the bytes of this text of a body.
 fn writes_bytes_of(alloc: Global, segment: &str, body: &str) -> bool {
     match read_digits(alloc, body.as_bytes()) {
         Ok(Some(body)) => writes_bytes(alloc, segment, Ok(()), &body),

@@ -1,5 +1,5 @@
 //! Tests of the rules, of what is known of references, of the settings, of the program's engines,
-//! of the printed reports of a log, and of what is said of lines that are of no form.
+//! of the printed reports of a log, and of the notes on malformed lines.
 #![tactic(auto)]
 
 #[cfg(test)]

@@ -13,7 +13,7 @@ use std::{env, fs, process};
 /// The room of what a run writes.
 const ROOM: usize = 1 << 17;
 
-/// The fault of a run over log text.
+/// Returns the fault of a run over log text.
 pub(crate) fn fault(
     alloc: Global,
     text: &[u8],
@@ -31,9 +31,10 @@ const FULL: Option<ToolFault> = Some(ToolFault::SegmentFull);
 enum Row {
     /// A line of log text, and the record that it stands for.
     Good(&'static str, &'static str),
-    /// A line that is no log text.
+    /// A line that is not log text.
     Bad(&'static [u8]),
-    /// The lengths of `raw` lines, what follows them, the pages of a segment, the fault, and how many bytes are written.
+    /// The lengths of `raw` lines, what follows them, the pages of a segment, the fault, and how
+    /// many bytes are written.
     Segment(&'static [usize], &'static str, usize, Option<ToolFault>, usize),
 }
 
@@ -138,7 +139,7 @@ static ROWS: [Row; 68] = [
     Segment(&[65_523], "", 2, FULL, 0),
 ];
 
-/// Whether a text is this one without its blanks.
+/// Returns whether a text is this one without its blanks.
 fn is_without_blanks(text: &[u8], spaced: &[u8]) -> bool {
     let mut rest = text;
     for byte in spaced {
@@ -153,7 +154,8 @@ fn is_without_blanks(text: &[u8], spaced: &[u8]) -> bool {
     rest.is_empty()
 }
 
-/// What is written of one record: the text of a fragment, with its type, length and CRC, and a newline. The CRC is not compared.
+/// Returns what is written of one record: the text of a fragment, with its type, length and CRC,
+/// and a newline. The CRC is not compared.
 fn is_fragment_of(output: &[u8], rec: &str) -> bool {
     output.len() > 15
         && output.starts_with(b"01")
@@ -161,7 +163,7 @@ fn is_fragment_of(output: &[u8], rec: &str) -> bool {
         && is_without_blanks(&output[14..output.len() - 1], rec.as_bytes())
 }
 
-/// Whether a line stands for this record.
+/// Returns whether a line stands for this record.
 fn stands_for(alloc: Global, line: &str, rec: &str) -> bool {
     let Ok(mut output) = Room::new(alloc, ROOM) else {
         return false;
@@ -170,14 +172,14 @@ fn stands_for(alloc: Global, line: &str, rec: &str) -> bool {
         && is_fragment_of(output.as_slice(), rec)
 }
 
-/// Log text whose fourth line is this one.
+/// Puts log text whose fourth line is this one.
 fn put_line(text: &mut Vec<u8>, line: &[u8]) -> Result<(), AllocError> {
     text.extend_from_slice(b"\n\nraw 03\n")?;
     text.extend_from_slice(line)?;
     text.extend_from_slice(b"\nraw\n")
 }
 
-/// Whether a run has this fault or none, and writes so many bytes.
+/// Returns whether a run has this fault or none, and writes this many bytes.
 fn fills(
     alloc: Global,
     text: &[u8],
@@ -192,13 +194,13 @@ fn fills(
     fault(alloc, text, &mut output, hex, pages) == wanted && output.as_slice().len() == len
 }
 
-/// Whether a fault is found in the fourth line, which is this one, and nothing is written.
+/// Returns whether a fault is found in the fourth line, which is this one, and nothing is written.
 fn is_refused(alloc: Global, line: &[u8]) -> bool {
     let mut text = Vec::new(alloc);
     put_line(&mut text, line).is_ok() && fills(alloc, &text, true, 1, Some(ToolFault::Line(4)), 0)
 }
 
-/// A `raw` line of so many times byte 3, and its LF.
+/// Puts a `raw` line of `len` times byte 3, and its LF.
 fn push_run(text: &mut Vec<u8>, len: usize) -> Result<(), AllocError> {
     text.extend_from_slice(b"raw ")?;
     for _ in 0..len {
@@ -207,7 +209,7 @@ fn push_run(text: &mut Vec<u8>, len: usize) -> Result<(), AllocError> {
     text.extend_from_slice(b"\n")
 }
 
-/// `raw` lines of these lengths, and what follows them.
+/// Puts `raw` lines of these lengths, and what follows them.
 fn put_runs(text: &mut Vec<u8>, lens: &[usize], last: &str) -> Result<(), AllocError> {
     for len in lens {
         push_run(text, *len)?;
@@ -215,7 +217,8 @@ fn put_runs(text: &mut Vec<u8>, lens: &[usize], last: &str) -> Result<(), AllocE
     text.extend_from_slice(last.as_bytes())
 }
 
-/// Whether a run over `raw` lines of these lengths, and what follows them, has this fault or none, and writes so many bytes.
+/// Returns whether a run over `raw` lines of these lengths, and what follows them, has this fault
+/// or none, and writes this many bytes.
 fn is_segment(
     alloc: Global,
     lens: &[usize],
@@ -256,7 +259,7 @@ fn lines_and_segments(rt: HostRuntime) {
     none_is_wrong(&rt, wrong_row(rt.alloc(), rows()));
 }
 
-/// Takes a byte at each write, and fails at one of them and then for good.
+/// Takes a byte at each write, and fails at one of them and then permanently.
 #[derive(Drop)]
 struct ByteByByte {
     taken: Vec<u8>,
@@ -286,7 +289,7 @@ impl Sink for ByteByByte {
     }
 }
 
-/// Whether a writer that takes so many bytes has them, and the run fails where there are more.
+/// Returns whether a writer that takes `left` bytes has them, and the run fails if there are more.
 fn fails_after(alloc: Global, left: usize) -> bool {
     let whole = b"010001b34623a602010001b34623a602\n";
     let mut reader = b"raw 02\nraw 02".as_slice();
@@ -306,7 +309,7 @@ fn fails_after(alloc: Global, left: usize) -> bool {
         && whole.as_slice().starts_with(&writer.taken)
 }
 
-/// The number of bytes after which a writer does otherwise.
+/// Returns the number of bytes after which a writer behaves differently.
 fn wrong_writer(alloc: Global) -> Option<usize> {
     for left in 0..34 {
         if !fails_after(alloc, left) {
@@ -321,7 +324,7 @@ fn fails_with_its_writer(rt: HostRuntime) {
     none_is_wrong(&rt, wrong_writer(rt.alloc()));
 }
 
-/// The length of a file, if there is one.
+/// Returns the length of a file, if there is one.
 fn len_of(rt: &HostRuntime, path: &str) -> Option<usize> {
     match fs::read(rt, path) {
         Ok(bytes) => Some(bytes.len()),
@@ -329,7 +332,7 @@ fn len_of(rt: &HostRuntime, path: &str) -> Option<usize> {
     }
 }
 
-/// Whether the file of a folder with this number has this length, or is not there.
+/// Returns whether the file of a folder with this number has this length, or does not exist.
 fn has_file(rt: &HostRuntime, dir: &str, number: u32, len: Option<usize>) -> bool {
     match format!(in rt.alloc(); "{dir}/{number:08}") {
         Ok(path) => len_of(rt, path.as_str()) == len,
@@ -337,7 +340,7 @@ fn has_file(rt: &HostRuntime, dir: &str, number: u32, len: Option<usize>) -> boo
     }
 }
 
-/// Whether `raw` lines of these lengths are logged into a folder with this fault, or none.
+/// Returns whether `raw` lines of these lengths are logged into a folder with this fault, or none.
 fn logs_into(
     rt: &HostRuntime,
     dir: &str,
@@ -352,7 +355,8 @@ fn logs_into(
     is_put && run_log_dir(rt, rt.alloc(), &mut reader, dir, pages).err() == wanted
 }
 
-/// Lengths of `raw` lines, the pages of a segment, the fault, and then the lengths of the first three files of the folder.
+/// Lengths of `raw` lines, the pages of a segment, the fault, and then the lengths of the first
+/// three files of the folder.
 static FOLDERS: [(&[usize], usize, Option<ToolFault>, [Option<usize>; 3]); 4] = [
     (&[], 1, None, [Some(0), None, None]),
     (
@@ -370,12 +374,12 @@ static FOLDERS: [(&[usize], usize, Option<ToolFault>, [Option<usize>; 3]); 4] = 
     ),
 ];
 
-/// Whether the first three files of a folder have these lengths.
+/// Returns whether the first three files of a folder have these lengths.
 fn has_files(rt: &HostRuntime, dir: &str, lens: [Option<usize>; 3]) -> bool {
     has_file(rt, dir, 0, lens[0]) && has_file(rt, dir, 1, lens[1]) && has_file(rt, dir, 2, lens[2])
 }
 
-/// The first row after which the folder has other files, or another fault.
+/// Returns the first row after which the folder has other files, or another fault.
 fn wrong_folder(rt: &HostRuntime, dir: &str) -> Option<usize> {
     for (i, (lens, pages, wanted, files)) in FOLDERS.iter().enumerate() {
         if !logs_into(rt, dir, lens, *pages, *wanted) || !has_files(rt, dir, *files) {
@@ -385,14 +389,14 @@ fn wrong_folder(rt: &HostRuntime, dir: &str) -> Option<usize> {
     None
 }
 
-/// A folder of this test alone, which is not there yet.
+/// Returns a folder of this test alone, which does not exist yet.
 fn new_folder(rt: &HostRuntime) -> Result<PathBuf, Fail> {
     let temp = env::temp_dir(rt)?;
     let name = format!(in rt.alloc(); "rwship-log-test-{}", process::id(rt.process()))?;
     Ok(temp.join(rt.alloc(), name.as_str())?)
 }
 
-/// Nothing can be logged into a folder that is not there. The folder is made then, and removed.
+/// Nothing can be logged into a folder that does not exist. The folder is then made, and removed.
 fn wrong_in_new(rt: &HostRuntime, dir: &str) -> Option<usize> {
     let is_missing = logs_into(rt, dir, &[1], 1, Some(ToolFault::Device));
     let is_made = fs::create_dir(rt, dir).is_ok();

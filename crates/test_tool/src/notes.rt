@@ -1,11 +1,11 @@
-//! What is said of lines that are of no form.
+//! The notes on malformed lines.
 
 use crate::rows::{holds, none_is_wrong};
 use rw_replay::{log_line_note, numbered_line, script_line_note, shown_line};
 use std::alloc::{AllocError, Global};
 use std::test::Fail;
 
-/// A line, and what is said of it begins so; nothing where it is of its form.
+/// A line, and how the note on it begins; nothing if it is well-formed.
 type Row = (&'static [u8], Option<&'static str>);
 
 static LOG_LINES: [Row; 8] = [
@@ -26,7 +26,7 @@ static SCRIPT_LINES: [Row; 4] = [
     (b"wait", Some("no event begins")),
 ];
 
-/// Whether this is said where it is wanted.
+/// Returns whether the note is as wanted.
 fn is_said(note: Option<&str>, wanted: Option<&str>) -> bool {
     match (note, wanted) {
         (None, None) => true,
@@ -35,7 +35,7 @@ fn is_said(note: Option<&str>, wanted: Option<&str>) -> bool {
     }
 }
 
-/// The first row of which something else is said, counted over both tables.
+/// Returns the first row with another note, counted over both tables.
 fn wrong_note(alloc: Global) -> Result<Option<usize>, AllocError> {
     for (i, (line, wanted)) in LOG_LINES.iter().enumerate() {
         if !is_said(log_line_note(alloc, line)?, *wanted) {

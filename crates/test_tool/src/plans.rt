@@ -9,7 +9,7 @@ use rw_types::Room;
 use rw_wal_format::TailFault;
 use std::alloc::Global;
 
-/// The segment of log text. Nothing, where memory is refused or a line is bad.
+/// Returns the segment of log text, or nothing if memory runs out or a line is bad.
 fn segment_of(alloc: Global, log: &str) -> Vec<u8> {
     let Ok(mut room) = Room::new(alloc, 4096) else {
         return Vec::new(alloc);
@@ -20,7 +20,8 @@ fn segment_of(alloc: Global, log: &str) -> Vec<u8> {
     }
 }
 
-/// How a run under these settings ends. Where there are none, memory was refused, or no test wants it.
+/// Returns how a run under these settings ends. If there are no settings, memory ran out; no test
+/// expects that.
 fn ended(
     alloc: Global,
     settings: &[u8],
@@ -35,7 +36,7 @@ fn ended(
     }
 }
 
-/// Whether a run under these settings ends so, and writes this.
+/// Returns whether a run under these settings ends so, and writes this.
 fn plans(
     alloc: Global,
     settings: &[u8],
@@ -95,7 +96,7 @@ const PLAN_OF_REDEFINED: &str = "1 kept 0 {job=\"a\"}
 samples kept 3 filtered 1 bad 2 noseries 2
 ";
 
-/// Two series whose names are no legacy ones, an empty name, and an empty name of a metric.
+/// Two series whose names are not legacy names, an empty name, and an empty name of a metric.
 const NAMES: &str = r#"series 1 {__name__="http.rate","säge"="1"}
 series 2 {"9x"="1"}
 series 3 {""="1"}
@@ -118,7 +119,7 @@ const UTF8_PLAN: &str = "1 kept 0 {__name__=\"http.rate\",\"säge\"=\"1\"}
 samples kept 2 filtered 0 bad 0 noseries 0
 ";
 
-/// What a run is over.
+/// The input of a run.
 enum Input {
     /// The segment of log text.
     Log(&'static str),
@@ -160,7 +161,7 @@ static ROWS: [Row; 9] = [
     (b"", Digits(b"01\n0g"), Err(ToolFault::Line(2)), ""),
 ];
 
-/// The segment of log text with another last byte.
+/// Returns the segment of log text with another last byte.
 fn damaged_segment_of(alloc: Global, log: &str) -> Vec<u8> {
     let mut segment = segment_of(alloc, log);
     if let Some(last) = segment.last_mut() {

@@ -45,7 +45,7 @@ fn named<'a>(alloc: Global, name: &str, text: &'a [u8]) -> Result<Named<&'a [u8]
     })
 }
 
-/// Two segments.
+/// Returns the readers of two segments.
 fn both<'a>(
     alloc: Global,
     first: &'a [u8],
@@ -57,7 +57,7 @@ fn both<'a>(
     Ok(segments)
 }
 
-/// The report of two segments.
+/// Returns the report of two segments.
 fn report_of(alloc: Global, first: &[u8], second: &[u8]) -> Result<Report, ReadFault> {
     inspect(alloc, both(alloc, first, second)?)
 }
@@ -102,7 +102,7 @@ const DAMAGED: &str = "\
 {\"type\":\"fault\",\"fault\":\"checksum of the fragment is not that of its data\",\"file\":\"0\",\"offset\":63,\"behind\":34,\"next\":\"copy the segment again and compare; send ships what stands before the fault, and nothing behind it\"}\n\
 ";
 
-/// The reports of both segments, and of the first with its last byte changed.
+/// Returns the reports of both segments, and of the first with its last byte changed.
 fn texts(alloc: Global) -> Result<(Vec<u8>, Vec<u8>, Vec<u8>), ReadFault> {
     let mut first = segment_of(alloc, &FIRST)?;
     let second = segment_of(alloc, &SECOND)?;
@@ -131,7 +131,7 @@ const PLAN: &str = "1 kept 0 {__name__=\"up\"}
 samples kept 4 filtered 0 bad 1 noseries 1
 ";
 
-/// What is written as the plan of two segments, and the fault of their log.
+/// Returns what is written as the plan of two segments, and the fault of their log.
 fn plan_of(
     alloc: Global,
     first: &[u8],
@@ -143,7 +143,8 @@ fn plan_of(
     Ok((writer.into_bytes(), damage.map(|damage| damage.fault)))
 }
 
-/// Whether both segments have their plan, and whether nothing is written where the last byte of the second is another one.
+/// Returns whether both segments have their plan, and whether nothing is written if the last byte
+/// of the second is changed.
 fn are_planned(alloc: Global) -> Result<(bool, bool), ReadFault> {
     let first = segment_of(alloc, &FIRST)?;
     let mut second = segment_of(alloc, &SECOND)?;
@@ -166,7 +167,7 @@ fn plan_of_two_segments(rt: HostRuntime) -> Result<(), Fail> {
     Ok(())
 }
 
-/// Positions of both segments, and one behind their entries.
+/// Positions of both segments, and one after their entries.
 static ASKED: [u64; 6] = [4, 0, 8, 3, 9, 5];
 
 const FOUND: &str = "4 \"1 series 3 {\"9\"=\"a\"}
@@ -177,7 +178,7 @@ const FOUND: &str = "4 \"1 series 3 {\"9\"=\"a\"}
 5 \"1 sample 3 1 0 {\"9\"=\"a\"}
 ";
 
-/// What is found at the positions, how many are not there, and whether the log is damaged.
+/// Returns what is found at the positions, how many do not exist, and whether the log is damaged.
 fn found_in(alloc: Global) -> Result<(Vec<u8>, u64, bool), ReadFault> {
     let first = segment_of(alloc, &FIRST)?;
     let second = segment_of(alloc, &SECOND)?;

@@ -60,7 +60,7 @@ pub(crate) fn raw_labels(alloc: Global, labels: &[(&str, &str)]) -> Result<RawLa
     }
 }
 
-/// The label set of these labels, with names of this kind.
+/// Returns the label set of these labels, with such names.
 pub(crate) fn label_set_as(
     alloc: Global,
     names: Names,

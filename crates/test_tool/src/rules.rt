@@ -15,7 +15,8 @@ enum Row {
     Refusal(Config<'static>, Option<RuleFault>),
     /// A rule, labels, and whether the rule matches them.
     Match(Config<'static>, Labels, bool),
-    /// Labels, whether they are kept where both rules match, and where the first matches and the second does not.
+    /// Labels, whether they are kept if both rules match, and if the first matches and the second
+    /// does not.
     Several(Labels, bool, bool),
 }
 
@@ -43,7 +44,7 @@ static ROWS: [Row; 27] = [
         true,
     ),
     Match((&["job", "job"], "", "aa"), &[("job", "a")], true),
-    // a newline is a character like others
+    // a newline is a character like any other
     Match(
         (&["job"], DEFAULT_SEPARATOR, DEFAULT_PATTERN),
         &[("job", "a\nb")],
@@ -64,12 +65,12 @@ static ROWS: [Row; 27] = [
     Several(&[], false, false),
 ];
 
-/// The fault of a rule. Want of memory is one too, and none of those that are wanted.
+/// Returns the fault of a rule. Out of memory is one too, and no row expects it.
 fn fault(alloc: Global, config: Config<'_>) -> Option<RuleFault> {
     rule(alloc, Action::Keep, config).err()
 }
 
-/// Whether rules keep a label set, or not, as is said here.
+/// Returns whether rules keep or drop a label set, as is said here.
 fn are_rules_of(
     alloc: Global,
     configs: &[(Action, Config<'_>)],
@@ -82,13 +83,14 @@ fn are_rules_of(
     }
 }
 
-/// Whether a rule matches a label set, or not: one that keeps what it matches keeps it, or one that drops it does.
+/// Returns whether a rule matches a label set or not: one that keeps what it matches keeps it, and
+/// one that drops it does not.
 fn is_set_matched(alloc: Global, config: Config<'_>, labels: &LabelSet, matches: bool) -> bool {
     are_rules_of(alloc, &[(Action::Keep, config)], labels, matches)
         && are_rules_of(alloc, &[(Action::Drop, config)], labels, !matches)
 }
 
-/// The same of labels.
+/// Returns the same of labels.
 fn is_match(alloc: Global, config: Config<'_>, labels: &[(&str, &str)], matches: bool) -> bool {
     match label_set(alloc, labels) {
         Ok(labels) => is_set_matched(alloc, config, &labels, matches),
@@ -104,7 +106,8 @@ static BOTH: &[(Action, Config<'static>)] = &[(Action::Keep, JOB), (Action::Keep
 
 static WITHOUT: &[(Action, Config<'static>)] = &[(Action::Keep, JOB), (Action::Drop, ENV)];
 
-/// Whether labels are kept so by both rules and by the first without the second, and are kept where there is no rule.
+/// Returns whether labels are kept in this way by both rules and by the first without the second,
+/// and are kept if there is no rule.
 fn is_judged(alloc: Global, labels: &[(&str, &str)], by_both: bool, by_without: bool) -> bool {
     match label_set(alloc, labels) {
         Ok(labels) => {

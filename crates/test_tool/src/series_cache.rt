@@ -1,5 +1,5 @@
-//! What a cache knows of references. The calls that take memory are made again where it is refused, so the test can be run
-//! with each allocation refused in turn: the refused call changes no answer.
+//! What a cache knows of references. The calls that take memory are made again if they fail, so the
+//! test can be run with each allocation failing in turn: the failed call changes no answer.
 
 use crate::rows::{none_differs, none_is_wrong};
 use crate::rule_making::{Config, raw_labels, rules};
@@ -28,7 +28,7 @@ fn shape_of(cache: &Cache, reference: u64) -> Shape {
     }
 }
 
-/// What is known of the references 0 to 5, of which the test defines 1 to 5.
+/// Returns what is known of the references 0 to 5, of which the test defines 1 to 5.
 fn shapes(cache: &Cache) -> [Shape; 6] {
     [
         shape_of(cache, 0),
@@ -54,7 +54,7 @@ fn is_same(texts: &[(String, String)], labels: Labels<'_>) -> bool {
     texts.len() == labels.len()
 }
 
-/// Whether a reference stands for a kept series with these labels.
+/// Returns whether a reference stands for a kept series with these labels.
 fn is_kept_as(cache: &Cache, reference: u64, labels: Labels<'_>) -> bool {
     match cache.look(reference) {
         Known::Kept(_, set) => is_same(set.as_slice(), labels),
@@ -76,7 +76,7 @@ fn rules_again(alloc: Global, configs: &[(Action, Config<'_>)]) -> Result<Rules,
     }
 }
 
-/// Whether a reference is defined, where labels are there.
+/// Defines a reference, if there are labels, and returns whether that succeeded.
 fn is_defined(cache: &mut Cache, reference: u64, labels: Result<RawLabels, AllocError>) -> bool {
     match labels {
         Ok(labels) => cache.define(reference, labels).is_ok(),
@@ -84,7 +84,8 @@ fn is_defined(cache: &mut Cache, reference: u64, labels: Result<RawLabels, Alloc
     }
 }
 
-/// Defines a reference. Whether a refused call, if there was one, changed no answer, and the next one is not refused.
+/// Defines a reference. Returns whether a failed call, if there was one, changed no answer, and the
+/// next one succeeds.
 fn defines(alloc: Global, cache: &mut Cache, reference: u64, labels: Labels<'_>) -> bool {
     let before = shapes(cache);
     is_defined(cache, reference, raw_labels_again(alloc, labels))
@@ -98,7 +99,7 @@ static DEFINITIONS: [(u64, Labels<'static>, Shape); 9] = [
     (2, &[("job", "b")], Shape::Kept(1)),
     // a series is its label set
     (3, &[("job", "a")], Shape::Kept(0)),
-    // no label set, and then one
+    // not a label set, and then one
     (4, &[("job", "")], Shape::Bad(LabelFault::EmptyValue)),
     (4, &[("job", "b")], Shape::Kept(1)),
     // dropped by one rule, and by the other
@@ -128,7 +129,7 @@ static RULES: [(Action, Config<'static>); 2] = [
     (Action::Drop, (&["env"], ";", "x")),
 ];
 
-/// Whether the cache knows what it should after the definitions.
+/// Returns whether the cache knows what it should after the definitions.
 fn is_as_defined(cache: &Cache) -> bool {
     shapes(cache) == KNOWN
         && is_kept_as(cache, 1, &[("job", "c")])
@@ -137,7 +138,8 @@ fn is_as_defined(cache: &Cache) -> bool {
         && cache.series_count() == 3
 }
 
-/// The first definition after which something else is known than should be, or the number of them where that shows at the end.
+/// Returns the first definition after which something else is known than should be, or the number
+/// of them if the difference shows at the end.
 fn wrong_definition(alloc: Global, cache: &mut Cache) -> Option<usize> {
     for (i, (reference, labels, wanted)) in DEFINITIONS.iter().enumerate() {
         if !defines(alloc, cache, *reference, labels) || shape_of(cache, *reference) != *wanted {
@@ -151,18 +153,18 @@ fn wrong_definition(alloc: Global, cache: &mut Cache) -> Option<usize> {
     }
 }
 
-/// Whether this is known of a reference behind its definition.
+/// Returns whether this is known of a reference after its definition.
 fn is_known_as(cache: &mut Cache, labels: Result<RawLabels, AllocError>, wanted: Shape) -> bool {
     is_defined(cache, 1, labels) && shape_of(cache, 1) == wanted
 }
 
-/// A label set with this number as its only value.
+/// Returns a label set with this number as its only value.
 fn numbered(alloc: Global, number: u64) -> Result<RawLabels, AllocError> {
     let value = format!(in alloc; "{number}")?;
     raw_labels(alloc, &[("job", value.as_str())])
 }
 
-/// Whether so many references are defined, each with a label set of its own.
+/// Returns whether `count` references are defined, each with its own label set.
 fn defines_many(alloc: Global, cache: &mut Cache, count: u64) -> bool {
     for reference in 0..count {
         if !is_defined(cache, reference, numbered(alloc, reference)) {
@@ -172,7 +174,7 @@ fn defines_many(alloc: Global, cache: &mut Cache, count: u64) -> bool {
     true
 }
 
-/// Whether 70,000 series are there, and have their numbers.
+/// Returns whether there are 70,000 series, with their numbers.
 fn are_numbered(cache: &Cache) -> bool {
     for number in [0, 65_535, 65_536, 69_999] {
         if shape_of(cache, number) != Shape::Kept(number) {
@@ -206,15 +208,15 @@ fn sixty_five_labels(alloc: Global) -> Result<RawLabels, AllocError> {
 enum Trial {
     /// The definitions are made.
     Definitions,
-    /// This is then known of a label set that is no legacy one.
+    /// This is then known of a label set that has no legacy name.
     Names(Shape),
-    /// This is then known of a label set with a label too many.
+    /// This is then known of a label set with one label too many.
     TooMany(Shape),
     /// 70,000 references are defined.
     Many,
 }
 
-/// Whether a trial that is no table goes as it should.
+/// Returns whether a trial that is not a table goes as it should.
 fn goes(alloc: Global, cache: &mut Cache, trial: Trial) -> bool {
     match trial {
         Trial::Definitions => false,
@@ -226,7 +228,7 @@ fn goes(alloc: Global, cache: &mut Cache, trial: Trial) -> bool {
     }
 }
 
-/// The row of a trial that is wrong, or 0 where it has none.
+/// Returns the row of a trial that is wrong, or 0 if it has no rows.
 fn wrong_in(alloc: Global, cache: &mut Cache, trial: Trial) -> Option<usize> {
     match trial {
         Trial::Definitions => wrong_definition(alloc, cache),
@@ -235,7 +237,7 @@ fn wrong_in(alloc: Global, cache: &mut Cache, trial: Trial) -> Option<usize> {
     }
 }
 
-/// The same with a new cache.
+/// Returns the same with a new cache.
 fn wrong_with(alloc: Global, choice: Choice, trial: Trial) -> Option<usize> {
     let mut cache = Cache::new(alloc, choice);
     wrong_in(alloc, &mut cache, trial)
@@ -260,7 +262,7 @@ fn last_definitions(rt: HostRuntime) {
     none_is_wrong(&rt, wrong_with_rules(rt.alloc()));
 }
 
-/// A cache with such names and no rules.
+/// Returns the same with a cache that accepts such names and has no rules.
 fn wrong_with_names(alloc: Global, names: Names, wanted: Shape) -> Option<usize> {
     let rules = Rules::new(Vec::new(alloc));
     wrong_with(alloc, Choice { names, rules }, Trial::Names(wanted))
@@ -276,7 +278,7 @@ fn names_by_choice(rt: HostRuntime) {
     none_is_wrong(&rt, wrong_with_names(rt.alloc(), Names::Legacy, bad));
 }
 
-/// A cache that keeps each label set.
+/// Returns the same with a cache that keeps each label set.
 fn wrong_with_no_rules(alloc: Global, trial: Trial) -> Option<usize> {
     wrong_with(alloc, Choice::legacy(alloc), trial)
 }
@@ -286,7 +288,7 @@ fn many_series_are_numbered(rt: HostRuntime) {
     none_is_wrong(&rt, wrong_with_no_rules(rt.alloc(), Trial::Many));
 }
 
-/// Labels of which there are too many are no want of memory.
+/// Labels of which there are too many do not count as out of memory.
 #[test]
 fn sixty_five_labels_are_too_many(rt: HostRuntime) {
     let too_many = Shape::Bad(LabelFault::TooMany);
@@ -296,8 +298,8 @@ fn sixty_five_labels_are_too_many(rt: HostRuntime) {
     );
 }
 
-/// What a question shows, the number of a series and a timestamp, and whether that rises. If it
-/// does, it is noted.
+/// What a question shows, the number of a series and a timestamp, and whether it is later than the
+/// noted one. If it is, it is noted.
 static TIMES: [(&str, u64, i64, bool); 10] = [
     (
         "the least timestamp, where nothing is noted",
@@ -320,8 +322,8 @@ fn times() -> &'static [(&'static str, u64, i64, bool)] {
     &TIMES
 }
 
-/// Whether a timestamp of a series rises; it is then noted. None, if there is no such series, or if
-/// asking changes the answer.
+/// Returns whether a timestamp of a series is later than the noted one; it is then noted. `None` if
+/// there is no such series, or if asking changes the answer.
 fn is_noted(cache: &mut Cache, series: u64, t: i64) -> Option<bool> {
     if series >= cache.series_count() as u64 {
         return None;
@@ -336,7 +338,7 @@ fn is_noted(cache: &mut Cache, series: u64, t: i64) -> Option<bool> {
     Some(true)
 }
 
-/// The first question that is answered otherwise.
+/// Returns the first question that is answered differently.
 fn wrong_time(cache: &mut Cache) -> Option<&'static str> {
     for (name, series, t, wanted) in times() {
         if is_noted(cache, *series, *t) != Some(*wanted) {
@@ -346,8 +348,8 @@ fn wrong_time(cache: &mut Cache) -> Option<&'static str> {
     None
 }
 
-/// The first wrong answer of a cache with two series, to which a third reference comes that has the
-/// label set of the first one.
+/// Returns the first wrong answer of a cache with two series, to which a third reference comes that
+/// has the label set of the first one.
 fn wrong_note(alloc: Global) -> Option<&'static str> {
     let mut cache = Cache::new(alloc, Choice::legacy(alloc));
     if !defines(alloc, &mut cache, 1, &[("job", "a")])

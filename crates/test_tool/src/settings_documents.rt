@@ -6,7 +6,7 @@ use rw_settings::{Settings, SettingsFault, read_settings};
 use rw_types::{LabelSet, Names};
 use std::alloc::Global;
 
-/// The number of a text's fault, or 9 where it has none. That of want of memory is none that a row has.
+/// Returns the number of a text's fault, or 9 if it has none. No row expects out of memory.
 pub(crate) fn fault(alloc: Global, text: &[u8]) -> u8 {
     match read_settings(alloc, text) {
         Ok(_) => 9,
@@ -15,12 +15,13 @@ pub(crate) fn fault(alloc: Global, text: &[u8]) -> u8 {
     }
 }
 
-/// Texts with no fault or with one, and then with two at once, and the number that is answered, or 9.
+/// Texts with no fault or with one, and then with two at once, and the number that is returned, or
+/// 9.
 static FAULTS: [(&[u8], u8); 68] = [
     (b"", 9),
     (b"# nothing\n\n", 9),
     (b"rule = []\n[send]\n[receive]\n", 9),
-    // no TOML
+    // not TOML
     (b"send", 1),
     (b"[send]\nshards = 1\nshards = 1", 1),
     (b"[send]\nshards = 9223372036854775808", 1),
@@ -119,7 +120,7 @@ fn faults_of_texts() -> &'static [(&'static [u8], u8)] {
     &FAULTS
 }
 
-/// The first text whose fault is another.
+/// Returns the first text whose fault is another.
 fn wrong_fault(alloc: Global, rows: &[(&[u8], u8)]) -> Option<usize> {
     for (i, (text, want)) in rows.iter().enumerate() {
         if fault(alloc, text) != *want {
@@ -157,7 +158,7 @@ fn receiving(s: &Settings) -> [u64; 4] {
     ]
 }
 
-/// The host and the path that are sent to, and the path that is received on.
+/// Returns the host and the path that are sent to, and the path that is received on.
 fn texts(s: &Settings) -> [&str; 3] {
     let target = &s.config.fields().target;
     [
@@ -167,7 +168,7 @@ fn texts(s: &Settings) -> [&str; 3] {
     ]
 }
 
-/// The names that are sent and received.
+/// Returns the names that are sent and received.
 fn names(s: &Settings) -> [Names; 2] {
     [s.config.fields().names, s.limits.names]
 }
@@ -266,12 +267,12 @@ fn readings() -> &'static [(&'static [u8], Read, Kept)] {
     &READ
 }
 
-/// Whether rules keep a set, or not, as is said here.
+/// Returns whether rules keep or drop a set, as is said here.
 fn keeps(s: &Settings, set: &LabelSet, want: bool) -> bool {
     s.config.fields().rules.keeps(set) == Ok(want)
 }
 
-/// The same of labels.
+/// Returns the same of labels.
 fn is_kept(alloc: Global, s: &Settings, labels: &[(&str, &str)], want: bool) -> bool {
     match label_set(alloc, labels) {
         Ok(set) => keeps(s, &set, want),
@@ -279,7 +280,7 @@ fn is_kept(alloc: Global, s: &Settings, labels: &[(&str, &str)], want: bool) -> 
     }
 }
 
-/// Whether the rules keep these labels, or not, as is said beside them.
+/// Returns whether the rules keep or drop these labels, as is said beside them.
 fn are_kept(alloc: Global, s: &Settings, kept: Kept) -> bool {
     for (labels, want) in kept {
         if !is_kept(alloc, s, labels, *want) {
@@ -289,7 +290,7 @@ fn are_kept(alloc: Global, s: &Settings, kept: Kept) -> bool {
     true
 }
 
-/// Whether a text sets this, and its rules keep these labels.
+/// Returns whether a text sets this, and its rules keep these labels.
 fn reads_as(alloc: Global, text: &[u8], want: &Read, kept: Kept) -> bool {
     match read_settings(alloc, text) {
         Ok(s) => sets(&s, want) && are_kept(alloc, &s, kept),
@@ -297,7 +298,7 @@ fn reads_as(alloc: Global, text: &[u8], want: &Read, kept: Kept) -> bool {
     }
 }
 
-/// The first text that sets something else, or whose rules keep other labels.
+/// Returns the first text that sets something else, or whose rules keep other labels.
 fn wrong_reading(alloc: Global, rows: &[(&[u8], Read, Kept)]) -> Option<usize> {
     for (i, (text, want, kept)) in rows.iter().enumerate() {
         if !reads_as(alloc, text, want, *kept) {

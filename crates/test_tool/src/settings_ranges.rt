@@ -39,7 +39,7 @@ fn with_number(alloc: Global, range: Range, number: i64) -> Result<String, Alloc
     format!(in alloc; "[{table}]\n{lines}\n{key} = {number}\n")
 }
 
-/// Whether a number has the fault of this number, or none.
+/// Returns whether a number has the fault of this number, or none.
 fn is_fault_at(alloc: Global, range: Range, number: i64, want: u8) -> bool {
     match with_number(alloc, range, number) {
         Ok(text) => fault(alloc, text.as_bytes()) == want,
@@ -47,7 +47,8 @@ fn is_fault_at(alloc: Global, range: Range, number: i64, want: u8) -> bool {
     }
 }
 
-/// Whether the numbers at both borders, beside them and far away have the faults that they should have, or none.
+/// Returns whether the numbers at both borders, beside them and far away have the faults that they
+/// should have, or none.
 fn is_range(alloc: Global, range: Range) -> bool {
     let (_, _, low, high, _) = range;
     is_fault_at(alloc, range, low.saturating_sub(1), 4)
@@ -76,7 +77,7 @@ fn numbers(rt: HostRuntime) {
     none_is_wrong(&rt, wrong_range(rt.alloc(), ranges()));
 }
 
-/// A text of this beginning and so many letters.
+/// Returns a text that begins in this way, and has this many letters after that.
 fn with_letters(alloc: Global, front: &str, letters: usize) -> Result<String, AllocError> {
     let mut text = String::from_str(alloc, front)?;
     for _ in 0..letters {
@@ -85,7 +86,7 @@ fn with_letters(alloc: Global, front: &str, letters: usize) -> Result<String, Al
     Ok(text)
 }
 
-/// Whether a key with a text has the fault of this number, or none.
+/// Returns whether a key with a text has the fault of this number, or none.
 fn is_text_fault(alloc: Global, key: &str, value: &str, want: u8) -> bool {
     match format!(in alloc; "{key} = '{value}'\n") {
         Ok(text) => fault(alloc, text.as_bytes()) == want,
@@ -93,7 +94,7 @@ fn is_text_fault(alloc: Global, key: &str, value: &str, want: u8) -> bool {
     }
 }
 
-/// A key with a text, which so many letters follow, and the number of the fault, or 9.
+/// A key with a text, how many letters follow it, and the number of the fault, or 9.
 type Text = (&'static str, &'static str, usize, u8);
 
 static TEXTS: [Text; 23] = [
@@ -123,7 +124,7 @@ static TEXTS: [Text; 23] = [
     ("receive.path", "/", 255, 4),
 ];
 
-/// The same of a text of this beginning and so many letters.
+/// Returns the same for a text that begins in this way, and has this many letters after that.
 fn is_fault_of_letters(alloc: Global, key: &str, front: &str, letters: usize, want: u8) -> bool {
     match with_letters(alloc, front, letters) {
         Ok(text) => is_text_fault(alloc, key, text.as_str(), want),

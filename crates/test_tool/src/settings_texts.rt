@@ -1,11 +1,11 @@
-//! Settings as text, and what is told of their faults.
+//! Settings as text, and the notes on their faults.
 
 use crate::rows::{holds, none_is_wrong};
 use Row::{Pattern, Printed, Told};
 use rw_settings::{SettingsNote, explain_settings, print_settings};
 use std::alloc::{AllocError, Global};
 
-/// What is printed where nothing is set.
+/// What is printed if nothing is set.
 const DEFAULTS: &str = "\
 [send]
 host = \"localhost:9090\"
@@ -95,7 +95,7 @@ enum Row {
     Printed(&'static str, &'static str),
     /// A pattern as a file may have it, and the last line that is printed.
     Pattern(&'static str, &'static str),
-    /// A text, and what is told of it.
+    /// A text, and the notes on it.
     Told(&'static str, &'static str),
 }
 
@@ -192,7 +192,7 @@ rule 2, regex: is of type integer; it takes a text
     ),
 ];
 
-/// Whether settings are printed so.
+/// Returns whether settings are printed in this way.
 fn is_printed(alloc: Global, text: &[u8], want: &str) -> bool {
     match print_settings(alloc, text) {
         Ok(printed) => printed.as_str() == want,
@@ -200,12 +200,12 @@ fn is_printed(alloc: Global, text: &[u8], want: &str) -> bool {
     }
 }
 
-/// The settings of one rule with this pattern.
+/// Returns the settings of one rule with this pattern.
 fn with_pattern(alloc: Global, pattern: &str) -> Result<String, AllocError> {
     format!(in alloc; "[[rule]]\naction = 'drop'\nsource_labels = ['a', '\"']\nregex = {pattern}")
 }
 
-/// Whether settings are printed with this end, and these are printed as they are.
+/// Returns whether settings are printed with this end, and the printed text is printed unchanged.
 fn ends_and_stays(alloc: Global, text: &[u8], end: &str) -> bool {
     match print_settings(alloc, text) {
         Ok(once) => {
@@ -215,7 +215,7 @@ fn ends_and_stays(alloc: Global, text: &[u8], end: &str) -> bool {
     }
 }
 
-/// The same of the settings of one rule with this pattern.
+/// Returns the same for the settings of one rule with this pattern.
 fn is_pattern_printed(alloc: Global, pattern: &str, end: &str) -> bool {
     match with_pattern(alloc, pattern) {
         Ok(text) => ends_and_stays(alloc, text.as_bytes(), end),
@@ -238,7 +238,7 @@ fn put_notes(lines: &mut String, notes: &[SettingsNote]) -> Result<(), AllocErro
     Ok(())
 }
 
-/// Whether this is told of a text.
+/// Returns whether these are the notes on a text.
 fn is_told(alloc: Global, text: &[u8], want: &str) -> bool {
     let mut lines = String::new(alloc);
     match explain_settings(alloc, text) {

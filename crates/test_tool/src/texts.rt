@@ -16,7 +16,7 @@ type Labels = &'static [(&'static str, &'static str)];
 enum Row {
     /// A word, and the text that it prints and is read from.
     Value(u64, &'static str),
-    /// A text, and the number and the integer that it stands for, if so.
+    /// A text, and the number and the integer that it stands for, if any.
     Number(&'static str, Option<u64>, Option<i64>),
     /// A label set, and the text that it prints and is read from.
     Labelled(Labels, &'static str),
@@ -64,7 +64,7 @@ static ROWS: [Row; 35] = [
         &[("__name__", "http.rate"), ("säge", "1")],
         r#"{__name__="http.rate","säge"="1"}"#,
     ),
-    // no label set, whatever names are taken
+    // not a label set, whatever names are accepted
     Other(&[("", "")], r#"{""=""}"#),
     Other(&[("a:b", "1"), ("a-b", "2")], r#"{a:b="1","a-b"="2"}"#),
     Other(
@@ -73,7 +73,7 @@ static ROWS: [Row; 35] = [
     ),
 ];
 
-/// Whether a word is printed as this text, and read from it.
+/// Returns whether a word is printed as this text, and read from it.
 fn is_value(alloc: Global, bits: u64, text: &str) -> bool {
     let mut out = Vec::new(alloc);
     push_value(&mut out, Word(bits)).is_ok()
@@ -81,7 +81,7 @@ fn is_value(alloc: Global, bits: u64, text: &str) -> bool {
         && read_value(text.as_bytes()) == Some(Word(bits))
 }
 
-/// Whether the largest number and the least integer are printed one behind the other.
+/// Returns whether the largest number and the least integer are printed one after the other.
 fn prints_numbers(alloc: Global) -> bool {
     let mut out = Vec::new(alloc);
     push_number(&mut out, u64::MAX).is_ok()
@@ -103,7 +103,7 @@ fn are_labels(read: &RawLabels, labels: &[(&str, &str)]) -> bool {
     read.len() == labels.len()
 }
 
-/// Whether the text reads as these labels.
+/// Returns whether the text reads as these labels.
 fn reads_as(alloc: Global, text: &[u8], labels: &[(&str, &str)]) -> bool {
     match read_labels(alloc, text) {
         Ok(read) => are_labels(&read, labels),
@@ -111,7 +111,7 @@ fn reads_as(alloc: Global, text: &[u8], labels: &[(&str, &str)]) -> bool {
     }
 }
 
-/// Whether the text is printed of these labels.
+/// Returns whether the text is printed of these labels.
 fn is_printed(alloc: Global, labels: &[(&str, &str)], text: &str) -> bool {
     let mut out = Vec::new(alloc);
     match label_set_as(alloc, Names::Utf8, labels) {
@@ -120,7 +120,7 @@ fn is_printed(alloc: Global, labels: &[(&str, &str)], text: &str) -> bool {
     }
 }
 
-/// Whether labels are printed as this text, and read from it.
+/// Returns whether labels are printed as this text, and read from it.
 fn is_labelled(alloc: Global, labels: &[(&str, &str)], text: &str) -> bool {
     is_printed(alloc, labels, text) && reads_as(alloc, text.as_bytes(), labels)
 }
@@ -155,7 +155,8 @@ fn there_and_back(rt: HostRuntime) {
     holds(&rt, prints_numbers(rt.alloc()));
 }
 
-/// A name of the most bytes that a label set may have beside a value of one. It is shorter where memory is refused.
+/// Returns a name of the most bytes that a label set may have beside a value of one byte. It is
+/// shorter if memory runs out.
 fn long_name(alloc: Global) -> String {
     let mut name = String::new(alloc);
     for i in 0..16_383u32 {
@@ -164,7 +165,7 @@ fn long_name(alloc: Global) -> String {
     name
 }
 
-/// Whether a label with the longest name is printed and read as others are.
+/// Returns whether a label with the longest name is printed and read as others are.
 fn is_long_name_kept(alloc: Global) -> bool {
     let name = long_name(alloc);
     match format!(in alloc; "{{\"{name}\"=\"1\"}}") {
@@ -180,7 +181,7 @@ fn long_names(rt: HostRuntime) {
     holds(&rt, is_long_name_kept(rt.alloc()));
 }
 
-/// Whether labels are printed whole, or leave the text as it was where memory is refused.
+/// Returns whether labels are printed whole, or leave the text as it was if memory runs out.
 fn prints_all_or_nothing(out: &mut Vec<u8>, set: &LabelSet) -> bool {
     let len = out.len();
     match push_labels(out, set) {
@@ -189,7 +190,7 @@ fn prints_all_or_nothing(out: &mut Vec<u8>, set: &LabelSet) -> bool {
     }
 }
 
-/// The same, four times over.
+/// Returns the same, four times over.
 fn prints_four(alloc: Global, set: &LabelSet) -> bool {
     let mut out = Vec::new(alloc);
     for _ in 0..4 {
@@ -200,7 +201,7 @@ fn prints_four(alloc: Global, set: &LabelSet) -> bool {
     true
 }
 
-/// The same of a set of two labels; where memory is refused before, nothing is printed.
+/// Returns the same for a set of two labels. If memory runs out before, nothing is printed.
 fn prints_set(alloc: Global) -> bool {
     match label_set(alloc, &[("__name__", "up"), ("job", "a\nb")]) {
         Ok(set) => prints_four(alloc, &set),
@@ -212,7 +213,8 @@ fn fault_of(alloc: Global, text: &[u8]) -> Option<TextFault> {
     read_labels(alloc, text).err()
 }
 
-/// An `Err` of a printer leaves the text as it was. It shows when each allocation fails in turn.
+/// A printer that returns an `Err` leaves the text as it was. The test shows this when each
+/// allocation fails in turn.
 #[test]
 fn refused_memory_prints_nothing(rt: HostRuntime) {
     holds(&rt, prints_set(rt.alloc()));

@@ -7,7 +7,8 @@ use rw_head::{Head, Limits, Verdict};
 use rw_write_request::Message;
 use std::alloc::Global;
 
-/// Gives a message to a new head, in whose lists the timestamps then rise. A refused one has its verdict.
+/// Gives a message to a new head, in whose lists the timestamps then rise. If it is refused, its
+/// verdict is returned.
 pub fn head_of(alloc: Global, limits: &Limits, message: &Message) -> Result<Head, Verdict>
     ensures { IfOk result (λ head. EachRises head.store) }
 {

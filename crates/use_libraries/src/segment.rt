@@ -9,7 +9,7 @@ use rw_types::Entry;
 use rw_wal_tail::{Tail, TailFault};
 use std::alloc::Global;
 
-/// Reads the first entry of a segment; none where the segment has no entry.
+/// Reads the first entry of a segment, or returns `None` if the segment has no entry.
 pub fn first_entry(alloc: Global, segment: &[u8]) -> Result<Option<Entry>, TailFault>
     ensures { (result ≡ Err OutOfMemory) ⊎ (result ≡ next_of (bytes segment.now ∷ []) 0) }
 {

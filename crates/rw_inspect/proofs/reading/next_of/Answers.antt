@@ -1,12 +1,12 @@
 use Rattle.std.proofs.Common.{Ok, ◌∙◌, ap}
-use Rattle.rw_inspect.proofs.ReadingLemmas.{ends_at_fault, ends_sound, gives_entry, is_of_log}
+use Rattle.rw_inspect.proofs.ReadingLemmas.{comes_as, is_of_log}
 use Rattle.rw_inspect.proofs.reading.next_of.Goals as goal
 
-pub returns-in-Ok-Some : goal.returns-in-Ok-Some
-returns-in-Ok-Some c = gives_entry _ _ _ _ (c.in-Ok-Some.is ∙ ap Ok c.in-Ok-Some.field-0-is) c.next_entry.ensures.answer c.next_entry.ensures.after
+pub returns-in-Ok-Some-clause-comes : goal.returns-in-Ok-Some-clause-comes
+returns-in-Ok-Some-clause-comes c taken h = comes_as _ _ _ _ (c.next_entry.ensures.takes taken h) (c.in-Ok-Some.is ∙ ap Ok c.in-Ok-Some.field-0-is)
 
-pub returns-in-Ok-None : goal.returns-in-Ok-None
-returns-in-Ok-None c = ends_sound _ _ _ (c.in-Ok-None.is ∙ ap Ok c.in-Ok-None.field-0-is) c.next_entry.ensures.answer c.next_entry.ensures.after
+pub returns-in-Ok-None-clause-comes : goal.returns-in-Ok-None-clause-comes
+returns-in-Ok-None-clause-comes c taken h = comes_as _ _ _ _ (c.next_entry.ensures.takes taken h) (c.in-Ok-None.is ∙ ap Ok c.in-Ok-None.field-0-is)
 
-pub returns-in_default : goal.returns-in_default
-returns-in_default c = ends_at_fault _ _ _ _ c.in-Err.is (is_of_log _ c.in_default.not-OutOfMemory) c.next_entry.ensures.answer c.next_entry.ensures.after
+pub returns-in_default-clause-comes : goal.returns-in_default-clause-comes
+returns-in_default-clause-comes c taken h = (comes_as _ _ _ _ (c.next_entry.ensures.takes taken h) c.in-Err.is).1 (is_of_log _ c.in_default.not-OutOfMemory)

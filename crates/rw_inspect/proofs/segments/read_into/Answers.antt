@@ -2,7 +2,7 @@ use Rattle.rw_inspect.proofs.InspectLemmas.{inspected_none, reads_into}
 use Rattle.rw_inspect.proofs.segments.read_into.Goals as goal
 
 pub read_all-requires : goal.read_all-requires
-read_all-requires g c = inspected_none _ _ _ c.new-tail.ensures c.requires c.new-rows.ensures.items
+read_all-requires g c = inspected_none _ _ _ c.new-tail.ensures.new c.requires c.new-rows.ensures.items
 
 pub returns-clause-ok : goal.returns-clause-ok
 returns-clause-ok g c =

@@ -5,7 +5,7 @@ use Rattle.rw_inspect.proofs.segments.read_segment.Goals as goal
 pub read_text-requires : goal.read_text-requires
 read_text-requires g c = record {
   room = c.requires.room;
-  taken = begins_next _ _ _ (g.T.Taker.counted c.args.taker.now) _ c.requires.sound c.begin_segment.ensures.fed c.begin_segment.ensures.here;
+  taken = begins_next _ (g.T.Taker.counted c.args.taker.now) _ (c.begin_segment.ensures.taken _ c.requires.sound.taken_all) c.begin_segment.ensures.here;
 }
 
 pub overflow_sub-found : goal.overflow_sub-found

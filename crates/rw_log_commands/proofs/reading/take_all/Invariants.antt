@@ -1,5 +1,5 @@
 use Rattle.std.proofs.Common.{◌≡◌}
-use Rattle.rw_log_commands.specs.Taking.{HasTaken}
+use Rattle.rw_wal_tail.specs.Taking.{HasTaken}
 use Rattle.rw_log_commands.proofs.TakingLemmas.{entries_left}
 use Rattle.rw_log_commands.proofs.reading.take_all.Given as goal
 

@@ -4,6 +4,7 @@ use Rattle.rw_metrics.proofs.lines.push_samples_line.Goals as goal
 pub returns : goal.returns
 returns c =
     rw (
+      c.in_ok-push_lag_told.ensures,
       c.in_ok-push_told-5.ensures,
       c.in_ok-push_told-4.ensures,
       c.in_ok-push_told-3.ensures,

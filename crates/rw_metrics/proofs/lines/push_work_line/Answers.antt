@@ -4,9 +4,6 @@ use Rattle.rw_metrics.proofs.lines.push_work_line.Goals as goal
 pub returns : goal.returns
 returns c =
     rw (
-      c.in_ok-push_percent_told.ensures,
-      c.in_ok-push_told-5.ensures,
-      c.in_ok-push_told-4.ensures,
       c.in_ok-push_last_told.ensures,
       c.in_ok-push_told-3.ensures,
       c.in_ok-push_told-2.ensures,

@@ -5,6 +5,8 @@ pub returns : goal.returns
 returns c =
     rw (
       c.in_ok-push_table_end.ensures,
+      c.in_ok-push_limit_row-2.ensures,
+      c.in_ok-push_limit_row.ensures,
       c.in_ok-push_row-2.ensures,
       c.in_ok-push_row.ensures,
       c.in_ok-push_table_start.ensures,

@@ -4,6 +4,8 @@ use Rattle.rw_metrics.proofs.receiver_page.push_held.Goals as goal
 pub returns : goal.returns
 returns c =
     rw (
+      c.in_ok-push_gauge-4.ensures,
+      c.in_ok-push_gauge-3.ensures,
       c.in_ok-push_gauge-2.ensures,
       c.in_ok-push_gauge.ensures,
     ) (simp append_assoc refl)

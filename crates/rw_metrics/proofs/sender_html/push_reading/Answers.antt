@@ -8,6 +8,7 @@ returns c =
     rw (
       c.in_ok-push_table_end.ensures,
       c.in_ok-push_row-5.ensures,
+      c.in_ok-push_skipped.ensures,
       c.in_ok-push_percent_row.ensures,
       c.in_ok-push_row-4.ensures,
       c.in_ok-push_row-3.ensures,

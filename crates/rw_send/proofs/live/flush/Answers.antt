@@ -1,4 +1,4 @@
-use Rattle.rw_send.proofs.HaltLemmas.{fails_so}
+use Rattle.rw_send.proofs.FeedErrorLemmas.{fails_so}
 use Rattle.rw_send.specs.Following.{FailsWith}
 use Rattle.rw_send.proofs.EpochLemmas.{same_length}
 use Rattle.rw_send.proofs.FollowLemmas.{err_so, flush_fails}

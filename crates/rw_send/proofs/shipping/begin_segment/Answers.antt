@@ -1,6 +1,6 @@
 use Rattle.std.proofs.Common.{Ok, Err}
 use Rattle.rw_wal_format.specs.Pieces.{next_segment}
-use Rattle.rw_send.proofs.HaltLemmas.{feed_failed}
+use Rattle.rw_send.proofs.FeedErrorLemmas.{feed_failed}
 use Rattle.rw_send.proofs.PartLemmas.{begun_or_not}
 use Rattle.rw_send.proofs.ShortLemmas.{short_fed}
 use Rattle.rw_send.proofs.shipping.begin_segment.Goals as goal

@@ -4,7 +4,7 @@ use Rattle.rw_sender.specs.Feeders.{Sorting}
 use Rattle.rw_send.specs.Segments.{AreShort}
 use Rattle.rw_send.specs.Steps.{IsSet, is_some_more}
 use Rattle.rw_send.proofs.EpochLemmas.{last_compared, last_same, last_stays, next_resolved, still_resolved, still_some}
-use Rattle.rw_send.proofs.HaltLemmas.{count_so, lacks, live_no_more, same_halt}
+use Rattle.rw_send.proofs.FeedErrorLemmas.{count_so, lacks, live_no_more, same_halt}
 use Rattle.rw_send.proofs.PartLemmas.{begins_on, halted_at_begin, halted_within, lacks_within}
 use Rattle.rw_send.proofs.SegmentLemmas.{going_step}
 use Rattle.rw_send.proofs.StepLemmas.{between, halts_at_begin, halts_behind, halts_within, is_shipped, part_first, part_halts, ships_first, some_more, stays_kept, stays_on}

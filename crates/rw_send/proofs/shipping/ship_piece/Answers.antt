@@ -1,6 +1,6 @@
 use Rattle.std.proofs.Common.{Ok, Err, inl, inr, refl}
 use Rattle.rw_wal_format.specs.Pieces.{bytes}
-use Rattle.rw_send.proofs.HaltLemmas.{feed_failed, same_halt}
+use Rattle.rw_send.proofs.FeedErrorLemmas.{feed_failed, same_halt}
 use Rattle.rw_send.proofs.PartLemmas.{joins_or_not, more_or_not}
 use Rattle.rw_send.proofs.ShortLemmas.{short_fed}
 use Rattle.rw_send.proofs.shipping.ship_piece.Goals as goal

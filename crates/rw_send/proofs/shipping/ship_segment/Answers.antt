@@ -1,5 +1,5 @@
 use Rattle.std.proofs.Common.{◌<◌, ◌≤◌, ℕ, Ok, ap, ◌∙◌, refl, sym, subst}
-use Rattle.rw_send.proofs.HaltLemmas.{lacks, same_halt}
+use Rattle.rw_send.proofs.FeedErrorLemmas.{lacks, same_halt}
 use Rattle.rw_send.proofs.PartLemmas.{less_of, part_halted}
 use Rattle.rw_send.proofs.SegmentLemmas.{feeding_none, feeding_more}
 use Rattle.rw_send.proofs.StepLemmas.{stays, stays_on}

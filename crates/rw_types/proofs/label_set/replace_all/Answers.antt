@@ -5,7 +5,7 @@ use Rattle.std.proofs.lemmas.Result.{on_ok_weaker}
 use Rattle.rw_types.specs.Labels.{text_label}
 use Rattle.rw_types.proofs.label_set.replace_all.Goals as goal
 
--- a front and the rest behind it are the whole
+-- a front and the rest after it are the whole
 whole : {A B : Type 0} (f : A → B) (xs : List A) (i n : _) (front : List B) → i ≡ n → front ≡ map f (take n xs) → front ++ map f (take (length xs - i) (drop i xs)) ≡ map f xs
 whole f xs i n front same e =
     ap (λ k. front ++ map f (take k (drop i xs))) (sym (length-drop i xs)) ∙ ap (λ ys. front ++ map f ys) (take-length (drop i xs))

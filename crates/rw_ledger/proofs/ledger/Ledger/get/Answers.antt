@@ -12,7 +12,7 @@ looked_up : (es : List (ℕ × Reason)) (room p : ℕ) (n : Named) (o : Option R
 looked_up es room p n o view sorted found =
     sym found ∙ sym (map.get-from_sorted nat_cmp es p sorted) ∙ ap (λ (x : Named). map.get x.names p) view
 
--- a position that stands at its place is found, and one that does not is not
+-- a position that is at its place is found, and one that does not is not
 found_here : (es ds : List (ℕ × Reason)) (p i : ℕ) (e : ℕ × Reason) → ds ≡ es → IsPlaceOf p ds i → i < length es → e ≡ get_or es i e → e.0 ≡ p → map.find nat_cmp p es ≡ Some e.1
 found_here es ds p i e same place lt is here = found_at_place es p i e lt (subst (λ xs. IsPlaceOf p xs i) same place).before is here
 

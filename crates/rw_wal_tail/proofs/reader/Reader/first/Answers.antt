@@ -33,4 +33,4 @@ returns-clause-kept c n k =
     let l : length c.advance.new.self.begun.items ≤ length c.args.self.now.begun.items + c.args.len =
     omega (arith, ap (λ (r : Reader). length r.begun.items) e, ap length c.in_ok-extend_from_slice.ensures.items, length-append c.clear.new.self.items c.fragment_data.result.now, ap length c.clear.ensures.items, ap length d, data_length c.args.len c.args.self.now.input.rest c.requires.whole) in
     kept_passed c.args.self.now c.advance.new.self (7 + c.args.len) c.args.len n (ap (λ (r : Reader). r.input) e) c.requires.whole (omega arith) l
-    (omega (arith, ap (λ (r : Reader). vec_capacity r.begun) e, c.extend_from_slice.ensures.capacity, c.clear.ensures.capacity)) (omega (arith, ap (λ (r : Reader). r.passed) e)) k
+    (omega (arith, ap (λ (r : Reader). vec_capacity r.begun) e, c.extend_from_slice.ensures.capacity, c.clear.ensures.capacity)) (omega (arith, ap (λ (r : Reader). length r.passed) e)) k

@@ -1,4 +1,4 @@
-use Rattle.std.proofs.Common.{◌∙◌, true, false, ap, sym, arith, Some, take, drop, refl, length, ◌+◌, ◌≤◌, length-append, rules}
+use Rattle.std.proofs.Common.{◌∙◌, true, false, ap, sym, arith, Some, take, drop, refl, length, ◌+◌, rules}
 use Rattle.rw_wal_format.specs.declared.tail_fault.TailFault.TheVariants.{BadRecord}
 use Rattle.rw_wal_tail.specs.declared.reader.Reader.{Reader}
 use Rattle.rw_wal_tail.proofs.StepLaws.{Advanced, Failing, data_of, read_as, same_full, bad_full}
@@ -22,7 +22,7 @@ returns-clause-same c =
     let d = data_of c.args.len c.args.self.now.input.rest c.rest.result.now c.fragment_data-data.result.now c.fragment_data-data.ensures c.rest.ensures in
     let r = read_as c.fragment_data-data.result.now (take c.args.len (drop 7 c.args.self.now.input.rest)) c.args.self.now.passed c.read_whole.new.ready.items c.read_whole.new.passed c.in_ok-read_whole.field-0 true d c.if-not-branch.false c.in_ok-read_whole.ensures.ok in
     let a : Advanced c.args.self.now c.advance.new.self c.args.len = record { input = ap (λ (r : Reader). r.input) e; left = ap (λ (r : Reader). r.left) e; zeros = ap (λ (r : Reader). r.zeros) e; fault = ap (λ (r : Reader). r.fault) e } in
-    same_full c.args.self.now c.advance.new.self c.args.len a (omega (arith, ap (λ (r : Reader). r.passed) e, c.read_whole.ensures.count)) (ap (λ (r : Reader). r.is_open) e ∙ c.requires.in_order) c.requires
+    same_full c.args.self.now c.advance.new.self c.args.len a (omega (arith, ap (λ (r : Reader). length r.passed) e, c.read_whole.ensures.count)) (ap (λ (r : Reader). r.is_open) e ∙ c.requires.in_order) c.requires
     (r.0 ∙ ap (λ (x : Reader). Some x.ready.items) (sym e), ap (λ (x : Reader). x.passed) e ∙ r.1)
 
 pub returns-in_err-read_whole-clause-kept : goal.returns-in_err-read_whole-clause-kept
@@ -45,4 +45,4 @@ returns-clause-kept c n k =
     let e = c.advance.ensures in
     let r = read_as c.fragment_data-data.result.now c.fragment_data-data.result.now c.args.self.now.passed c.read_whole.new.ready.items c.read_whole.new.passed c.in_ok-read_whole.field-0 true refl c.if-not-branch.false c.in_ok-read_whole.ensures.ok in
     kept_passed c.args.self.now c.advance.new.self (7 + c.args.len) 0 n (ap (λ (r : Reader). r.input) e) c.requires.whole (omega arith) (omega (arith, ap (λ (r : Reader). length r.begun.items) e))
-    (omega (arith, ap (λ (r : Reader). vec_capacity r.begun) e)) (omega (arith, ap (λ (r : Reader). r.passed) e, r.1, skip_within c.fragment_data-data.result.now)) k
+    (omega (arith, ap (λ (r : Reader). vec_capacity r.begun) e)) (skip_within c.args.self.now.passed c.advance.new.self.passed c.fragment_data-data.result.now (ap (λ (r : Reader). r.passed) e ∙ r.1)) k

@@ -23,7 +23,7 @@ returns-clause-same c =
     let w = c.as_slice.ensures.value ∙ c.in_ok-extend_from_slice.ensures.items ∙ ap (λ (l : List ℕ). c.args.self.now.begun.items ++ l) d in
     let r = read_as c.as_slice.result.now (c.args.self.now.begun.items ++ take c.args.len (drop 7 c.args.self.now.input.rest)) c.args.self.now.passed c.read_whole.new.ready.items c.read_whole.new.passed c.in-Ok-true.field-0 true w c.in-Ok-true.field-0-test c.in-Ok-true.ensures.ok in
     let a : Advanced c.args.self.now c.advance.new.self c.args.len = record { input = ap (λ (r : Reader). r.input) e; left = ap (λ (r : Reader). r.left) e; zeros = ap (λ (r : Reader). r.zeros) e; fault = ap (λ (r : Reader). r.fault) e } in
-    same_last c.args.self.now c.advance.new.self c.args.len a (omega (arith, ap (λ (r : Reader). r.passed) e, c.read_whole.ensures.count)) (ap (λ (r : Reader). r.is_open) e) c.requires
+    same_last c.args.self.now c.advance.new.self c.args.len a (omega (arith, ap (λ (r : Reader). length r.passed) e, c.read_whole.ensures.count)) (ap (λ (r : Reader). r.is_open) e) c.requires
     (r.0 ∙ ap (λ (x : Reader). Some x.ready.items) (sym e), ap (λ (x : Reader). x.passed) e ∙ r.1)
 
 pub returns-in_err-extend_from_slice-clause-kept : goal.returns-in_err-extend_from_slice-clause-kept
@@ -43,7 +43,7 @@ returns-clause-kept c n k =
     omega (arith, ap (λ (r : Reader). length r.begun.items) e, ap length c.in_ok-extend_from_slice.ensures.items, length-append c.args.self.now.begun.items c.fragment_data.result.now, ap length d, data_length c.args.len c.args.self.now.input.rest c.requires.whole) in
     let r = read_as c.as_slice.result.now c.as_slice.result.now c.args.self.now.passed c.read_whole.new.ready.items c.read_whole.new.passed c.in-Ok-true.field-0 true refl c.in-Ok-true.field-0-test c.in-Ok-true.ensures.ok in
     kept_passed c.args.self.now c.advance.new.self (7 + c.args.len) c.args.len n (ap (λ (r : Reader). r.input) e) c.requires.whole (omega arith) l
-    (omega (arith, ap (λ (r : Reader). vec_capacity r.begun) e, c.extend_from_slice.ensures.capacity)) (omega (arith, ap (λ (r : Reader). r.passed) e, r.1, skip_within c.as_slice.result.now)) k
+    (omega (arith, ap (λ (r : Reader). vec_capacity r.begun) e, c.extend_from_slice.ensures.capacity)) (skip_within c.args.self.now.passed c.advance.new.self.passed c.as_slice.result.now (ap (λ (r : Reader). r.passed) e ∙ r.1)) k
 
 pub returns-in-Err-clause-certain : goal.returns-in-Err-clause-certain
 returns-in-Err-clause-certain c n k =

@@ -5,6 +5,7 @@ use Rattle.rw_wal_tail.specs.declared.piece.Told.TheVariants as told
 use Rattle.rw_wal_tail.specs.Fed.{Fed, told_of}
 use Rattle.rw_wal_tail.proofs.FedLaws.{goes_on, follows_taken, still_stuck, cuts_do_not_matter}
 use Rattle.rw_wal_tail.proofs.KeptLaws.{kept_bytes, tail_same}
+use Rattle.rw_wal_tail.proofs.TakingLemmas.{stays_taken}
 use Rattle.rw_wal_tail.proofs.tail.Tail.feed.Goals as goal
 
 pub returns-clause-goes_on : goal.returns-clause-goes_on
@@ -35,3 +36,6 @@ pub invariant_of-self : goal.invariant_of-self
 invariant_of-self c =
     tail_same c.self.inside.reader c.feed.new.self _ c.self.inside.given c.self.inside.count c.self.inside.told c.self.inside.told c.self.invariant c.in_err-feed.ensures.err (c.in_err-feed.ensures.kept _ c.self.invariant.kept)
     (still_stuck c.self.inside.reader c.feed.new.self c.self.inside.told c.in_err-feed.ensures.fault c.in_err-feed.ensures.ready c.self.invariant.stuck)
+
+pub returns-clause-taken : goal.returns-clause-taken
+returns-clause-taken c taken h = stays_taken c.args.self.now _ taken (ap (λ (t : Fed). t.given) c.self.view_is) (returns-clause-goes_on c) h

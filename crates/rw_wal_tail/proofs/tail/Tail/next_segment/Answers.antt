@@ -5,6 +5,7 @@ use Rattle.rw_wal_tail.specs.declared.piece.Told.TheVariants as told
 use Rattle.rw_wal_tail.specs.Fed.{Fed, told_of}
 use Rattle.rw_wal_tail.proofs.FedLaws.{goes_on, follows_taken, still_stuck}
 use Rattle.rw_wal_tail.proofs.KeptLaws.{kept_next}
+use Rattle.rw_wal_tail.proofs.TakingLemmas.{stays_taken}
 use Rattle.rw_wal_tail.proofs.tail.Tail.next_segment.Goals as goal
 
 pub returns-clause-goes_on : goal.returns-clause-goes_on
@@ -24,3 +25,6 @@ invariant_of-self c =
       stuck = still_stuck c.self.inside.reader c.next_segment.new.self c.self.inside.told c.next_segment.ensures.fault c.next_segment.ensures.ready i.stuck;
       kept = kept_next _ c.next_segment.new.self (c.next_segment.ensures.kept _ i.kept);
     })
+
+pub returns-clause-taken : goal.returns-clause-taken
+returns-clause-taken c taken h = stays_taken c.args.self.now _ taken (ap (λ (t : Fed). t.given) c.self.view_is) (returns-clause-goes_on c) h

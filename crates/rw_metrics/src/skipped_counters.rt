@@ -1,0 +1,71 @@
+//! Counters of the records that are skipped.
+
+use crate::send_numbers::Skipped;
+use std::sync::atomic::{AtomicU64, Ordering};
+
+/// How many records were skipped, by what they hold.
+#[derive(Drop)]
+pub(crate) struct SkippedCounters {
+    tombstones: AtomicU64,
+    exemplars: AtomicU64,
+    mmap_markers: AtomicU64,
+    metadata: AtomicU64,
+    histograms: AtomicU64,
+    float_histograms: AtomicU64,
+    custom_histograms: AtomicU64,
+    custom_float_histograms: AtomicU64,
+    unknown: AtomicU64,
+}
+
+fn read(counter: &AtomicU64) -> u64 {
+    counter.load(Ordering::Relaxed)
+}
+
+fn set(counter: &AtomicU64, n: u64) {
+    counter.store(n, Ordering::Relaxed);
+}
+
+impl SkippedCounters {
+    pub(crate) fn new() -> SkippedCounters {
+        SkippedCounters {
+            tombstones: AtomicU64::new(0),
+            exemplars: AtomicU64::new(0),
+            mmap_markers: AtomicU64::new(0),
+            metadata: AtomicU64::new(0),
+            histograms: AtomicU64::new(0),
+            float_histograms: AtomicU64::new(0),
+            custom_histograms: AtomicU64::new(0),
+            custom_float_histograms: AtomicU64::new(0),
+            unknown: AtomicU64::new(0),
+        }
+    }
+
+    pub(crate) fn set(&self, skipped: &Skipped) {
+        set(&self.tombstones, skipped.tombstones);
+        set(&self.exemplars, skipped.exemplars);
+        set(&self.mmap_markers, skipped.mmap_markers);
+        set(&self.metadata, skipped.metadata);
+        set(&self.histograms, skipped.histograms);
+        set(&self.float_histograms, skipped.float_histograms);
+        set(&self.custom_histograms, skipped.custom_histograms);
+        set(
+            &self.custom_float_histograms,
+            skipped.custom_float_histograms,
+        );
+        set(&self.unknown, skipped.unknown);
+    }
+
+    pub(crate) fn read(&self) -> Skipped {
+        Skipped {
+            tombstones: read(&self.tombstones),
+            exemplars: read(&self.exemplars),
+            mmap_markers: read(&self.mmap_markers),
+            metadata: read(&self.metadata),
+            histograms: read(&self.histograms),
+            float_histograms: read(&self.float_histograms),
+            custom_histograms: read(&self.custom_histograms),
+            custom_float_histograms: read(&self.custom_float_histograms),
+            unknown: read(&self.unknown),
+        }
+    }
+}

@@ -1,0 +1,34 @@
+//! A seat that answers bodies, and counts.
+
+use rw_endpoint::Answer;
+use rw_metrics::ReceiveCounters;
+use rw_recv_head::{Naming, Seat, SharedHead};
+use std::sync::Wait;
+
+/// A seat that is lent to answer the bodies of a connection's requests. Each answer may wait for
+/// the lock, and is counted.
+#[derive(Drop)]
+pub(crate) struct CountingSeat<'a, R, L: Naming> {
+    pub(crate) rt: &'a R,
+    pub(crate) shared: &'a SharedHead<L>,
+    /// A seat of that shared head.
+    pub(crate) seat: &'a mut Seat<L>,
+    pub(crate) counters: &'a ReceiveCounters,
+}
+
+impl<R: Wait, L: Naming> Answer for CountingSeat<'_, R, L> {
+    ghost use Rattle.std.specs.Prelude.{◌≡◌};
+    ghost use Rattle.rw_recv_head.specs.Seats.{HasAsked};
+
+    ghost answers = { λ old body status new. (new.seat.ghost_name ≡ old.seat.ghost_name)
+        × HasAsked L.opening old.seat.now body status new.seat.now };
+
+    fn answer(&mut self, body: &[u8]) -> u16 {
+        let before = self.seat.stored();
+        let asked = self.seat.ask(self.rt, self.shared, body);
+        let stored = self.seat.stored().saturating_sub(before);
+        self.counters.answer(asked.status, stored);
+        self.counters.hold_label_sets(asked.label_sets);
+        asked.status
+    }
+}

@@ -1,0 +1,71 @@
+//! Updates the counters as a shipper goes on, and once it has stopped.
+
+ghost use Rattle.std.specs.Prelude.{◌≡◌, None};
+ghost use Rattle.rw_wal_format.specs.Pieces.{entries};
+ghost use Rattle.rw_sender.specs.Shipping.{PlacesAll};
+
+use rw_ledger::{Ledger, Reason};
+use rw_metrics::{SendCounters, Skipped};
+use rw_sender::{Connect, Report, Shipper};
+use rw_wal_tail::SkippedType;
+use std::alloc::Global;
+
+/// What a log is fed with, besides its shipper.
+#[derive(Clone, Copy)]
+pub struct FeedContext<'a> {
+    pub alloc: Global,
+    pub counters: &'a SendCounters,
+}
+
+/// Returns how many records of the log a shipper has skipped, by type.
+fn skipped_by<C: Connect + Drop>(shipper: &Shipper<C>) -> Skipped {
+    Skipped {
+        tombstones: shipper.skipped_of(SkippedType::Tombstones),
+        exemplars: shipper.skipped_of(SkippedType::Exemplars),
+        mmap_markers: shipper.skipped_of(SkippedType::MmapMarkers),
+        metadata: shipper.skipped_of(SkippedType::Metadata),
+        histograms: shipper.skipped_of(SkippedType::Histograms),
+        float_histograms: shipper.skipped_of(SkippedType::FloatHistograms),
+        custom_histograms: shipper.skipped_of(SkippedType::CustomHistograms),
+        custom_float_histograms: shipper.skipped_of(SkippedType::CustomFloatHistograms),
+        unknown: shipper.skipped_of(SkippedType::Unknown),
+    }
+}
+
+/// Counts how far a shipper has come, and what it has dropped and filtered of the log so far. By its
+/// contract the shards have what was placed.
+pub fn update_counters<C: Connect + Drop>(counters: &SendCounters, shipper: &Shipper<C>)
+    ensures placed { PlacesAll shipper.now.log shipper.now.fleet }
+    ensures read { shipper.now.fault ≡ None
+        → shipper.now.log.placed ≡ entries shipper.now.log.pieces }
+{
+    let load = shipper.load();
+    counters.set_entries(shipper.entries_read());
+    counters.set_load(load.placed, load.backlog);
+    counters.set_newest(shipper.newest());
+    counters.set_skipped(&skipped_by(shipper));
+    counters.set_filtered(shipper.filtered());
+    counters.drop_unsent(shipper.dropped().iter().as_slice());
+}
+
+/// Counts what a stopped worker has dropped: the samples of the batches that were refused.
+fn count_refused(counters: &SendCounters, part: &Ledger) {
+    for name in part.iter() {
+        if let Reason::Status(_) = name.1 {
+            counters.drop_sample(name.1);
+        }
+    }
+}
+
+/// Counts how far a stopped shipper came, and what its workers dropped. What was dropped and
+/// filtered of the log was counted before.
+pub(crate) fn count_report<T>(counters: &SendCounters, report: &Report<T>) {
+    for part in &report.parts {
+        count_refused(counters, part);
+    }
+    let mut resolved = 0u64;
+    for worker in &report.workers {
+        resolved = resolved.saturating_add(worker.resolved);
+    }
+    counters.set_resolved(resolved);
+}
