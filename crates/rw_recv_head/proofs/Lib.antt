@@ -1,3 +1,4 @@
+mod CapacityLemmas
 mod GatheringLemmas
 mod HoldingLemmas
 mod QuestionMoves

@@ -3,12 +3,14 @@ use Rattle.std.proofs.Common.{◌≡◌, ◌≢◌, ℕ, ◌+◌, ◌-◌, ◌<�
 use Rattle.rw_write_request.specs.Message.{WriteRequest}
 use Rattle.rw_write_request.specs.Read.{read}
 use Rattle.rw_write_request.specs.declared.fault.WireFault.{WireFault}
+use Rattle.rw_head.specs.declared.capacity.Capacity.{Capacity}
+use Rattle.rw_head.specs.Capacity.{exceeds}
 use Rattle.rw_head.specs.Head.{State, SpellsMessage, judged_body, answer_to, answer}
 use Rattle.rw_head.specs.Store.{total}
 use Rattle.rw_head.specs.Growth.{EachRises, HasTaken}
 use Rattle.rw_recv_head.specs.declared.question.Question.{Question}
 use Rattle.rw_recv_head.specs.declared.questions.Known.{Known}
-use Rattle.rw_recv_head.specs.Seats.{most, store_after, head_after, taken_of, bodies_of, Seated, HasAsked, IsKept}
+use Rattle.rw_recv_head.specs.Seats.{most, store_after, head_after, taken_of, bodies_of, Seated, HasAsked, FindsFull, IsKept}
 use Rattle.rw_recv_head.specs.Questions.{IsSeat}
 use Rattle.rw_recv_head.proofs.GatheringLemmas.{at_push}
 
@@ -92,6 +94,9 @@ no_503 status e q = absurd (omega (arith, e, q))
 abbrev noted : Known → ℕ → List ℕ → ℕ → Known
 noted known seat body status = record known { asked = known.asked ++ record { seat = seat; body = body; status = status } ∷ [] }
 
+pub noted_as : (known now : Known) (seat : ℕ) (body : List ℕ) (status told : ℕ) → status ≡ told → now ≡ noted known seat body status → now ≡ noted known seat body told
+noted_as known now seat body status told same is = subst (λ s. now ≡ noted known seat body s) same is
+
 module _ (opening head new : State) (body : List ℕ) (status : ℕ) (known now : Known) (seat : ℕ) (gives : Gives head new body status) (is_noted : now ≡ noted known seat body status) where
   abbrev one : Question
   one = record { seat = seat; body = body; status = status }
@@ -112,6 +117,17 @@ module _ (opening head new : State) (body : List ℕ) (status : ℕ) (known now 
 
   pub holds_noted : head.store ≡ store_after opening (bodies_of known.asked) → head.limits ≡ opening.limits → new.store ≡ store_after opening (bodies_of now.asked)
   holds_noted = noted_holds (nat_eq status 204) refl
+
+  -- a head that was full has not changed
+  pub finds_full : (capacity mine : Capacity) (asked : List Question) → head.store ≡ store_after opening (bodies_of known.asked) → head.limits ≡ opening.limits
+      → asked ≡ now.asked → mine ≡ capacity → status ≡ 503 → exceeds mine head.store (answer head body).head.store ≡ true → FindsFull capacity opening asked body
+  finds_full capacity mine asked holds limits same is e full =
+      let m = gives.memory e in
+      let stores : head.store ≡ store_after opening (bodies_of asked) =
+      sym (ap (λ (t : State). t.store) m.0) ∙ holds_noted holds limits ∙ sym (ap (λ l. store_after opening (bodies_of l)) same) in
+      let here : head ≡ head_after opening (bodies_of asked) 0 = λ i. record { store = stores i; limits = limits i; busy = m.1 i } in
+      subst (λ (t : State). exceeds capacity t.store (answer t body).head.store ≡ true) here
+      (subst (λ (k : Capacity). exceeds k head.store (answer head body).head.store ≡ true) is full)
 
   each_given : ((n : ℕ) (q : Question) → slice_get known.asked n ≡ Some q → q.seat < known.given) → seat < known.given
       → (n : ℕ) (q : Question) → slice_get now.asked n ≡ Some q → q.seat < now.given

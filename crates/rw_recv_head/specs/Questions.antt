@@ -4,19 +4,22 @@ use Rattle.std.specs.List.{list_any}
 use mathlib.Core.Option.{some}
 use lib.ListN.{get_elem?}
 use Rattle.atomic_table.specs.Table.{State, Step, Me}
-use Rattle.atomic_table.specs.Seated.{TableId}
 use Rattle.std.specs.FinMap.{empty}
 use Rattle.rw_types.specs.Beginnings.{Begins}
 use Rattle.rw_types.specs.declared.names.Names.TheVariants.{Legacy}
+use Rattle.rw_head.specs.Capacity.{unlimited}
 use Rattle.rw_head.specs.Head.{State as Head}
 use Rattle.rw_recv_head.specs.declared.question.Question.{Question}
 use Rattle.rw_recv_head.specs.declared.questions.Known.{Known}
 use Rattle.rw_recv_head.specs.declared.questions.View.{View}
-use Rattle.rw_recv_head.specs.Seats.{own}
+use Rattle.rw_recv_head.specs.Seats.{own, HeadTable}
 
 -- the name of no table
-abbrev pub no_table : TableId
-no_table = record { words = 0; slots = 0; views_name = 0; atom = 0; block = 0; offset = 0; slot_names = [] }
+abbrev pub no_table : HeadTable
+no_table = record {
+  id = record { words = 0; slots = 0; views_name = 0; atom = 0; block = 0; offset = 0; slot_names = [] };
+  capacity = unlimited;
+}
 
 -- no head in particular
 abbrev pub no_head : Head

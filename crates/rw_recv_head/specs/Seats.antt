@@ -1,10 +1,12 @@
 -- What a request through a seat does: to what the head holds, and to what the seat has stored and
 -- seen.
-use Rattle.std.specs.Prelude.{◌≡◌, ◌≢◌, ℕ, ◌+◌, ◌^◌, ◌-◌, ◌<◌, ◌≤◌, ◌==◌, if◌then◌else◌, List, [], ◌∷◌, ◌++◌, filter, Some, slice_get, Ok}
+use Rattle.std.specs.Prelude.{◌≡◌, ◌≢◌, ℕ, ◌+◌, ◌^◌, ◌-◌, ◌<◌, ◌≤◌, ◌==◌, if◌then◌else◌, List, [], ◌∷◌, ◌++◌, filter, Some, slice_get, Ok, true}
 use Rattle.atomic_table.specs.Seated.{TableId}
 use Rattle.rw_types.specs.Beginnings.{Begins}
 use Rattle.rw_write_request.specs.Message.{WriteRequest}
 use Rattle.rw_write_request.specs.Read.{read}
+use Rattle.rw_head.specs.declared.capacity.Capacity.{Capacity}
+use Rattle.rw_head.specs.Capacity.{exceeds}
 use Rattle.rw_head.specs.Head.{State, SpellsMessage, judged_body, answer}
 use Rattle.rw_head.specs.Store.{Store, total}
 use Rattle.rw_head.specs.Growth.{EachRises, sample_count}
@@ -75,6 +77,13 @@ pub record HasGathered (opening : State) (seats : List Seated) (store : Store) :
   pub each : (n : ℕ) (q : Question) → slice_get asked n ≡ Some q → (k : ℕ) × (s : Seated) × (slice_get seats k ≡ Some s) × (s.number ≡ q.seat)
   pub apart : (i j : ℕ) (s t : Seated) → slice_get seats i ≡ Some s → slice_get seats j ≡ Some t → s.number ≡ t.number → i ≡ j
 
+-- The head was full: it was not busy, and with the message of this body it would hold more samples or
+-- label sets than before and than its capacity.
+abbrev pub FindsFull : Capacity → State → List Question → List ℕ → Type 0
+FindsFull capacity opening asked body =
+    exceeds capacity (store_after opening (bodies_of asked))
+    (answer (head_after opening (bodies_of asked) 0) body).head.store ≡ true
+
 -- how many samples a head held when it was shared, and among how many seats
 pub record Opening : Type 0 where
   pub start : ℕ
@@ -84,11 +93,16 @@ pub record Opening : Type 0 where
 abbrev pub most : ℕ
 most = 2 ^ 64 - 1
 
+-- the table of what the seats see, and how much the head may hold
+pub record HeadTable : Type 0 where
+  pub id : TableId
+  pub capacity : Capacity
+
 -- a ledger that is not open yet, with its parts, and the table of what the seats see
 pub record Unused : Type 0 where
   pub name : ℕ
   pub parts : ℕ
-  pub table : TableId
+  pub table : HeadTable
 
 -- what is under the lock
 pub record Held : Type 0 where

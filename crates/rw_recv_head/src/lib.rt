@@ -18,8 +18,8 @@ pub use laws::{what_is_answered_204_is_held, what_is_stored_stays};
 pub use naming::Naming;
 pub use question::Question;
 pub use rw_head::{
-    AllSeries, Block, Head, HeldSeries, LabelSets, Limits, Verdict, stores_are_lists,
-    stores_hold_no_empty_list,
+    AddedSeries, Admission, AllAdded, AllSeries, Block, Capacity, Head, HeldSeries, LabelSets,
+    Limits, StagedHead, Verdict, stores_are_lists, stores_hold_no_empty_list,
 };
 pub use seat::{Asked, Seat};
 pub use shared_head::SharedHead;

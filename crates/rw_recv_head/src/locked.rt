@@ -1,16 +1,18 @@
 //! The value under the lock.
 
 ghost use Rattle.std.specs.Prelude.{◌≡◌, ◌≢◌, ℕ, ◌+◌, ◌<◌, ◌≤◌, [], Some, length, slice_get};
+ghost use Rattle.rw_head.specs.declared.capacity.Admission.TheVariants.{Full};
+ghost use Rattle.rw_head.specs.Capacity.{told, unlimited, StaysWithin};
 ghost use Rattle.rw_head.specs.Head.{answer, IsStatus};
 ghost use Rattle.rw_head.specs.Store.{total, label_sets};
 ghost use Rattle.rw_head.specs.Growth.{EachRises};
-ghost use Rattle.rw_recv_head.specs.Seats.{most, bodies_of, store_after, HasAsked};
+ghost use Rattle.rw_recv_head.specs.Seats.{most, bodies_of, store_after, HasAsked, FindsFull};
 ghost use Rattle.rw_recv_head.specs.declared.question.Question.{Question};
 
 use crate::naming::Naming;
 use crate::questions::Questions;
 use crate::seat::Seat;
-use rw_head::Head;
+use rw_head::{Admission, Capacity, Head};
 use std::marker::Model;
 use std::sync::ledger::{Share, Total};
 
@@ -21,11 +23,14 @@ pub(crate) struct Locked<L: Naming> {
     head: Head,
     questions: Questions<L>,
     rest: Share<L>,
+    capacity: Capacity,
 }
 
 impl<L: Naming> Model for Locked<L> {
     ghost use Rattle.std.specs.Coded.{codes};
     ghost use Rattle.std.specs.FinMap as map;
+    ghost use Rattle.std.specs.Prelude.{◌≡◌};
+    ghost use Rattle.rw_head.specs.Capacity.{StaysWithin};
     ghost use Rattle.rw_recv_head.specs.Seats.{Held, IsKept};
 
     ghost Value = { Held };
@@ -35,14 +40,22 @@ impl<L: Naming> Model for Locked<L> {
     ghost view = { λ l. record { head = l.head; questions = l.questions } };
 
     ghost invariant = { λ l. IsKept L.opening L.parts
-        (record { head = l.head; questions = l.questions }) l.rest.parts l.rest.amount };
+        (record { head = l.head; questions = l.questions }) l.rest.parts l.rest.amount
+        × StaysWithin L.table.capacity L.opening.store l.head.store
+        × (l.capacity ≡ L.table.capacity) };
 }
 
 impl<L: Naming> Locked<L> {
     /// Returns a head that was not asked anything yet, with the number of samples that could still
-    /// be stored.
-    pub(crate) fn new(head: Head, questions: Questions<L>, rest: Share<L>) -> Locked<L>
+    /// be stored, and with its capacity.
+    pub(crate) fn new(
+        head: Head,
+        questions: Questions<L>,
+        rest: Share<L>,
+        capacity: Capacity,
+    ) -> Locked<L>
         requires opening { head ≡ L.opening }
+        requires capacity { capacity ≡ L.table.capacity }
         requires nothing { questions.asked ≡ [] }
         requires all_given { L.parts ≡ questions.given + 1 }
         requires none_back { questions.back ≡ [] }
@@ -55,6 +68,7 @@ impl<L: Naming> Locked<L> {
             head,
             questions,
             rest,
+            capacity,
         }
     }
 
@@ -71,27 +85,33 @@ impl<L: Naming> Locked<L> {
         ensures one_part { result.2.parts ≡ 1 }
         ensures adds_up { total self.head.store + result.2.amount ≡ most }
         ensures rises { EachRises self.head.store }
+        ensures within { StaysWithin L.table.capacity L.opening.store result.0.store }
     {
         (self.head, self.questions, self.rest)
     }
 
     /// Asks the head, notes the question, and moves as many samples as the head stored from the
     /// rest to the seat, which then has seen all questions.
-    pub(crate) fn answer(&mut self, all: &Total<L>, seat: &mut Seat<L>, body: &[u8]) -> u16
+    pub(crate) fn answer(&mut self, all: &Total<L>, seat: &mut Seat<L>, body: &[u8]) -> Admission
         requires fits { all.now.amount ≤ most }
-        ensures status { result ≢ 503 → result ≡ (answer self.old.head body.now).status }
-        ensures head { result ≢ 503 → self.new.head ≡ (answer self.old.head body.now).head }
-        ensures no_memory { result ≡ 503
+        ensures status { told result ≢ 503
+            → told result ≡ (answer self.old.head body.now).status }
+        ensures head { told result ≢ 503
+            → self.new.head ≡ (answer self.old.head body.now).head }
+        ensures no_memory { told result ≡ 503
             → (self.new.head ≡ self.old.head) × (self.old.head.busy ≡ 0) }
-        ensures statuses { IsStatus result }
-        ensures asked { HasAsked L.opening seat.old body.now result seat.new }
+        ensures statuses { IsStatus (told result) }
+        ensures asked { HasAsked L.opening seat.old body.now (told result) seat.new }
         ensures seen { seat.new.asked ≡ self.new.questions.asked }
+        ensures full { result ≡ Full
+            → FindsFull L.table.capacity L.opening seat.new.asked body.now }
+        ensures limited { result ≡ Full → L.table.capacity ≢ unlimited }
     {
         let before = self.head.total();
-        let status = self.head.answer(body);
-        seat.note(&mut self.questions, status, body);
+        let admission = self.head.admit(body, &self.capacity);
+        seat.note(&mut self.questions, admission.status(), body);
         seat.take(all, &mut self.rest, self.head.total() - before);
-        status
+        admission
     }
 
     /// Returns of how many label sets the head has samples.
@@ -100,5 +120,15 @@ impl<L: Naming> Locked<L> {
             (bodies_of self.now.questions.asked))) }
     {
         self.head.places()
+    }
+
+    /// How many samples the head holds.
+    pub(crate) fn samples(&self) -> u64
+        ensures total { result ≡ total (store_after L.opening
+            (bodies_of self.now.questions.asked)) }
+        ensures within { StaysWithin L.table.capacity L.opening.store
+            (store_after L.opening (bodies_of self.now.questions.asked)) }
+    {
+        self.head.total()
     }
 }

@@ -4,14 +4,14 @@ use std::marker::Brand;
 use std::sync::ledger::Ledger;
 
 /// Which shared head it is: its ledger, the head that it began as, and the table by which its seats
-/// know what it was asked. Each call of a program picks it.
+/// know what it was asked, with its capacity. Each call of a program picks it.
 pub trait Naming: Ledger {
-    ghost use Rattle.atomic_table.specs.Seated.{TableId};
     ghost use Rattle.rw_head.specs.Head.{State};
+    ghost use Rattle.rw_recv_head.specs.Seats.{HeadTable};
 
     ghost opening: { State };
 
-    ghost table: { TableId };
+    ghost table: { HeadTable };
 }
 
 impl Naming for Brand {

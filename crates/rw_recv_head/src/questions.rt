@@ -140,7 +140,7 @@ impl Unnamed {
 
     /// Returns an empty list of questions under a name.
     pub(crate) fn named<L: Naming>(self) -> Questions<L>
-        requires { self ≡ L.table }
+        requires { self ≡ L.table.id }
         ensures { result ≡ nothing_known }
     {
         let Unnamed { table, pass } = self;
@@ -170,9 +170,9 @@ impl<L: Naming> Model for Questions<L> {
 
     ghost view = { λ q. q.pass.me.0.known };
 
-    ghost invariant = { λ q. (q.table.shared.table_id ≡ L.table)
-        × (q.pass.table_id ≡ L.table)
-        × (0 < L.table.words)
+    ghost invariant = { λ q. (q.table.shared.table_id ≡ L.table.id)
+        × (q.pass.table_id ≡ L.table.id)
+        × (0 < L.table.id.words)
         × (q.pass.me ≡ (keeper q.pass.me.0.known, [])) };
 }
 
@@ -193,7 +193,7 @@ impl<L: Naming> Model for Seen<L> {
 
     ghost view = { λ s. record { number = s.number; asked = s.pass.me.0.seen } };
 
-    ghost invariant = { λ s. (s.pass.table_id ≡ L.table)
+    ghost invariant = { λ s. (s.pass.table_id ≡ L.table.id)
         × (s.pass.me ≡ (sitter s.number s.pass.me.0.seen, [])) };
 }
 

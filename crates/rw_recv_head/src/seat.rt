@@ -1,10 +1,11 @@
 //! A handle by which one thread asks the shared head.
 
-ghost use Rattle.std.specs.Prelude.{◌≡◌, ◌+◌, ◌≤◌, ◌<◌, [], ◌∷◌, ◌++◌, length};
+ghost use Rattle.std.specs.Prelude.{◌≡◌, ◌≢◌, ◌+◌, ◌≤◌, ◌<◌, IsTrue, [], ◌∷◌, ◌++◌, length};
+ghost use Rattle.rw_head.specs.Capacity.{unlimited, StaysWithin};
 ghost use Rattle.rw_head.specs.Head.{IsStatus};
-ghost use Rattle.rw_head.specs.Store.{label_sets};
+ghost use Rattle.rw_head.specs.Store.{total, label_sets};
 ghost use Rattle.rw_recv_head.specs.Questions.{IsSeat};
-ghost use Rattle.rw_recv_head.specs.Seats.{most, bodies_of, store_after, HasAsked};
+ghost use Rattle.rw_recv_head.specs.Seats.{most, bodies_of, store_after, HasAsked, FindsFull};
 
 use crate::naming::Naming;
 use crate::questions::{Questions, Seen};
@@ -18,8 +19,12 @@ use std::sync::ledger::{Share, Total};
 pub struct Asked {
     /// 204, 400, 429 or 503.
     pub status: u16,
+    /// Whether it was 503 since the request would have taken the head above its capacity.
+    pub is_full: bool,
     /// Of how many label sets the head has samples from then on.
     pub label_sets: usize,
+    /// How many samples the head holds from then on.
+    pub samples: u64,
 }
 
 /// A handle by which one thread asks a shared head. Contracts see its number, how many samples its
@@ -99,7 +104,7 @@ impl<L: Naming> Seat<L> {
     }
 
     /// Returns the head's answer to a request's body, under the lock: 204, 400, 429 or 503, as
-    /// `Head::answer` returns it. It may wait for the lock.
+    /// `Head::admit` returns it for the capacity of the head. It may wait for the lock.
     pub fn answer<R: Wait>(&mut self, rt: &R, shared: &SharedHead<L>, body: &[u8]) -> u16
         ensures statuses { IsStatus result }
         ensures asked { HasAsked L.opening self.old body.now result self.new }
@@ -107,13 +112,20 @@ impl<L: Naming> Seat<L> {
         self.ask(rt, shared, body).status
     }
 
-    /// Answers a request as `answer` does, and also returns of how many label sets the head then
-    /// has samples.
+    /// Answers a request as `answer` does, and also returns whether the head was full, and how many
+    /// label sets and samples it then holds.
     pub fn ask<R: Wait>(&mut self, rt: &R, shared: &SharedHead<L>, body: &[u8]) -> Asked
         ensures statuses { IsStatus result.status }
         ensures asked { HasAsked L.opening self.old body.now result.status self.new }
         ensures label_sets { result.label_sets
             ≡ length (label_sets (store_after L.opening (bodies_of self.new.asked))) }
+        ensures samples { result.samples
+            ≡ total (store_after L.opening (bodies_of self.new.asked)) }
+        ensures within { StaysWithin L.table.capacity L.opening.store
+            (store_after L.opening (bodies_of self.new.asked)) }
+        ensures full { IsTrue result.is_full → (result.status ≡ 503)
+            × FindsFull L.table.capacity L.opening self.new.asked body.now }
+        ensures limited { IsTrue result.is_full → L.table.capacity ≢ unlimited }
     {
         shared.ask(rt, self, body)
     }

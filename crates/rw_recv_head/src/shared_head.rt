@@ -1,10 +1,11 @@
 //! A head under a lock.
 
-ghost use Rattle.std.specs.Prelude.{◌≡◌, ℕ, ◌+◌, ◌<◌, [], Some, IfOk, IfErr, length, slice_get, sum_by, vec_len};
+ghost use Rattle.std.specs.Prelude.{◌≡◌, ◌≢◌, ℕ, ◌+◌, ◌<◌, [], Some, IsTrue, IfOk, IfErr, length, slice_get, sum_by, vec_len};
+ghost use Rattle.rw_head.specs.Capacity.{unlimited, StaysWithin};
 ghost use Rattle.rw_head.specs.Head.{IsStatus};
 ghost use Rattle.rw_head.specs.Store.{total, label_sets};
 ghost use Rattle.rw_head.specs.Growth.{EachRises};
-ghost use Rattle.rw_recv_head.specs.Seats.{bodies_of, store_after, Seated, HasAsked, HasGathered};
+ghost use Rattle.rw_recv_head.specs.Seats.{bodies_of, store_after, Seated, HasAsked, HasGathered, FindsFull};
 
 use crate::blank::Blank;
 use crate::locked::Locked;
@@ -40,7 +41,8 @@ impl<L: Naming> Model for SharedHead<L> {
 
 impl<L: Naming> SharedHead<L> {
     /// Shares a head among `n` seats, which are numbered from 0, over a blank of `n` + 1 parts: one
-    /// for each seat and one for the lock. If memory runs out, the head comes back as it was.
+    /// for each seat and one for the lock. The head has the capacity of the blank. If memory runs
+    /// out, the head comes back as it was.
     pub fn seats(
         alloc: Global,
         blank: Blank,
@@ -62,6 +64,7 @@ impl<L: Naming> SharedHead<L> {
         if seats.reserve(n).is_err() {
             return Err((head, AllocError));
         }
+        let capacity = blank.capacity();
         let (ledger, mut questions) = blank.named::<L>();
         let (mut book, mut rest) = ledger.open::<L>();
         book.add(&mut rest, u64::MAX - head.total());
@@ -70,7 +73,7 @@ impl<L: Naming> SharedHead<L> {
             let seen = questions.give(k as u64);
             seats.push_reserved(Seat::new(rest.split_off(1, 0), seen));
         }
-        let locked = Mutex::new(Locked::new(head, questions, rest));
+        let locked = Mutex::new(Locked::new(head, questions, rest, capacity));
         Ok((SharedHead { locked, all }, seats))
     }
 
@@ -80,12 +83,21 @@ impl<L: Naming> SharedHead<L> {
         ensures asked { HasAsked L.opening seat.old body.now result.status seat.new }
         ensures label_sets { result.label_sets
             ≡ length (label_sets (store_after L.opening (bodies_of seat.new.asked))) }
+        ensures samples { result.samples
+            ≡ total (store_after L.opening (bodies_of seat.new.asked)) }
+        ensures within { StaysWithin L.table.capacity L.opening.store
+            (store_after L.opening (bodies_of seat.new.asked)) }
+        ensures full { IsTrue result.is_full → (result.status ≡ 503)
+            × FindsFull L.table.capacity L.opening seat.new.asked body.now }
+        ensures limited { IsTrue result.is_full → L.table.capacity ≢ unlimited }
     {
         let mut locked = self.locked.lock(rt);
-        let status = locked.answer(&self.all, seat, body);
+        let admission = locked.answer(&self.all, seat, body);
         Asked {
-            status,
+            status: admission.status(),
+            is_full: admission.is_full(),
             label_sets: locked.label_sets(),
+            samples: locked.samples(),
         }
     }
 
@@ -98,6 +110,7 @@ impl<L: Naming> SharedHead<L> {
         ensures limits { result.limits ≡ L.opening.limits }
         ensures total { total result.store ≡ self.start + sum_by (λ s. s.stored) seats.items }
         ensures rises { EachRises result.store }
+        ensures within { StaysWithin L.table.capacity L.opening.store result.store }
     {
         let SharedHead { locked, all } = self;
         let (head, mut questions, mut rest) = locked.into_inner().into_parts();

@@ -8,8 +8,8 @@ use crate::memory::status_at_last;
 use crate::messages::{Samples, UP, has_samples, standard};
 use crate::store::is_served_by;
 use rw_endpoint::{Answer, ServeEnd};
-use rw_head::Head;
-use rw_recv_head::{Blank, Naming, Seat, SharedHead};
+use rw_head::{Capacity, Head};
+use rw_recv_head::{Asked, Blank, Naming, Seat, SharedHead};
 use rw_recv_http::Asking;
 use std::alloc::{AllocError, Global};
 use std::marker::Brand;
@@ -226,6 +226,77 @@ fn a_seat_counts_what_was_stored(rt: HostRuntime) -> Result<(), Fail> {
         (&TWO, 204, 2),
         (&ONE, 204, 2),
     ];
+    let talk = Talk::Bodies(&bodies);
+    let (is_so, head) = answered::<Brand, HostRuntime>(&rt, alloc, blank, head, talk);
+    assert!(rt; holds_what_was_stored(alloc, is_so, &head));
+    Ok(())
+}
+
+/// A blank of two parts, for a head that may hold so many samples and any number of series.
+fn limited(alloc: Global, max_samples: u64) -> Result<Blank, AllocError>
+    ensures { IfOk result (λ b. b.parts ≡ 2) }
+{
+    let capacity = Capacity {
+        max_samples,
+        ..Capacity::unlimited()
+    };
+    Blank::with_capacity(alloc, 2, capacity)
+}
+
+/// Whether the one seat of a head that holds a sample finds it full for two more, and is then
+/// answered a repeat. Gives the head too.
+fn finds_full<L: Naming, R: Wait>(
+    rt: &R,
+    alloc: Global,
+    blank: Blank,
+    head: Head,
+) -> Result<(bool, Head), AllocError>
+    requires name { blank.name ≡ L.name }
+    requires parts { (blank.parts ≡ 2) × (L.parts ≡ 2) }
+    requires table { blank.table ≡ L.table }
+    requires opening { head ≡ L.opening }
+{
+    let Ok((shared, mut seats)) = SharedHead::<L>::seats(alloc, blank, head, 1) else {
+        return Err(AllocError);
+    };
+    let mut is_so = false;
+    if let Some(seat) = seats.first_mut() {
+        let full = seat.ask(rt, &shared, &TWO);
+        let repeat = seat.ask(rt, &shared, &ONE);
+        is_so = is_one_held(full, 503, true) && is_one_held(repeat, 204, false);
+    }
+    Ok((is_so, shared.gather(seats)))
+}
+
+/// Whether a request had this status, and the head holds one sample.
+fn is_one_held(asked: Asked, status: u16, is_full: bool) -> bool {
+    asked.status == status
+        && asked.is_full == is_full
+        && asked.label_sets == 1
+        && asked.samples == 1
+}
+
+/// Whether what a seat was told is so, and the head holds one sample.
+fn holds_one(outcome: Result<(bool, Head), AllocError>) -> bool {
+    matches!(outcome, Ok((true, head)) if head.total() == 1)
+}
+
+#[test]
+fn a_seat_finds_its_head_full(rt: HostRuntime) -> Result<(), Fail> {
+    let alloc = rt.alloc();
+    let blank = limited(alloc, 2)?;
+    let head = begun(alloc)?;
+    let outcome = finds_full::<Brand, HostRuntime>(&rt, alloc, blank, head);
+    assert!(rt; holds_one(outcome));
+    Ok(())
+}
+
+#[test]
+fn a_seat_fills_its_head(rt: HostRuntime) -> Result<(), Fail> {
+    let alloc = rt.alloc();
+    let blank = limited(alloc, 3)?;
+    let head = begun(alloc)?;
+    let bodies: [(&[u8], u16, u64); 3] = [(&TWO, 204, 2), (&TWO, 204, 2), (&ONE, 204, 2)];
     let talk = Talk::Bodies(&bodies);
     let (is_so, head) = answered::<Brand, HostRuntime>(&rt, alloc, blank, head, talk);
     assert!(rt; holds_what_was_stored(alloc, is_so, &head));

@@ -1,32 +1,51 @@
-use Rattle.std.proofs.Common.{refl, ap, ◌∙◌, arith}
+use Rattle.std.proofs.Common.{◌≢◌, refl, ap, subst, ◌∙◌, arith}
+use Rattle.rw_head.specs.declared.capacity.Capacity.{Capacity}
+use Rattle.rw_head.specs.Capacity.{told, unlimited, StaysWithin}
+use Rattle.rw_recv_head.proofs.CapacityLemmas.{stays_twice}
 use Rattle.rw_recv_head.specs.Seats.{Seated}
-use Rattle.rw_recv_head.proofs.StoredLemmas.{Gives, kept_again, asked}
+use Rattle.rw_recv_head.proofs.StoredLemmas.{Gives, noted_as, kept_again, asked, finds_full}
 use Rattle.rw_recv_head.proofs.locked.Locked.answer.Given.{Over}
 use Rattle.rw_recv_head.proofs.locked.Locked.answer.Goals as goal
 
-gives : (g : Over) (c : goal.After-take g) → Gives c.self.inside.head c.answer-status.new.self c.args.body.now c.answer-status.result
+gives : (g : Over) (c : goal.After-take g) → Gives c.self.inside.head c.admit-admission.new.self c.args.body.now (told c.admit-admission.result)
 gives g c = record {
-  told = c.answer-status.ensures.status;
-  is = c.answer-status.ensures.head;
-  memory = c.answer-status.ensures.no_memory;
-  refused = c.answer-status.ensures.refused;
+  told = c.admit-admission.ensures.status;
+  is = c.admit-admission.ensures.head;
+  memory = c.admit-admission.ensures.unavailable;
+  refused = c.admit-admission.ensures.refused;
 }
 
 pub invariant_of-self : goal.invariant_of-self
 invariant_of-self g c =
-    let i = c.self.invariant in
-    let a = c.answer-status.ensures in
-    let n = c.note.ensures in
-    kept_again _ _ _ _ _ _ _ _ (gives g c) n.questions _ _ _ _ _ i n.is_seat.given a.rises (c.take.ensures.parts ∙ i.one_part)
-    (omega (arith, c.take.ensures.amount, i.adds_up, a.more, c.total.ensures.total, c.total-before.ensures.total))
+    let i = c.self.invariant.0 in
+    let a = c.admit-admission.ensures in
+    let n = c.note.ensures in (
+      kept_again _ _ _ _ _ _ _ _ (gives g c) (noted_as _ _ _ _ _ _ c.status.ensures n.questions) _ _ _ _ _ i n.is_seat.given a.rises (c.take.ensures.parts ∙ i.one_part)
+          (omega (arith, c.take.ensures.amount, i.adds_up, a.more, c.total.ensures.total, c.total-before.ensures.total)),
+      stays_twice _ _ _ _ c.self.invariant.1
+          (subst (λ (k : Capacity). StaysWithin k c.self.inside.head.store c.admit-admission.new.self.store) c.self.invariant.2 a.within),
+      c.self.invariant.2,
+    )
 
 pub returns-clause-asked : goal.returns-clause-asked
 returns-clause-asked g c =
-    let a = c.answer-status.ensures in
+    let a = c.admit-admission.ensures in
     let n = c.note.ensures in
     let counted = c.take.ensures.stored in
-    asked _ _ _ _ _ _ _ _ (gives g c) n.questions _ _ _ _ _ c.args.seat.now c.take.new.self c.self.invariant n.is_seat refl a.readable a.taken a.more
+    asked _ _ _ _ _ _ _ _ (gives g c) (noted_as _ _ _ _ _ _ c.status.ensures n.questions) _ _ _ _ _ c.args.seat.now c.take.new.self c.self.invariant.0 n.is_seat refl a.readable a.taken a.more
     c.total-before.ensures.total c.total.ensures.total
     (ap (λ (s : Seated). s.number) counted ∙ ap (λ (s : Seated). s.number) n.seat)
     (ap (λ (s : Seated). s.asked) counted ∙ ap (λ (s : Seated). s.asked) n.seat)
     (omega (arith, ap (λ (s : Seated). s.stored) counted, ap (λ (s : Seated). s.stored) n.seat))
+
+pub returns-clause-full : goal.returns-clause-full
+returns-clause-full g c = λ full.
+    let i = c.self.invariant.0 in
+    let a = c.admit-admission.ensures in
+    let n = c.note.ensures in
+    finds_full _ _ _ _ _ _ _ _ (gives g c) (noted_as _ _ _ _ _ _ c.status.ensures n.questions) _ c.self.inside.capacity _ i.holds i.limits
+    (ap (λ (s : Seated). s.asked) c.take.ensures.stored ∙ ap (λ (s : Seated). s.asked) n.seat) c.self.invariant.2 (ap told full) (a.full full)
+
+pub returns-clause-limited : goal.returns-clause-limited
+returns-clause-limited g c = λ full.
+    subst (λ (k : Capacity). k ≢ unlimited) c.self.invariant.2 (c.admit-admission.ensures.limited full)

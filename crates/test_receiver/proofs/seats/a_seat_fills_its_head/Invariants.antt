@@ -1,0 +1,7 @@
+use Rattle.test_receiver.proofs.seats.a_seat_fills_its_head.Given as goal
+
+abbrev pub ghosts-answered-L-Ledger : goal.ghosts-answered-L-Ledger
+ghosts-answered-L-Ledger g a = record { name = a.blank.name; parts = a.blank.parts }
+
+abbrev pub ghosts-answered-L-Naming : goal.ghosts-answered-L-Naming
+ghosts-answered-L-Naming g a = record { opening = a.head; table = a.blank.table }
