@@ -2,12 +2,11 @@
 
 ghost use Rattle.std.specs.Prelude.{◌≡◌, ◌<◌, ℕ, length, suc, true, Ok, Err, IfErr, IfOk};
 ghost use Rattle.rw_follow.specs.Growth.{HadAll, HasGap, IsFollowed, IsGivenAt, Known, Meal};
-ghost use Rattle.rw_follow.specs.Turns.{IsWithin, Moves, given_by, request_of};
+ghost use Rattle.rw_follow.specs.Turns.{IsWithin, Moves, given_by};
 ghost use Rattle.rw_types.specs.declared.transfer.ReadFault.{ReadFault};
-ghost use Rattle.rw_follow.specs.declared.follower.FollowEnd.{FollowEnd};
-ghost use Rattle.rw_follow.specs.declared.follower.FollowEnd.TheVariants as FollowEnd;
 ghost use Rattle.rw_follow.specs.declared.follower.SegmentError.TheVariants as SegmentError;
 ghost use Rattle.rw_follow.specs.declared.follower.Turn.TheVariants as Turn;
+ghost use Rattle.rw_follow.specs.declared.signal.StopRequest.TheVariants as StopRequest;
 
 use crate::segments::{Ahead, Segments};
 use crate::signal::StopRequest;
@@ -15,16 +14,7 @@ use crate::watch::Watch;
 use rw_types::ReadFault;
 use std::marker::Model;
 
-/// How a stop signal has ended the following of a log.
-#[derive(Clone, Copy, Debug, PartialEq, Eq)]
-pub enum FollowEnd {
-    /// All that the log had was given.
-    Finished,
-    /// It ended at once.
-    Aborted,
-}
-
-/// What a follower did in a turn.
+/// How a following goes on.
 #[derive(Clone, Copy, Debug, PartialEq, Eq)]
 pub enum Turn {
     /// This number of bytes of the current segment is at the front of the buffer.
@@ -35,8 +25,10 @@ pub enum Turn {
     Flush,
     /// Nothing is to be done.
     Nothing,
-    /// It was asked to stop.
-    Stopped(FollowEnd),
+    /// It was asked to finish, and all that the log had was given.
+    Finished,
+    /// It was asked to end at once.
+    Aborted,
 }
 
 /// Why a log cannot be followed further.
@@ -59,7 +51,7 @@ impl From<ReadFault> for SegmentError {
     }
 }
 
-/// Follows a log: gives its segments in order, a piece at a turn, until it is asked to stop.
+/// Follows a log: returns its segments in order, a piece at a turn, until it is asked to stop.
 /// Contracts see whether a segment was seen to come after the current one.
 #[derive(Drop)]
 pub struct Follower {
@@ -89,8 +81,8 @@ impl Follower {
     }
 
     /// Takes a turn. A segment is over once another one was seen to come after it and, read again
-    /// after that, it gives no more bytes. Asked to finish, it ends once nothing is left of what
-    /// the log has; until then it does not sleep. It sleeps once if nothing is left and no segment
+    /// after that, it has no more bytes. When asked to finish, it ends once nothing is left of what
+    /// the log has, and does not sleep until then. It sleeps once if nothing is left and no segment
     /// comes after the current one, and in no other case.
     pub fn turn<S: Segments, W: Watch>(
         &mut self,
@@ -106,11 +98,11 @@ impl Follower {
             (λ _. Moves (S.now segments.old) (S.now segments.new) (λ meal. meal)) }
         ensures piece { IfOk result (λ turn. IsWithin turn (length buf.new)) }
         ensures some { (n : ℕ) → result ≡ Ok (Turn.Piece n) → 0 < n }
-        ensures orderly { result ≡ Ok (Turn.Stopped FollowEnd.Finished) → (meal : Meal)
+        ensures orderly { result ≡ Ok Turn.Finished → (meal : Meal)
             → Known (S.now segments.old) (λ m. IsGivenAt meal m)
             → Known (S.now segments.new) (HadAll meal) }
-        ensures signed { (end : FollowEnd) → result ≡ Ok (Turn.Stopped end)
-            → W.said watch.new ≡ request_of end }
+        ensures finished { result ≡ Ok Turn.Finished → W.said watch.new ≡ StopRequest.Finish }
+        ensures aborted { result ≡ Ok Turn.Aborted → W.said watch.new ≡ StopRequest.Abort }
         ensures counted { W.counts watch.new → W.counts watch.old }
         ensures quiet { W.counts watch.new → result ≡ Ok Turn.Nothing → self.new ≡ false
             → W.sleeps watch.new ≡ suc (W.sleeps watch.old) }
@@ -130,7 +122,7 @@ impl Follower {
         }
         let request = watch.stop_request();
         if request == StopRequest::Abort {
-            return Ok(Turn::Stopped(FollowEnd::Aborted));
+            return Ok(Turn::Aborted);
         }
         let count = segments.read(buf)?;
         if count > 0 {
@@ -150,7 +142,7 @@ impl Follower {
             Ahead::Missing(number) => Err(SegmentError::Missing(number)),
             Ahead::Nothing => {
                 if request == StopRequest::Finish {
-                    return Ok(Turn::Stopped(FollowEnd::Finished));
+                    return Ok(Turn::Finished);
                 }
                 watch.sleep();
                 Ok(Turn::Nothing)

@@ -1,4 +1,4 @@
-//! Follows a log that grows: its segments are given in order, while a writer goes on writing. Has
+//! Follows a log that grows: its segments are read in order, while a writer goes on writing. Has
 //! the stop signal of the services, and what sets it.
 #![tactic(auto)]
 
@@ -10,7 +10,7 @@ mod stop_sources;
 mod timed;
 mod watch;
 
-pub use follower::{FollowEnd, Follower, SegmentError, Turn};
+pub use follower::{Follower, SegmentError, Turn};
 pub use memory::{Event, Listed};
 pub use segments::{Ahead, Segments};
 pub use signal::{StopRequest, StopSignal};

@@ -11,7 +11,7 @@ pub enum StopRequest {
     Continue,
     /// To do what has begun, and to end.
     Finish,
-    /// To end at once, and to leave what is not done.
+    /// To end at once, and to abandon what is not done.
     Abort,
 }
 
@@ -24,8 +24,7 @@ impl Rule for Level {
     ghost invariant = { λ n. n ≤ 2 };
 }
 
-/// A stop signal that threads share. It only ever goes up: from `Continue` to `Finish`, and to
-/// `Abort`.
+/// A stop signal that threads share. It only goes up: from `Continue` to `Finish`, and to `Abort`.
 #[derive(Drop)]
 pub struct StopSignal {
     level: AtomicIn<Level>,

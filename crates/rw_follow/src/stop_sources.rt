@@ -16,8 +16,8 @@ const LONGEST: usize = 64;
 const LOOK_MS: u64 = 200;
 
 /// Reads `input` to its end and then asks to finish, or up to the first line `hard` and then asks
-/// to end at once. An input that cannot be read counts as ended, and so it does if there is no
-/// memory for a line. At most 64 bytes of the input are kept.
+/// to end at once. An input that cannot be read counts as ended, and so it does if memory runs out
+/// for a line. At most 64 bytes of the input are kept.
 pub fn watch_input<B: BufRead>(alloc: Global, input: &mut B, signal: &StopSignal) {
     let mut line = Vec::new(alloc);
     if line.reserve(LONGEST).is_err() {
@@ -61,7 +61,8 @@ pub fn watch_file<R: Clock + Files>(rt: &R, path: &str, signal: &StopSignal) {
     }
 }
 
-/// Returns whether the first line of a file is `hard`. A file that cannot be read has no such line.
+/// Returns whether the first line of a file is `hard`. The answer is `false` if the file cannot be
+/// read.
 fn begins_hard<R: Files>(rt: &R, path: &str) -> bool {
     let Ok(mut file) = fs::open(rt, path) else {
         return false;
@@ -70,7 +71,7 @@ fn begins_hard<R: Files>(rt: &R, path: &str) -> bool {
     file.read_exact(&mut line).is_ok() && line == *b"hard\n"
 }
 
-/// Returns the next byte; `None` at the end of the input, or if it cannot be read.
+/// Returns the next byte, or `None` at the end of the input or if it cannot be read.
 fn next_byte<B: BufRead>(input: &mut B) -> Option<u8> {
     let mut byte = [0u8; 1];
     for _ in 0..u64::MAX {

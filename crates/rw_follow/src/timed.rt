@@ -7,12 +7,12 @@ use std::sync::Arc;
 use std::thread;
 use std::time::{Clock, Duration, Instant};
 
-/// Returns what a stop signal asks for, and lets time pass by a clock.
+/// Polls a stop signal, and lets time pass by a clock.
 #[derive(Drop)]
 pub struct Timed<K> {
     clock: K,
     signal: Arc<StopSignal, Global>,
-    /// Between two looks.
+    /// The time between two looks.
     poll: Duration,
     /// How long something may wait to be flushed.
     patience: Duration,
@@ -26,8 +26,8 @@ pub struct Timed<K> {
     is_due: bool,
 }
 
-/// Returns whether this time has passed since a moment, which is forgotten then. If there is no
-/// moment, it is now. `None` if the clock cannot be read.
+/// Returns whether `time` has passed since `since`, and clears `since` then. If `since` is `None`,
+/// it is set to now. Returns `None` if the clock cannot be read.
 fn has_passed<K: Clock>(clock: &K, since: &mut Option<Instant>, time: Duration) -> Option<bool> {
     let Ok(now) = Instant::now(clock) else {
         return None;
@@ -46,8 +46,8 @@ fn has_passed<K: Clock>(clock: &K, since: &mut Option<Instant>, time: Duration) 
 }
 
 impl<K: Clock> Timed<K> {
-    /// Returns a watch that sleeps for `poll` between two looks, has what waits flushed after
-    /// `patience`, and the number of shards asked for every `reshard`.
+    /// Returns a watch that sleeps for `poll` between two looks, flushes what has waited for
+    /// `patience`, and has the number of shards adjusted every `reshard`.
     pub fn new(
         clock: K,
         signal: Arc<StopSignal, Global>,

@@ -4,7 +4,8 @@ ghost use Rattle.std.specs.Prelude.{◌≡◌};
 
 use crate::signal::StopRequest;
 
-/// What a follower, and the caller that feeds what it gives, ask between two looks at a log.
+/// The environment of a follower, and of the caller that feeds what it returns, between two looks
+/// at a log.
 pub trait Watch {
     ghost use Rattle.std.specs.Prelude.{Bool, ℕ, suc};
     ghost use Rattle.rw_follow.specs.declared.signal.StopRequest.{StopRequest};
@@ -15,7 +16,7 @@ pub trait Watch {
     /// Whether it last said that a flush is due.
     ghost due: { Self → Bool };
 
-    /// It has counted each sleep so far. A watch need not count any.
+    /// Whether it has counted each sleep so far. A watch need not count any.
     ghost counts: { Self → Type 0 };
 
     /// How many sleeps there were so far.
@@ -27,19 +28,19 @@ pub trait Watch {
         ensures awake { counts self.new
             → counts self.old × (sleeps self.new ≡ sleeps self.old) };
 
-    /// Waits a little.
+    /// Sleeps for a short time.
     fn sleep(&mut self)
         ensures { counts self.new
             → counts self.old × (sleeps self.new ≡ suc (sleeps self.old)) };
 
-    /// Returns whether what was fed since the last flush has waited long enough. It is asked while
+    /// Returns whether what was fed since the last flush has waited long enough. It is called while
     /// something waits.
     fn is_flush_due(&mut self) -> bool
         ensures due { due self.new ≡ result }
         ensures awake { counts self.new
             → counts self.old × (sleeps self.new ≡ sleeps self.old) };
 
-    /// Returns whether the number of shards is to be asked for again. It is asked at each turn.
+    /// Returns whether the number of shards is to be adjusted again. It is called at each turn.
     fn is_reshard_due(&mut self) -> bool
         ensures awake { counts self.new
             → counts self.old × (sleeps self.new ≡ sleeps self.old) };

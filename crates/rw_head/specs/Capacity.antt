@@ -7,7 +7,7 @@ use Rattle.rw_head.specs.declared.capacity.Capacity.{Capacity}
 use Rattle.rw_head.specs.Head.{State, Answer, answer}
 use Rattle.rw_head.specs.Store.{Store, total, label_sets}
 
--- the most that can be said: no head holds so much
+-- the greatest capacity: no head holds more
 abbrev pub unlimited : Capacity
 unlimited = record { max_samples = 2 ^ 64 - 1; max_series = 2 ^ 64 - 1 }
 
@@ -45,6 +45,6 @@ unless_above capacity head answer =
     if exceeds capacity head.store answer.head.store then record { status = 503; head = head }
     else answer
 
--- the answer of a head with this capacity to a body, where memory is there
+-- the answer of a head with this capacity to a body, if memory suffices
 abbrev pub answer_within : Capacity → State → List ℕ → Answer
 answer_within capacity head body = unless_above capacity head (answer head body)

@@ -29,7 +29,7 @@ impl Capacity {
 /// What a head with a capacity makes of a request.
 #[derive(Clone, Copy, Debug, PartialEq, Eq)]
 pub enum Admission {
-    /// The status that the head answers without a capacity. 503 means that memory ran out.
+    /// The status that the head answers without a capacity; 503 means that memory ran out.
     Answered(u16),
     /// The request would take the head above its capacity, and nothing is stored.
     Full,
@@ -46,7 +46,7 @@ impl Admission {
         }
     }
 
-    /// Whether the head is full.
+    /// Returns whether the head is full.
     pub fn is_full(self) -> bool
         ensures { IsTrue result ↔ (self ≡ Full) }
     {

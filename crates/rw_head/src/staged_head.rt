@@ -121,8 +121,8 @@ impl StagedHead {
         self.table.added()
     }
 
-    /// Whether the message takes the samples or the label sets of the head above the capacity, as
-    /// `Head::admit` judges it. This takes no memory, and its time does not grow.
+    /// Returns whether the message takes the samples or the label sets of the head above the
+    /// capacity, as `Head::admit` judges it. This takes no memory, and constant time.
     pub fn exceeds(&self, capacity: &Capacity) -> bool
         ensures { result ≡ exceeds capacity.now self.now.before.store self.now.after.store }
     {

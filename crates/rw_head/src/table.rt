@@ -227,7 +227,7 @@ fn abort_all(lists: &mut Vec<SampleList>, touched: &[usize])
     }
 }
 
-/// That a series was known, or why it is refused.
+/// Returns `Ok(true)` for a known series, or why it is refused.
 fn was_known(outcome: Result<(), Verdict>) -> Result<bool, Verdict>
     ensures { result ≡ known_of outcome }
 {
@@ -237,7 +237,7 @@ fn was_known(outcome: Result<(), Verdict>) -> Result<bool, Verdict>
     }
 }
 
-/// Whether a count grew and is above its limit.
+/// Returns whether a count grew and is above its limit.
 fn is_above(limit: u64, before: u64, after: u64) -> bool
     ensures above { result ≡ is_above limit before after }
     ensures limited { IsTrue result → limit ≢ 2 ^ 64 - 1 }
@@ -356,8 +356,8 @@ impl Table {
         self.places.learn(bytes);
     }
 
-    /// Whether what is staged would take the samples or the label sets above the capacity, if so
-    /// many label sets have a place without it.
+    /// Returns whether what is staged would take the samples or the label sets above the capacity,
+    /// if `places` label sets have a place without it.
     pub(crate) fn exceeds(&self, capacity: &Capacity, places: usize) -> bool
         requires { places ≡ length (label_sets self.now.kept) }
         ensures exceeds { result ≡ exceeds capacity.now self.now.kept self.now.staged }

@@ -12,9 +12,9 @@ pub fn accept_in_ticks(listener: &TcpListener) -> io::Result<()> {
     limit_accepts(listener, Duration::from_millis(TICK_MS))
 }
 
-/// Returns the next connection, if one comes within a tick. If an accept fails, as for want of
-/// descriptors, it is counted, and followed by a sleep of a tick; not so one that was interrupted,
-/// or whose client has gone.
+/// Returns the next connection, if one comes within a tick. If an accept fails, for example because
+/// no descriptor is left, it is counted, and followed by a sleep of a tick; one that was
+/// interrupted, or whose client has gone, is not.
 pub fn next_connection<C: Clock>(
     clock: &C,
     listener: &TcpListener,

@@ -14,8 +14,8 @@ const CHUNK: usize = 16_384;
 /// How many reads are made of bytes that are discarded: 64 MiB.
 const MOST_READS: u32 = 4_096;
 
-/// Ends the writing side of a connection, and reads what still comes until the client ends its own,
-/// for a second at most.
+/// Closes the writing side of a connection, and reads what still comes until the client closes its
+/// own, for a second at most.
 ///
 /// A connection that is closed while bytes are unread is reset, and then a client that is still
 /// writing its body never sees the reply (RFC 9112, section 9.6).

@@ -9,8 +9,8 @@ use std::sync::{Arc, Wait};
 use std::thread::{JoinHandle, Scope, Threads};
 use std::time::Clock;
 
-/// A connection that is served in a thread. It is one value, so that the flag of its end is read
-/// and the thread joined together.
+/// A connection that is served in a thread. It is one value, so that the thread is joined only
+/// after its end was seen.
 #[derive(Drop)]
 pub(crate) struct ActiveConnection<L: Naming> {
     thread: JoinHandle<Seat<L>>,
@@ -27,8 +27,8 @@ pub(crate) enum Connection<L: Naming> {
     Ended(Seat<L>),
 }
 
-/// Serves a connection in a thread of the scope, or in this one if no thread can be made. If there
-/// is no memory for it, it is closed.
+/// Serves a connection in a thread of the scope, or in this one if no thread can be made. A
+/// connection for which memory runs out is closed.
 pub(crate) fn start_connection<'s, E, L: Naming + Send + Sync + 's, R: Wait + Clock + Sync>(
     scope: &Scope<'s, E>,
     rt: &'s R,
@@ -55,7 +55,7 @@ pub(crate) fn start_connection<'s, E, L: Naming + Send + Sync + 's, R: Wait + Cl
 }
 
 impl<L: Naming> ActiveConnection<L> {
-    /// Returns what became of it by now, without waiting.
+    /// Returns what has become of it by now. It never waits.
     pub(crate) fn try_end<R: Threads>(self, rt: &R) -> Connection<L> {
         if self.has_ended.load(Ordering::SeqCst) {
             Connection::Ended(self.wait(rt))

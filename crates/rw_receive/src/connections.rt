@@ -78,9 +78,9 @@ fn join_each<L: Naming, R: Threads>(
     Ok(seats)
 }
 
-/// Serves one connection from each seat, each in a thread of its own, and returns the seats. The
-/// listener is closed once the last one has come, or none can be served any more: whoever comes
-/// then is refused at once, and does not wait for those in work.
+/// Serves one connection from each seat, each in its own thread, and returns the seats. The
+/// listener is closed once the last connection has come, or none can be served any more: whoever
+/// comes then is refused at once, and does not wait for those being served.
 fn serve_each<L: Naming + Send + Sync, R: Threads + Wait + Clock + Sync>(
     rt: &R,
     listener: TcpListener,

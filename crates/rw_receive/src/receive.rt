@@ -32,19 +32,19 @@ pub struct Service<'a> {
     pub idle_ms: Bounded<10, 3_600_000>,
     /// How many milliseconds a request may take, and a reply; one more for each byte of a request.
     pub request_ms: Bounded<10, 3_600_000>,
-    /// They count each connection and each answer of the head. Nothing is claimed of them.
+    /// They count each connection and each answer of the head. No clause says anything about them.
     pub counters: &'a ReceiveCounters,
 }
 
-/// Serves `most` connections, each in a thread of its own, over one head that the limits of the
-/// settings make, and then prints what the head holds: for each label set with samples, by byte
-/// order of its list of (name, value), `received LABELS` and for each sample ` T=VALUE`, the line
-/// ended by LF. How a connection ends is no fault.
+/// Serves `most` connections, each in its own thread, over one head that the limits of the settings
+/// make, and then prints what the head holds: for each label set with samples, by byte order of its
+/// list of (name, value), `received LABELS` and for each sample ` T=VALUE`, the line ended by LF.
+/// How a connection ends is not a fault.
 ///
 /// A failed accept is `Device`; the connections that were accepted before it are still served to
-/// their ends. A thread that cannot be made counts as out of memory. Waits until that number of
-/// connections has come and ended. Once the last one has come, or none can be accepted any more,
-/// the listener is closed, so that further clients are refused at once.
+/// their ends. A thread that cannot be made counts as out of memory. It waits until all connections
+/// have come and ended. Once the last one has come, or none can be accepted any more, the listener
+/// is closed, so that further clients are refused at once.
 ///
 /// A connection from which no byte comes for `idle_ms` milliseconds is closed, and so is one whose
 /// request is not complete after `request_ms` milliseconds and one more for each byte of it. A
@@ -95,16 +95,16 @@ pub fn run_receive<R: Threads + Wait + Clock + Sync, W: Sink>(
 /// connection has a thread; if none can be made, it is served before the next one is accepted.
 ///
 /// Once a stop is requested, the listener is closed. A connection that is in a request finishes it,
-/// and each other one is closed; once an end at once is requested, each is. The stop signal is
-/// looked at five times a second.
+/// and each other one is closed; once an end at once is requested, all connections are closed. The
+/// stop signal is looked at five times a second.
 ///
 /// A connection from which no byte comes for `idle_ms` milliseconds is closed, and so is one whose
 /// request is not complete after `request_ms` milliseconds and one more for each byte of it:
 /// nothing of that request is taken. If all seats are taken and a client waits for one, a
 /// connection is closed that has been silent for a second, or whose request is more than a second
-/// behind 1,000 bytes a second. An accept that fails is made again, after a sleep if it failed for
-/// want of something, as of descriptors. A listener whose accepts cannot be given a time is
-/// `Device`.
+/// late at 1,000 bytes a second. An accept that fails is repeated, after a sleep if it failed
+/// because something ran out, such as descriptors. A listener whose accepts cannot be given a
+/// timeout is `Device`.
 pub fn run_receive_until<R: Threads + Wait + Clock + Sync, W: Sink>(
     rt: &R,
     alloc: Global,

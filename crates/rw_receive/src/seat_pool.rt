@@ -16,17 +16,17 @@ use std::thread;
 use std::thread::{Scope, Threads};
 use std::time::{Clock, Duration};
 
-/// For how many milliseconds it sleeps between two looks for a free seat, while a client waits.
+/// How many milliseconds it sleeps between two looks for a free seat, while a client waits.
 const SLEEP_MS: u64 = 2;
 
-/// How many connections are looked at for their end before each accept.
+/// How many connections are checked for their end before each accept.
 const SOME: usize = 16;
 
 /// Seats, each free or with a connection. Contracts see how many there are.
 #[derive(Drop)]
 pub struct SeatPool<L: Naming> {
     free: Vec<Seat<L>>,
-    /// The one that was not looked at for longest is first.
+    /// The connection that was not checked for longest is in front.
     active: VecDeque<ActiveConnection<L>>,
 }
 
@@ -43,7 +43,7 @@ impl<L: Naming> Model for SeatPool<L> {
 }
 
 impl<L: Naming> SeatPool<L> {
-    /// Seats that are all free.
+    /// Returns seats that are all free.
     pub fn new(alloc: Global, seats: Vec<Seat<L>>) -> Result<SeatPool<L>, AllocError>
         ensures { IfOk result (λ pool. pool ≡ vec_len seats) }
     {
@@ -54,8 +54,8 @@ impl<L: Naming> SeatPool<L> {
         })
     }
 
-    /// Looks at some connections, those that were not looked at for longest, and frees the seats of
-    /// those that have ended. Each keeps what it stored.
+    /// Checks some connections, those that were not checked for longest, and frees the seats of
+    /// those that have ended. Each seat keeps what it stored.
     fn free_ended<R: Threads>(&mut self, rt: &R, most: usize)
         ensures { self.new ≡ self.old }
     {
@@ -70,7 +70,7 @@ impl<L: Naming> SeatPool<L> {
         }
     }
 
-    /// Returns whether a seat is free. If none is known to be, it looks at all connections.
+    /// Returns whether a seat is free. If none is known to be, it checks all connections.
     fn has_free<R: Threads>(&mut self, rt: &R) -> bool
         ensures { self.new ≡ self.old }
     {
@@ -80,8 +80,8 @@ impl<L: Naming> SeatPool<L> {
         !self.free.is_empty()
     }
 
-    /// Waits until a seat is free, or a stop is requested. While all are taken it asks connections
-    /// that are silent or behind their rates to end.
+    /// Waits until a seat is free, or a stop is requested. While all are taken, it asks connections
+    /// that are silent or too slow to end.
     fn wait_for_seat<R: Threads + Wait + Clock>(&mut self, rt: &R, context: &ServerContext<'_>)
         ensures { self.new ≡ self.old }
     {
@@ -95,7 +95,7 @@ impl<L: Naming> SeatPool<L> {
         context.seat_request.withdraw();
     }
 
-    /// Waits for the connections, and gives all seats back.
+    /// Waits for the connections, and returns all seats.
     pub fn into_seats<R: Threads>(self, rt: &R) -> Vec<Seat<L>>
         ensures { vec_len result ≡ self }
     {
@@ -108,7 +108,7 @@ impl<L: Naming> SeatPool<L> {
     }
 }
 
-/// Serves the next connection, in a thread of the scope, if one comes within a tick. If no seat is
+/// Serves the next connection in a thread of the scope, if one comes within a tick. If no seat is
 /// free, it waits for one; if a stop is requested before, the connection is closed.
 fn serve_next<'s, E, L: Naming + Send + Sync + 's, R: Threads + Wait + Clock + Sync>(
     pool: &mut SeatPool<L>,

@@ -5,8 +5,8 @@ use std::sync::atomic::{AtomicU64, Ordering};
 /// How many connections a request asks to end: more than one, since a client seldom waits alone.
 const MOST_ENDS: u64 = 8;
 
-/// A request for seats, which is made while a client waits for one. A few connections meet it, by
-/// ending: those that see first that they are silent or behind their rate.
+/// A request for seats, which is made while a client waits for one. A few connections meet it by
+/// ending: those that notice first that they are silent or late.
 #[derive(Drop)]
 pub struct SeatRequest {
     /// How many more connections it asks to end.
@@ -14,7 +14,7 @@ pub struct SeatRequest {
 }
 
 impl SeatRequest {
-    /// Returns a request that nobody has made.
+    /// Returns a request that is not made.
     pub fn new() -> SeatRequest {
         SeatRequest {
             ends: AtomicU64::new(0),

@@ -18,8 +18,8 @@ use std::thread;
 use std::thread::Threads;
 use std::time::Clock;
 
-/// Serves from all seats until a stop is requested, waits for those in work, and gives the seats
-/// back. The listener is closed first.
+/// Serves from all seats until a stop is requested, waits for the connections being served, and
+/// returns the seats. The listener is closed first.
 fn serve_until<L: Naming + Send + Sync, R: Threads + Wait + Clock + Sync>(
     rt: &R,
     listener: TcpListener,

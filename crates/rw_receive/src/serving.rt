@@ -29,14 +29,14 @@ pub struct ServerContext<'a> {
     pub idle_ms: Bounded<10, 3_600_000>,
     /// How many milliseconds a request may take, and a reply; one more for each byte of a request.
     pub request_ms: Bounded<10, 3_600_000>,
-    /// Made while a client waits for a seat. Nothing is claimed of it.
+    /// Made while a client waits for a seat. No clause says anything about it.
     pub seat_request: &'a SeatRequest,
-    /// They count each connection and each answer of the head. Nothing is claimed of them.
+    /// They count each connection and each answer of the head. No clause says anything about them.
     pub counters: &'a ReceiveCounters,
 }
 
-/// Serves a connection to its end, however it ends, closes it, and returns the seat. It is counted
-/// while it is served.
+/// Serves a connection until it closes, shuts it down gracefully and returns its seat. The
+/// connection is counted as open meanwhile.
 pub fn serve_connection<L: Naming, R: Wait + Clock>(
     rt: &R,
     context: &ServerContext<'_>,
@@ -50,8 +50,8 @@ pub fn serve_connection<L: Naming, R: Wait + Clock>(
     seat
 }
 
-/// Serves a connection to its end, and returns its seat. It is not counted here. A connection
-/// that took too long is closed at once: its client is not waited for.
+/// Serves a connection until it closes, and returns its seat. It is not counted here. A connection
+/// that took too long is closed at once, without waiting for its client.
 fn serve_to_end<L: Naming, R: Wait + Clock>(
     rt: &R,
     context: &ServerContext<'_>,

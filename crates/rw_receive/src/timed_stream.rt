@@ -12,7 +12,7 @@ use std::io::{self, ErrorKind, Read, Write};
 use std::net::TcpStream;
 use std::time::{Clock, Duration};
 
-/// For how many milliseconds a read or a write waits before the stop signal is looked at.
+/// How many milliseconds a read or a write waits before the stop signal is looked at.
 pub(crate) const TICK_MS: u64 = 200;
 
 /// A wait that is divided into ticks.
@@ -67,12 +67,11 @@ impl<C: Clock + Copy> Stage<C> {
 }
 
 /// A connection as its reader and its writer. A read or a write from which no byte comes for the
-/// time of the patience fails with `TimedOut`, and so does each of them once the request or the
-/// reply has had its time (`Pace`). Once a stop is requested, so does a read outside a request, and
-/// once an end at once is requested each of them. While another client waits for a place, so does a
-/// read or a write of a few connections that are silent or behind their rates. A request begins
-/// with a byte that is read, and ends with the bytes that are written. Nothing is claimed of the
-/// bytes.
+/// idle time fails with `TimedOut`, and so does each of them once the request or the reply has had
+/// its time (`Pace`). Once a stop is requested, so does a read outside a request, and once an end
+/// at once is requested, each read and write. While another client waits for a seat, so does a read
+/// or a write of a few connections that are silent or late. A request begins with a byte that is
+/// read, and ends with the bytes that are written. No clause says anything about the bytes.
 #[derive(Clone, Copy, Drop)]
 pub(crate) struct TimedStream<'s, C> {
     stream: &'s TcpStream,
@@ -91,7 +90,7 @@ fn is_passing(error: &io::Error) -> bool {
 }
 
 impl<'s, C: Clock + Copy> TimedStream<'s, C> {
-    /// A connection outside a request.
+    /// Returns a connection outside a request.
     pub(crate) fn new(
         stream: &'s TcpStream,
         context: &'s ServerContext<'s>,

@@ -1,5 +1,5 @@
 -- A log that is followed.
-use Rattle.std.proofs.Common.{◌≡◌, ◌<◌, ◌≤◌, ◌⊎◌, inl, inr, ℕ, Bool, List, [], ◌∷◌, ◌++◌, length, take, Option, None, Some, Result, Ok, Err, IsOk, IfErr, IfOk, OnOk, refl, sym, ap, ◌∙◌, subst, arith}
+use Rattle.std.proofs.Common.{◌≡◌, ◌<◌, ◌≤◌, ◌⊎◌, inl, inr, ℕ, Bool, List, [], ◌∷◌, ◌++◌, length, take, Option, None, Some, Result, Ok, Err, IsOk, IfErr, OnOk, refl, sym, ap, ◌∙◌, subst, arith}
 use Rattle.std.proofs.lemmas.Grind.{common_steps}
 use Rattle.std.specs.Prelude.{IsSome, ⊤}
 use Rattle.std.proofs.lemmas.List.{length-take-le}
@@ -8,11 +8,9 @@ use Rattle.std.specs.Result.{IsErrAnd}
 use Rattle.rw_wal_format.specs.Pieces.{Piece, bytes, next_segment}
 use Rattle.rw_follow.specs.Growth as growth
 use Rattle.rw_follow.specs.Growth.{HadAll, IsBeginning, IsGivenAt, Known, Meal, Moment, with_next, with_piece}
-use Rattle.rw_follow.specs.Turns.{IsWithin, Moves, given_by, request_of}
+use Rattle.rw_follow.specs.Turns.{IsWithin, Moves, given_by}
 use Rattle.rw_follow.specs.declared.follower.SegmentError.{SegmentError}
 use Rattle.rw_follow.specs.declared.follower.SegmentError.TheVariants as segment
-use Rattle.rw_follow.specs.declared.follower.FollowEnd.{FollowEnd}
-use Rattle.rw_follow.specs.declared.follower.FollowEnd.TheVariants as end
 use Rattle.rw_follow.specs.declared.follower.Turn.{Turn}
 use Rattle.rw_follow.specs.declared.follower.Turn.TheVariants as turn
 use Rattle.rw_follow.specs.declared.signal.StopRequest.{StopRequest}
@@ -33,11 +31,9 @@ use Rattle.rw_send.specs.declared.follow_fault.FollowFault.{FollowFault}
 use Rattle.rw_send.specs.declared.follow_fault.FollowFault.TheVariants as fault
 use Rattle.rw_send.specs.declared.feed_error.FeedError.{FeedError}
 use Rattle.rw_send.specs.declared.feed_error.FeedError.TheVariants as error
-use Rattle.rw_send.specs.declared.live.FollowError.{FollowError}
-use Rattle.rw_send.specs.declared.live.FollowError.TheVariants as follow
-use Rattle.rw_send.specs.Following.{FailsWith, FollowAnswers, FollowStopsAtOnce, HaltsAt, HaltsFor, HasGivenMore, HasRead, IsCut, IsFollowPrinted, IsFollowPrintedPart, IsFollowed, IsUnread, answer_by, left_undone, meal_after, meal_of, no_meal, shipped_by, told}
+use Rattle.rw_send.specs.Following.{FailsWith, FollowAnswers, FollowStopsAtOnce, HaltsAt, HaltsFor, HasGivenMore, HasRead, IsCut, IsFollowPrinted, IsFollowPrintedPart, IsFollowed, IsUnread, follow_result, left_undone, meal_after, meal_of, no_meal, told}
 use Rattle.rw_send.specs.ReportText.{IsTextOf, WritesPart}
-use Rattle.rw_send.specs.FeedErrors.{IsHalted, feed_error_of}
+use Rattle.rw_send.specs.FeedErrors.{HasDamage, IsHalted, feed_error_of, segment_error_of}
 use Rattle.rw_send.specs.Sending.{Answers, StopsAtOnce, hard_fault}
 use Rattle.rw_send.proofs.AnswerLemmas.{HasCause, answers_too}
 use Rattle.rw_sender.specs.Feeders.{Sorting}
@@ -103,7 +99,8 @@ begins_before o (turn.Piece n) buf meal h = begins_piece o meal (take n buf) h
 begins_before o turn.Over buf meal h = begins_next o meal h
 begins_before o turn.Flush buf meal h = begins o meal h
 begins_before o turn.Nothing buf meal h = begins o meal h
-begins_before o (turn.Stopped s) buf meal h = begins o meal h
+begins_before o turn.Finished buf meal h = begins o meal h
+begins_before o turn.Aborted buf meal h = begins o meal h
 
 -- what was given at a turn, and fed or not
 pub begins_turn : (old new : Option Moment) (t : Turn) (buf : List ℕ) (meal fed : Meal) → Moves old new (given_by t buf) → Known old (λ m. IsGivenAt meal m) → (fed ≡ meal) ⊎ (fed ≡ given_by t buf meal)
@@ -117,45 +114,23 @@ given_turn old new t buf meal fed move h e = subst (λ (f : Meal). Known new (λ
 
 -- ---- how the reading ended
 
-pub halted_by : {T : Type 0} (s : Shipping T) (now : Option Moment) (unsure : Type 0) (ended : Result FollowEnd FollowError) → IfErr ended (IsCut s now unsure) → IfErr (shipped_by ended) (IsHalted s)
-halted_by s now unsure (Ok end.Finished) c = tt
-halted_by s now unsure (Ok end.Aborted) c = tt
-halted_by s now unsure (Err (follow.Segment (segment.Missing n))) c = tt
-halted_by s now unsure (Err (follow.Segment (segment.Unreadable read.OutOfMemory))) c = tt
-halted_by s now unsure (Err (follow.Segment (segment.Unreadable read.Failed))) c = tt
-halted_by s now unsure (Err (follow.Feed h)) c = c.0
+-- a log that is damaged has the fault at which reading ended
+pub damaged_by : {T : Type 0} (s : Shipping T) (now : Option Moment) (said : StopRequest) (unsure : Type 0) (ended : Result (Unit {0}) FeedError) → IfErr ended (IsCut s now said unsure) → IfErr ended (HasDamage s)
+damaged_by s now said unsure (Ok u) c = tt
+damaged_by s now said unsure (Err (error.Damaged f)) c = c
+damaged_by s now said unsure (Err error.Failed) c = tt
+damaged_by s now said unsure (Err error.Unreadable) c = tt
+damaged_by s now said unsure (Err (error.Missing n)) c = tt
+damaged_by s now said unsure (Err error.Aborted) c = tt
 
-pub live_by : (P : Type 0) (ended : Result FollowEnd FollowError) → OnOk ended P → OnOk (shipped_by ended) P
-live_by P (Ok end.Finished) p = p
-live_by P (Ok end.Aborted) p = tt
-live_by P (Err (follow.Segment (segment.Missing n))) p = tt
-live_by P (Err (follow.Segment (segment.Unreadable read.OutOfMemory))) p = tt
-live_by P (Err (follow.Segment (segment.Unreadable read.Failed))) p = tt
-live_by P (Err (follow.Feed h)) p = tt
-
-abbrev pub ends_orderly : Result FollowEnd FollowError
-ends_orderly = Ok end.Finished
-
--- it ended since the shipper takes no more
-pub cut_live : (P : Type 0) (r : Result FollowEnd FollowError) (h : FeedError) → IsErrAnd r (λ e. e ≡ follow.Feed h) → OnOk r P
-cut_live P (Ok s) h e = absurd e
-cut_live P (Err c) h e = tt
-
-pub cut_signed : (P : FollowEnd → Type 0) (r : Result FollowEnd FollowError) (h : FeedError) → IsErrAnd r (λ e. e ≡ follow.Feed h) → IfOk r P
-cut_signed P (Ok s) h e = absurd e
-cut_signed P (Err c) h e = tt
-
-pub cut_short : (P : Type 0) (r : Result FollowEnd FollowError) (h : FeedError) → IsErrAnd r (λ e. e ≡ follow.Feed h) → r ≡ ends_orderly → P
-cut_short P (Ok s) h e o = absurd e
-cut_short P (Err c) h e o = let no : ⊥ = cc in absurd no
-
-pub cut_halted : (P : FollowError → Type 0) (r : Result FollowEnd FollowError) (h : FeedError) → IsErrAnd r (λ e. e ≡ follow.Feed h) → P (follow.Feed h) → IfErr r P
-cut_halted P (Ok s) h e p = absurd e
-cut_halted P (Err c) h e p = subst P (sym e) p
+-- a call failed, so its caller does
+pub on_err : {X P : Type 0} (r : Result X FeedError) (h : FeedError) → IsErrAnd r (λ y. y ≡ h) → OnOk r P
+on_err (Ok x) h is = absurd is
+on_err (Err y) h is = tt
 
 -- ---- how a following answers
 
-as_told : (now : Option Moment) (said : StopRequest) (fed : Meal) (o : Outcome) (answer : Result (Unit {0}) ToolFault) → Answers (HasRead now said fed) ⊤ o answer → FollowAnswers now said fed o (told answer)
+as_told : (now : Option Moment) (said : StopRequest) (fed : Meal) (o : Outcome) (answer : Result (Unit {0}) ToolFault) → Answers (HasRead now said fed) ⊤ o answer → FollowAnswers now said fed o (as_follow_result answer)
 as_told now said fed o (Ok u) h = h
 as_told now said fed o (Err f) h = h
 
@@ -163,29 +138,26 @@ not_ok : {P : Type 0} (h : FeedError) → IsOk (halts {X = Unit {0}} h) → P
 not_ok h ok = let no : ⊥ = cc in absurd no
 
 as_halted : (E : Type 0) (now : Option Moment) (said : StopRequest) (fed : Meal) (o : Outcome) (h : FeedError) (answer : Result (Unit {0}) ToolFault) → Answers (IsOk (halts {X = Unit {0}} h)) E o answer
-    → FollowAnswers now said fed o (told answer)
+    → FollowAnswers now said fed o (as_follow_result answer)
 as_halted E now said fed o h answer a = as_told now said fed o answer (answers_too o answer (not_ok h) (λ _. tt) a)
 
-pub follow_answers : {T : Type 0} (s : Shipping T) (now : Option Moment) (unsure : Type 0) (said : StopRequest) (fed : Meal) (o : Outcome) (ended : Result FollowEnd FollowError) (answer : Result (Unit {0}) ToolFault)
-    → (ended ≡ ends_orderly → Known now (HadAll fed)) → IfOk ended (λ stopped. said ≡ request_of stopped) → IfErr ended (IsCut s now unsure)
-    → Answers (IsOk (shipped_by ended)) (shipped_by ended ≡ Err error.Unreadable) o answer → ((f : ToolFault) → hard_fault (shipped_by ended) ≡ Some f → IsAbandoned o) → FollowAnswers now said fed o (answer_by ended answer)
-follow_answers s now unsure said fed o (Ok end.Finished) answer whole signed c a hard = as_told now said fed o answer (answers_too o answer (λ _. (signed, whole refl)) (λ _. tt) a)
-follow_answers s now unsure said fed o (Ok end.Aborted) answer whole signed c a hard = (hard tool.Device refl, signed)
-follow_answers s now unsure said fed o (Err (follow.Segment (segment.Missing n))) answer whole signed c a hard = (hard tool.Device refl, c)
-follow_answers s now unsure said fed o (Err (follow.Segment (segment.Unreadable read.OutOfMemory))) answer whole signed c a hard = as_halted _ now said fed o error.Failed answer a
-follow_answers s now unsure said fed o (Err (follow.Segment (segment.Unreadable read.Failed))) answer whole signed c a hard = as_halted _ now said fed o error.Unreadable answer a
-follow_answers s now unsure said fed o (Err (follow.Feed h)) answer whole signed c a hard = as_halted _ now said fed o h answer a
+pub follow_answers : {T : Type 0} (s : Shipping T) (now : Option Moment) (unsure : Type 0) (said : StopRequest) (fed : Meal) (o : Outcome) (ended : Result (Unit {0}) FeedError) (answer : Result (Unit {0}) ToolFault)
+    → OnOk ended (Known now (HadAll fed)) → OnOk ended (said ≡ request.Finish) → IfErr ended (IsCut s now said unsure)
+    → Answers (IsOk ended) (hard_fault ended ≡ Some tool.Device) o answer → ((f : ToolFault) → hard_fault ended ≡ Some f → IsAbandoned o) → FollowAnswers now said fed o (follow_result ended answer)
+follow_answers s now unsure said fed o (Ok u) answer whole signed c a hard = as_told now said fed o answer (answers_too o answer (λ _. (signed, whole)) (λ _. tt) a)
+follow_answers s now unsure said fed o (Err (error.Damaged f)) answer whole signed c a hard = as_halted _ now said fed o (error.Damaged f) answer a
+follow_answers s now unsure said fed o (Err error.Failed) answer whole signed c a hard = as_halted _ now said fed o error.Failed answer a
+follow_answers s now unsure said fed o (Err error.Unreadable) answer whole signed c a hard = as_halted _ now said fed o error.Unreadable answer a
+follow_answers s now unsure said fed o (Err (error.Missing n)) answer whole signed c a hard = (hard tool.Device refl, c)
+follow_answers s now unsure said fed o (Err error.Aborted) answer whole signed c a hard = (hard tool.Device refl, c)
 
-pub follow_so : {T : Type 0} (s : Shipping T) (now : Option Moment) (unsure : Type 0) (said : StopRequest) (fed : Meal) (o : Outcome) (ended : Result FollowEnd FollowError) (shipped : Result (Unit {0}) FeedError) (answer : Result (Unit {0}) ToolFault) (so : Result (Unit {0}) FollowFault)
-    → shipped ≡ shipped_by ended → so ≡ answer_by ended answer
-    → (ended ≡ ends_orderly → Known now (HadAll fed)) → IfOk ended (λ stopped. said ≡ request_of stopped) → IfErr ended (IsCut s now unsure)
-    → Answers (IsOk shipped) (shipped ≡ Err error.Unreadable) o answer → ((f : ToolFault) → hard_fault shipped ≡ Some f → IsAbandoned o) → FollowAnswers now said fed o so
-follow_so s now unsure said fed o ended shipped answer so e f whole signed c a hard =
-    let answers = subst (λ (r : Result (Unit {0}) FeedError). Answers (IsOk r) (r ≡ Err error.Unreadable) o answer) e a in
-    let is_hard = subst (λ (r : Result (Unit {0}) FeedError). (t : ToolFault) → hard_fault r ≡ Some t → IsAbandoned o) e hard in
-    subst (λ (r : Result (Unit {0}) FollowFault). FollowAnswers now said fed o r) (sym f) (follow_answers s now unsure said fed o ended answer whole signed c answers is_hard)
+pub follow_so : {T : Type 0} (s : Shipping T) (now : Option Moment) (unsure : Type 0) (said : StopRequest) (fed : Meal) (o : Outcome) (ended : Result (Unit {0}) FeedError) (answer : Result (Unit {0}) ToolFault) (so : Result (Unit {0}) FollowFault)
+    → so ≡ follow_result ended answer → OnOk ended (Known now (HadAll fed)) → OnOk ended (said ≡ request.Finish) → IfErr ended (IsCut s now said unsure)
+    → Answers (IsOk ended) (hard_fault ended ≡ Some tool.Device) o answer → ((f : ToolFault) → hard_fault ended ≡ Some f → IsAbandoned o) → FollowAnswers now said fed o so
+follow_so s now unsure said fed o ended answer so f whole signed c a hard =
+    subst (λ (r : Result (Unit {0}) FollowFault). FollowAnswers now said fed o r) (sym f) (follow_answers s now unsure said fed o ended answer whole signed c a hard)
 
--- what was left is answered in the same way, whatever the stop signal says
+-- what was left is answered so whatever the stop signal says
 err_answers : (W V : Type 0) (o : Outcome) (f : ToolFault) → Answers W ⊤ o (Err f) → Answers V ⊤ o (Err f)
 err_answers W V o (tool.Log f) h = h
 err_answers W V o tool.OutOfMemory h = h
@@ -200,7 +172,7 @@ said_answers now old new fed o (Err (fault.Tool f)) same h = err_answers (HasRea
 said_answers now old new fed o (Err (fault.Missing n)) same h = h
 said_answers now old new fed o (Err fault.Stopped) same h = let e = same (λ bad. cc) in subst (λ (w : StopRequest). FollowAnswers now w fed o (Err fault.Stopped)) (sym e) h
 
--- and where the sign is looked at once more
+-- and if the stop signal is looked at once more
 pub signed_answers : (now : Option Moment) (old new : StopRequest) (fed : Meal) (o : Outcome) (answer result : Result (Unit {0}) FollowFault)
     → (result ≡ answer) ⊎ ((answer ≡ left_undone) × (result ≡ Err fault.Stopped) × (new ≡ request.Abort)) → ((answer ≡ left_undone → ⊥) → new ≡ old)
     → FollowAnswers now old fed o answer → FollowAnswers now new fed o result
@@ -208,15 +180,6 @@ signed_answers now old new fed o answer result (inl e) same h = subst (λ (r : R
 signed_answers now old new fed o answer result (inr (e, stopped, hard)) same h =
     let left = subst (λ (r : Result (Unit {0}) FollowFault). FollowAnswers now old fed o r) e h in
     subst (λ (r : Result (Unit {0}) FollowFault). FollowAnswers now new fed o r) (sym stopped) (left, hard)
-
--- if a following ends early, the shipper has halted so
-
-pub halts_so : {T : Type 0} (s : Shipping T) (now : Option Moment) (unsure : Type 0) (ended : Result FollowEnd FollowError) (shipped : Result (Unit {0}) FeedError)
-    → shipped ≡ shipped_by ended → IfErr ended (IsCut s now unsure) → IfErr shipped (IsHalted s)
-halts_so s now unsure ended shipped e c = subst (λ (r : Result (Unit {0}) FeedError). IfErr r (IsHalted s)) (sym e) (halted_by s now unsure ended c)
-
-pub live_so : (P : Type 0) (ended : Result FollowEnd FollowError) (shipped : Result (Unit {0}) FeedError) → shipped ≡ shipped_by ended → OnOk ended P → OnOk shipped P
-live_so P ended shipped e p = subst (λ (r : Result (Unit {0}) FeedError). OnOk r P) (sym e) (live_by P ended p)
 
 -- ---- why a following stops at once
 
@@ -237,10 +200,12 @@ flush_fails s (feed.Damaged f) h = tt
 flush_fails s feed.Gone h = fails_so s.fault feed.Gone h
 
 -- of word of a next segment
-pub begin_fails : {X T : Type 0} (s : Shipping T) (h : FeedError) → (halts {X = X} h ≡ halts error.Failed → IsSome s.fault) → (halts {X = X} h ≡ halts error.Unreadable → ⊥) → FailsWith s h
-begin_fails s (error.Damaged f) failed unread = tt
-begin_fails s error.Failed failed unread = failed refl
-begin_fails s error.Unreadable failed unread = unread refl
+pub begin_fails : {X T : Type 0} (s : Shipping T) (h : FeedError) → IsHalted s h → (halts {X = X} h ≡ halts error.Failed → IsSome s.fault) → (halts {X = X} h ≡ halts error.Unreadable → ⊥) → FailsWith s h
+begin_fails s (error.Damaged f) halted failed unread = tt
+begin_fails s error.Failed halted failed unread = failed refl
+begin_fails s error.Unreadable halted failed unread = unread refl
+begin_fails s (error.Missing n) halted failed unread = halted
+begin_fails s error.Aborted halted failed unread = halted
 
 -- and of a number of shards that could not be set
 pub set_fails : {X T : Type 0} (s : Shipping T) (h : FeedError) → halts {X = X} h ≡ halts error.Failed → IsSome s.fault → FailsWith s h
@@ -250,6 +215,8 @@ fails_halts : {T : Type 0} (t : Turn) (old new : Shipping T) (h : FeedError) →
 fails_halts t old new (error.Damaged f) h = tt
 fails_halts t old new error.Failed h = inl h
 fails_halts t old new error.Unreadable h = h
+fails_halts t old new (error.Missing n) h = h
+fails_halts t old new error.Aborted h = h
 
 pub all_halt : {X T : Type 0} (t : Turn) (old new : Shipping T) (r : Result X FeedError) → IfErr r (FailsWith new) → IfErr r (HaltsAt t old new)
 all_halt t old new (Ok x) h = tt
@@ -260,6 +227,8 @@ halts_from t old between new (error.Damaged f) same h = tt
 halts_from t old between new error.Failed same (inl f) = inl f
 halts_from t old between new error.Failed same (inr (is, e)) = inr (is, e ∙ ap (λ (l : Sorting). l.pieces) same)
 halts_from t old between new error.Unreadable same h = h
+halts_from t old between new (error.Missing n) same h = h
+halts_from t old between new error.Aborted same h = h
 
 -- what was fed before is the same
 pub all_halt_from : {X T : Type 0} (t : Turn) (old between new : Shipping T) (r : Result X FeedError) → between.log ≡ old.log → IfErr r (HaltsAt t between new) → IfErr r (HaltsAt t old new)
@@ -284,39 +253,49 @@ halts_for s next old new (turn.Piece n) buf error.Failed (inr (is, same)) move g
 halts_for s next old new turn.Over buf error.Failed (inr (is, same)) move given within some = absurd is
 halts_for s next old new turn.Flush buf error.Failed (inr (is, same)) move given within some = absurd is
 halts_for s next old new turn.Nothing buf error.Failed (inr (is, same)) move given within some = absurd is
-halts_for s next old new (turn.Stopped e) buf error.Failed (inr (is, same)) move given within some = absurd is
+halts_for s next old new turn.Finished buf error.Failed (inr (is, same)) move given within some = absurd is
+halts_for s next old new turn.Aborted buf error.Failed (inr (is, same)) move given within some = absurd is
 halts_for s next old new t buf error.Unreadable at move given within some = absurd at
+halts_for s next old new t buf (error.Missing n) at move given within some = absurd at
+halts_for s next old new t buf error.Aborted at move given within some = absurd at
+
+-- the shipper takes no more
+pub cut_halted : {T : Type 0} (s : Shipping T) (now : Option Moment) (said : StopRequest) (unsure : Type 0) (h : FeedError) → IsHalted s h → HaltsFor s now h → IsCut s now said unsure h
+cut_halted s now said unsure (error.Damaged f) halted at = halted
+cut_halted s now said unsure error.Failed halted (inl f) = inl f
+cut_halted s now said unsure error.Failed halted (inr more) = inr (inl more)
+cut_halted s now said unsure error.Unreadable halted at = absurd at
+cut_halted s now said unsure (error.Missing n) halted at = absurd at
+cut_halted s now said unsure error.Aborted halted at = absurd at
 
 -- a turn failed
-pub cut_broken : {T : Type 0} (s : Shipping T) (now : Option Moment) (unsure : Type 0) (r : Result FollowEnd FollowError) (b : SegmentError) → IsErrAnd r (λ e. e ≡ follow.Segment b)
-    → ((n : ℕ) → b ≡ segment.Missing n → Known now (growth.HasGap n)) → ((f : ReadFault) → b ≡ segment.Unreadable f → unsure) → IfErr r (IsCut s now unsure)
-cut_broken s now unsure (Ok x) b is missing fails = absurd is
-cut_broken s now unsure (Err e) (segment.Missing n) is missing fails = subst (IsCut s now unsure) (sym is) (missing n refl)
-cut_broken s now unsure (Err e) (segment.Unreadable f) is missing fails = subst (IsCut s now unsure) (sym is) (fails f refl)
+pub cut_broken : {T : Type 0} (s : Shipping T) (now : Option Moment) (said : StopRequest) (unsure : Type 0) (r : Result (Unit {0}) FeedError) (b : SegmentError) → IsErrAnd r (λ e. e ≡ segment_error_of b)
+    → ((n : ℕ) → b ≡ segment.Missing n → Known now (growth.HasGap n)) → ((f : ReadFault) → b ≡ segment.Unreadable f → unsure) → IfErr r (IsCut s now said unsure)
+cut_broken s now said unsure (Ok x) b is missing fails = absurd is
+cut_broken s now said unsure (Err e) (segment.Missing n) is missing fails = subst (IsCut s now said unsure) (sym is) (missing n refl)
+cut_broken s now said unsure (Err e) (segment.Unreadable read.OutOfMemory) is missing fails = subst (IsCut s now said unsure) (sym is) (inr (inr (fails read.OutOfMemory refl)))
+cut_broken s now said unsure (Err e) (segment.Unreadable read.Failed) is missing fails = subst (IsCut s now said unsure) (sym is) (fails read.Failed refl)
 
 stops_so : (now : Option Moment) (said : StopRequest) (unsure : Type 0) (fed : Meal) (answer : Result (Unit {0}) ToolFault) (f : ToolFault) → answer ≡ Err f
-    → StopsAtOnce (HasGivenMore now fed ⊎ unsure) unsure (Err f) → FollowStopsAtOnce now said unsure fed (told answer)
+    → StopsAtOnce (HasGivenMore now fed ⊎ unsure) unsure (Err f) → FollowStopsAtOnce now said unsure fed (as_follow_result answer)
 stops_so now said unsure fed (Ok u) f e h = let no : ⊥ = cc in absurd no
 stops_so now said unsure fed (Err g) f e h = subst (λ (r : Result (Unit {0}) ToolFault). StopsAtOnce (HasGivenMore now fed ⊎ unsure) unsure r) (sym e) h
 
 -- the cause of a hard stop, by how the reading ended
-pub follow_cause : {T : Type 0} (s : Shipping T) (now : Option Moment) (said : StopRequest) (unsure : Type 0) (ended : Result FollowEnd FollowError) (answer : Result (Unit {0}) ToolFault)
-    → IfOk ended (λ stopped. said ≡ request_of stopped) → IfErr ended (IsCut s now unsure) → ((f : ToolFault) → hard_fault (shipped_by ended) ≡ Some f → answer ≡ Err f)
-    → IsSome (hard_fault (shipped_by ended)) → IsSome s.fault ⊎ FollowStopsAtOnce now said unsure (meal_of s.log.pieces) (answer_by ended answer)
-follow_cause s now said unsure (Ok end.Finished) answer signed c is hard = let no : ⊥ = cc in absurd no
-follow_cause s now said unsure (Ok end.Aborted) answer signed c is hard = inr signed
-follow_cause s now said unsure (Err (follow.Segment (segment.Missing n))) answer signed c is hard = inr c
-follow_cause s now said unsure (Err (follow.Segment (segment.Unreadable read.OutOfMemory))) answer signed c is hard =
-    inr (stops_so now said unsure (meal_of s.log.pieces) answer tool.OutOfMemory (is tool.OutOfMemory refl) (inr c))
-follow_cause s now said unsure (Err (follow.Segment (segment.Unreadable read.Failed))) answer signed c is hard =
+pub follow_cause : {T : Type 0} (s : Shipping T) (now : Option Moment) (said : StopRequest) (unsure : Type 0) (ended : Result (Unit {0}) FeedError) (answer : Result (Unit {0}) ToolFault)
+    → IfErr ended (IsCut s now said unsure) → ((f : ToolFault) → hard_fault ended ≡ Some f → answer ≡ Err f)
+    → IsSome (hard_fault ended) → IsSome s.fault ⊎ FollowStopsAtOnce now said unsure (meal_of s.log.pieces) (follow_result ended answer)
+follow_cause s now said unsure (Ok u) answer c is hard = let no : ⊥ = cc in absurd no
+follow_cause s now said unsure (Err (error.Damaged f)) answer c is hard = let no : ⊥ = cc in absurd no
+follow_cause s now said unsure (Err error.Failed) answer (inl f) is hard = inl f
+follow_cause s now said unsure (Err error.Failed) answer (inr more) is hard =
+    inr (stops_so now said unsure (meal_of s.log.pieces) answer tool.OutOfMemory (is tool.OutOfMemory refl) more)
+follow_cause s now said unsure (Err error.Unreadable) answer c is hard =
     inr (stops_so now said unsure (meal_of s.log.pieces) answer tool.Device (is tool.Device refl) c)
-follow_cause s now said unsure (Err (follow.Feed (error.Damaged f))) answer signed c is hard = let no : ⊥ = cc in absurd no
-follow_cause s now said unsure (Err (follow.Feed error.Failed)) answer signed (c, inl f) is hard = inl f
-follow_cause s now said unsure (Err (follow.Feed error.Failed)) answer signed (c, inr more) is hard =
-    inr (stops_so now said unsure (meal_of s.log.pieces) answer tool.OutOfMemory (is tool.OutOfMemory refl) (inl more))
-follow_cause s now said unsure (Err (follow.Feed error.Unreadable)) answer signed (c, never) is hard = absurd never
+follow_cause s now said unsure (Err (error.Missing n)) answer c is hard = inr c
+follow_cause s now said unsure (Err error.Aborted) answer c is hard = inr c
 
--- whatever was said when the sign was looked at once more
+-- whatever was said when the stop signal was looked at once more
 said_stops : (now : Option Moment) (old new : StopRequest) (unsure : Type 0) (fed : Meal) (answer : Result (Unit {0}) FollowFault) → ((answer ≡ left_undone → ⊥) → new ≡ old)
     → FollowStopsAtOnce now old unsure fed answer → FollowStopsAtOnce now new unsure fed answer
 said_stops now old new unsure fed (Ok u) same h = absurd h
@@ -335,24 +314,16 @@ with_stops : {F A B : Type 0} → (A → B) → F ⊎ A → F ⊎ B
 with_stops go (inl f) = inl f
 with_stops go (inr a) = inr (go a)
 
-is_hard_fault : (found : Option ToolFault) (f : ToolFault) → found ≡ Some f → IsSome found
-is_hard_fault found f e = subst IsSome (sym e) refl
-
 -- so it is of the shipping that was stopped by it, and of the answer in the end
-pub follow_why : {T : Type 0} (s : Shipping T) (now : Option Moment) (old new : StopRequest) (unsure : Type 0) (ended : Result FollowEnd FollowError) (shipped : Result (Unit {0}) FeedError) (answer : Result (Unit {0}) ToolFault) (so result : Result (Unit {0}) FollowFault)
-    → shipped ≡ shipped_by ended → so ≡ answer_by ended answer
+pub follow_why : {T : Type 0} (s : Shipping T) (now : Option Moment) (old new : StopRequest) (unsure : Type 0) (ended : Result (Unit {0}) FeedError) (answer : Result (Unit {0}) ToolFault) (so result : Result (Unit {0}) FollowFault)
+    → so ≡ follow_result ended answer
     → (result ≡ so) ⊎ ((so ≡ left_undone) × (result ≡ Err fault.Stopped) × (new ≡ request.Abort)) → ((so ≡ left_undone → ⊥) → new ≡ old)
-    → IfOk ended (λ stopped. old ≡ request_of stopped) → IfErr ended (IsCut s now unsure) → ((f : ToolFault) → hard_fault shipped ≡ Some f → answer ≡ Err f)
-    → HasCause (IsSome s.fault ⊎ FollowStopsAtOnce now new unsure (meal_of s.log.pieces) result) shipped
-follow_why s now old new unsure ended shipped answer so result e f which same signed c is =
-    let answered = subst (λ (r : Result (Unit {0}) FeedError). (t : ToolFault) → hard_fault r ≡ Some t → answer ≡ Err t) e is in
-    let stops = signed_stops now old new unsure (meal_of s.log.pieces) so result which same in
-    let first : IsSome (hard_fault shipped) → IsSome s.fault ⊎ FollowStopsAtOnce now old unsure (meal_of s.log.pieces) so = λ hard.
-    subst (λ (r : Result (Unit {0}) FollowFault). IsSome s.fault ⊎ FollowStopsAtOnce now old unsure (meal_of s.log.pieces) r) (sym f)
-    (follow_cause s now old unsure ended answer signed c answered (subst (λ (r : Result (Unit {0}) FeedError). IsSome (hard_fault r)) e hard)) in (
-      λ failed. with_stops stops (first (is_hard_fault _ tool.OutOfMemory (ap hard_fault failed))),
-      λ unread. with_stops stops (first (is_hard_fault _ tool.Device (ap hard_fault unread))),
-    )
+    → IfErr ended (IsCut s now old unsure) → ((f : ToolFault) → hard_fault ended ≡ Some f → answer ≡ Err f)
+    → HasCause (IsSome s.fault ⊎ FollowStopsAtOnce now new unsure (meal_of s.log.pieces) result) ended
+follow_why s now old new unsure ended answer so result f which same c is = λ hard.
+    with_stops (signed_stops now old new unsure (meal_of s.log.pieces) so result which same)
+    (subst (λ (r : Result (Unit {0}) FollowFault). IsSome s.fault ⊎ FollowStopsAtOnce now old unsure (meal_of s.log.pieces) r) (sym f)
+    (follow_cause s now old unsure ended answer c is hard))
 
 -- ---- a report is printed
 

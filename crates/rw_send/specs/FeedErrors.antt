@@ -1,9 +1,12 @@
 -- Why the reading of a log ends early.
 use Rattle.std.specs.Prelude.{◌≡◌, None, Some, ⊤}
+use Rattle.rw_follow.specs.declared.follower.SegmentError.{SegmentError}
+use Rattle.rw_follow.specs.declared.follower.SegmentError.TheVariants as segment
 use Rattle.rw_sender.specs.Feeders.{HasRead}
 use Rattle.rw_sender.specs.Shipping.{Shipping}
 use Rattle.rw_sender.specs.declared.shipper.FeedFault.{FeedFault}
 use Rattle.rw_sender.specs.declared.shipper.FeedFault.TheVariants as feed
+use Rattle.rw_types.specs.declared.transfer.ReadFault.TheVariants as read
 use Rattle.rw_send.specs.declared.feed_error.FeedError.{FeedError}
 use Rattle.rw_send.specs.declared.feed_error.FeedError.TheVariants as error
 
@@ -13,8 +16,24 @@ feed_error_of feed.OutOfMemory = error.Failed
 feed_error_of (feed.Damaged f) = error.Damaged f
 feed_error_of feed.Gone = error.Failed
 
--- the log has the fault for which reading ends, and the shipper goes on
+-- the same of a log that cannot be followed
+abbrev pub segment_error_of : SegmentError → FeedError
+segment_error_of (segment.Unreadable read.OutOfMemory) = error.Failed
+segment_error_of (segment.Unreadable read.Failed) = error.Unreadable
+segment_error_of (segment.Missing n) = error.Missing n
+
+-- if reading ends at a damaged log, the log has that fault, and the shipper goes on
+abbrev pub HasDamage : {T : Type 0} → Shipping T → FeedError → Type 0
+HasDamage s (error.Damaged f) = HasRead s.log.pieces s.log.placed (Some f) × (s.fault ≡ None)
+HasDamage s error.Failed = ⊤
+HasDamage s error.Unreadable = ⊤
+HasDamage s (error.Missing n) = ⊤
+HasDamage s error.Aborted = ⊤
+
+-- the same of a log whose segments are given, which lacks none, and which is not left at once
 abbrev pub IsHalted : {T : Type 0} → Shipping T → FeedError → Type 0
 IsHalted s (error.Damaged f) = HasRead s.log.pieces s.log.placed (Some f) × (s.fault ≡ None)
 IsHalted s error.Failed = ⊤
 IsHalted s error.Unreadable = ⊤
+IsHalted s (error.Missing n) = ⊥
+IsHalted s error.Aborted = ⊥

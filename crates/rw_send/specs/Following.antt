@@ -4,9 +4,6 @@ use Rattle.std.specs.Io.KnownBytes.{Appends}
 use Rattle.rw_wal_format.specs.Pieces.{Piece, bytes, next_segment}
 use Rattle.rw_follow.specs.Growth as growth
 use Rattle.rw_follow.specs.Growth.{HadAll, HasGap, IsBeginning, IsGivenAt, Known, Meal, Moment, with_next, with_piece}
-use Rattle.rw_follow.specs.declared.follower.SegmentError.TheVariants as segment
-use Rattle.rw_follow.specs.declared.follower.FollowEnd.{FollowEnd}
-use Rattle.rw_follow.specs.declared.follower.FollowEnd.TheVariants as end
 use Rattle.rw_follow.specs.declared.follower.Turn.{Turn}
 use Rattle.rw_follow.specs.declared.follower.Turn.TheVariants as turn
 use Rattle.rw_follow.specs.declared.signal.StopRequest.{StopRequest}
@@ -20,16 +17,13 @@ use Rattle.rw_sender.specs.Shipping.{Shipping}
 use Rattle.rw_sender.specs.declared.report.Report.{Report}
 use Rattle.rw_text.specs.declared.tool_fault.ToolFault.{ToolFault}
 use Rattle.rw_text.specs.declared.tool_fault.ToolFault.TheVariants as tool
-use Rattle.rw_types.specs.declared.transfer.ReadFault.TheVariants as read
 use Rattle.rw_send.specs.declared.follow_fault.FollowFault.{FollowFault}
 use Rattle.rw_send.specs.declared.follow_fault.FollowFault.TheVariants as fault
 use Rattle.rw_send.specs.declared.feed_error.FeedError.{FeedError}
 use Rattle.rw_send.specs.declared.feed_error.FeedError.TheVariants as error
-use Rattle.rw_send.specs.declared.live.FollowError.{FollowError}
-use Rattle.rw_send.specs.declared.live.FollowError.TheVariants as follow
 use Rattle.rw_send.specs.ReportText.{IsTextOf, WritesPart}
 use Rattle.rw_send.specs.Segments.{AreShort}
-use Rattle.rw_send.specs.FeedErrors.{IsHalted}
+use Rattle.rw_send.specs.FeedErrors.{HasDamage}
 use Rattle.rw_send.specs.Sending.{Answers, IsReportOf, StopsAtOnce}
 
 -- nothing was read of the log, and none of its segments is over
@@ -56,7 +50,8 @@ MarksBy (turn.Piece n) old new = old.limit ≡ None → map marks_of new.fleet.c
 MarksBy turn.Over old new = ⊤
 MarksBy turn.Flush old new = new.fleet.current ≡ map marked old.fleet.current
 MarksBy turn.Nothing old new = new ≡ old
-MarksBy (turn.Stopped s) old new = new ≡ old
+MarksBy turn.Finished old new = new ≡ old
+MarksBy turn.Aborted old new = new ≡ old
 
 -- the turn returned some bytes
 abbrev pub IsPiece : Turn → Type 0
@@ -64,71 +59,77 @@ IsPiece (turn.Piece n) = ⊤
 IsPiece turn.Over = ⊥
 IsPiece turn.Flush = ⊥
 IsPiece turn.Nothing = ⊥
-IsPiece (turn.Stopped s) = ⊥
+IsPiece turn.Finished = ⊥
+IsPiece turn.Aborted = ⊥
 
 -- The shipper failed, or the log is damaged. A shipper reads no segment.
 abbrev pub FailsWith : {T : Type 0} → Shipping T → FeedError → Type 0
 FailsWith s (error.Damaged f) = ⊤
 FailsWith s error.Failed = IsSome s.fault
 FailsWith s error.Unreadable = ⊥
+FailsWith s (error.Missing n) = ⊥
+FailsWith s error.Aborted = ⊥
 
--- or memory was refused for the bytes of this turn, which were not fed
+-- or memory ran out for the bytes of this turn, which were not fed
 abbrev pub HaltsAt : {T : Type 0} → Turn → Shipping T → Shipping T → FeedError → Type 0
 HaltsAt turn old new (error.Damaged f) = ⊤
 HaltsAt turn old new error.Failed =
     IsSome new.fault ⊎ (IsPiece turn × (new.log.pieces ≡ old.log.pieces))
 HaltsAt turn old new error.Unreadable = ⊥
+HaltsAt turn old new (error.Missing n) = ⊥
+HaltsAt turn old new error.Aborted = ⊥
 
 -- the log has returned more bytes than were fed
 abbrev pub HasGivenMore : Option Moment → Meal → Type 0
 HasGivenMore now fed =
     (more : List ℕ) × (0 < length more) × Known now (λ m. IsGivenAt (with_piece fed more) m)
 
--- The shipper failed, the log is damaged, or memory was refused for bytes that the log has given.
+-- The shipper failed, the log is damaged, or memory ran out for bytes that the log has returned.
 abbrev pub HaltsFor : {T : Type 0} → Shipping T → Option Moment → FeedError → Type 0
 HaltsFor s now (error.Damaged f) = ⊤
 HaltsFor s now error.Failed = IsSome s.fault ⊎ HasGivenMore now (meal_of s.log.pieces)
 HaltsFor s now error.Unreadable = ⊥
+HaltsFor s now (error.Missing n) = ⊥
+HaltsFor s now error.Aborted = ⊥
 
--- Where the shipper takes no more, the log has the fault for which it does not. A call that failed
--- was one of a log of which calls may fail (`unsure`). A segment is missing that the log says is.
-abbrev pub IsCut : {T : Type 0} → Shipping T → Option Moment → (unsure : Type 0) → FollowError → Type 0
-IsCut s now unsure (follow.Segment (segment.Unreadable f)) = unsure
-IsCut s now unsure (follow.Segment (segment.Missing n)) = Known now (HasGap n)
-IsCut s now unsure (follow.Feed h) = IsHalted s h × HaltsFor s now h
+-- Why a following ended, other than as it was asked to finish: a log that is damaged has that fault;
+-- the shipper failed, memory was refused for bytes that the log has given, or a call failed of a log
+-- of which calls may fail (`unsure`); a segment is missing that the log says is; or an end at once was
+-- asked for.
+abbrev pub IsCut : {T : Type 0} → Shipping T → Option Moment → StopRequest → (unsure : Type 0)
+    → FeedError → Type 0
+IsCut s now said unsure (error.Damaged f) = HasDamage s (error.Damaged f)
+IsCut s now said unsure error.Failed =
+    IsSome s.fault ⊎ (HasGivenMore now (meal_of s.log.pieces) ⊎ unsure)
+IsCut s now said unsure error.Unreadable = unsure
+IsCut s now said unsure (error.Missing n) = Known now (HasGap n)
+IsCut s now said unsure error.Aborted = said ≡ request.Abort
 
--- how the reading ended: by a hard sign, and where a segment is missing, as where it cannot be read
-abbrev pub shipped_by : Result FollowEnd FollowError → Result (Unit {0}) FeedError
-shipped_by (Ok end.Finished) = Ok tt
-shipped_by (Ok end.Aborted) = Err error.Unreadable
-shipped_by (Err (follow.Segment (segment.Missing n))) = Err error.Unreadable
-shipped_by (Err (follow.Segment (segment.Unreadable read.OutOfMemory))) = Err error.Failed
-shipped_by (Err (follow.Segment (segment.Unreadable read.Failed))) = Err error.Unreadable
-shipped_by (Err (follow.Feed h)) = Err h
+abbrev pub as_follow_result : Result (Unit {0}) ToolFault → Result (Unit {0}) FollowFault
+as_follow_result (Ok u) = Ok u
+as_follow_result (Err f) = Err (fault.Tool f)
 
-abbrev pub told : Result (Unit {0}) ToolFault → Result (Unit {0}) FollowFault
-told (Ok u) = Ok u
-told (Err f) = Err (fault.Tool f)
-
--- how it is answered, where the shipper's stop is answered so
-abbrev pub answer_by : Result FollowEnd FollowError → Result (Unit {0}) ToolFault → Result (Unit {0}) FollowFault
-answer_by (Ok end.Finished) answer = told answer
-answer_by (Ok end.Aborted) answer = Err fault.Stopped
-answer_by (Err (follow.Segment (segment.Missing n))) answer = Err (fault.Missing n)
-answer_by (Err (follow.Segment (segment.Unreadable f))) answer = told answer
-answer_by (Err (follow.Feed h)) answer = told answer
+-- how it is answered, if the shipper's stop is answered so
+abbrev pub follow_result : Result (Unit {0}) FeedError → Result (Unit {0}) ToolFault
+    → Result (Unit {0}) FollowFault
+follow_result (Ok u) answer = as_follow_result answer
+follow_result (Err (error.Damaged f)) answer = as_follow_result answer
+follow_result (Err error.Failed) answer = as_follow_result answer
+follow_result (Err error.Unreadable) answer = as_follow_result answer
+follow_result (Err (error.Missing n)) answer = Err (fault.Missing n)
+follow_result (Err error.Aborted) answer = Err fault.Stopped
 
 -- the answer if work was left without a request to leave it
 abbrev pub left_undone : Result (Unit {0}) FollowFault
 left_undone = Err (fault.Tool tool.OutOfMemory)
 
--- it was told to end, and all that stood was fed
+-- it was asked to finish, and everything that was there was fed
 abbrev pub HasRead : Option Moment → StopRequest → Meal → Type 0
 HasRead now said fed = (said ≡ request.Finish) × Known now (HadAll fed)
 
--- How a following answers whose report has this outcome: all is well only where it was told to end,
--- all that stood was fed and the outcome is complete; a missing segment is one that the log says is
--- missing; and it ends at once only where it was told to.
+-- How a following answers whose report has this outcome: all is well only if it was asked to
+-- finish, everything that was there was fed and the outcome is complete; a missing segment is one
+-- that is missing in the log; and it ends at once only if it was asked to.
 abbrev pub FollowAnswers : Option Moment → StopRequest → Meal → Outcome → Result (Unit {0}) FollowFault → Type 0
 FollowAnswers now said fed o (Ok u) = Answers (HasRead now said fed) ⊤ o (Ok u)
 FollowAnswers now said fed o (Err (fault.Tool f)) = Answers (HasRead now said fed) ⊤ o (Err f)
@@ -136,8 +137,8 @@ FollowAnswers now said fed o (Err (fault.Missing n)) = IsAbandoned o × Known no
 FollowAnswers now said fed o (Err fault.Stopped) = IsAbandoned o × (said ≡ request.Abort)
 
 -- Why a following that answers so was stopped at once: it was asked to, a segment is missing, a
--- call failed of a log of which calls may fail (`unsure`), or memory was refused for bytes that the
--- log has given.
+-- call failed of a log whose calls may fail (`unsure`), or memory ran out for bytes that the log
+-- has returned.
 abbrev pub FollowStopsAtOnce : Option Moment → StopRequest → (unsure : Type 0) → Meal
     → Result (Unit {0}) FollowFault → Type 0
 FollowStopsAtOnce now said unsure fed (Ok u) = ⊥

@@ -118,3 +118,5 @@ hard_fault (Ok u) = None
 hard_fault (Err (error.Damaged f)) = None
 hard_fault (Err error.Failed) = Some fault.OutOfMemory
 hard_fault (Err error.Unreadable) = Some fault.Device
+hard_fault (Err (error.Missing n)) = Some fault.Device
+hard_fault (Err error.Aborted) = Some fault.Device

@@ -1,4 +1,4 @@
-//! The counters are updated as a shipper goes on, and once it has stopped.
+//! Updates the counters as a shipper goes on, and once it has stopped.
 
 ghost use Rattle.std.specs.Prelude.{◌≡◌, None};
 ghost use Rattle.rw_wal_format.specs.Pieces.{entries};
@@ -30,7 +30,7 @@ pub fn update_counters<C: Connect + Drop>(counters: &SendCounters, shipper: &Shi
     counters.drop_unsent(shipper.dropped().iter().as_slice());
 }
 
-/// Counts what a worker has dropped that has stopped: the samples of the batches that were refused.
+/// Counts what a stopped worker has dropped: the samples of the batches that were refused.
 fn count_refused(counters: &SendCounters, part: &Ledger) {
     for name in part.iter() {
         if let Reason::Status(_) = name.1 {
@@ -39,8 +39,8 @@ fn count_refused(counters: &SendCounters, part: &Ledger) {
     }
 }
 
-/// Counts how far a shipper came that has stopped, and what its workers dropped. What was dropped
-/// and filtered of the log was counted before.
+/// Counts how far a stopped shipper came, and what its workers dropped. What was dropped and
+/// filtered of the log was counted before.
 pub(crate) fn count_report<T>(counters: &SendCounters, report: &Report<T>) {
     for part in &report.parts {
         count_refused(counters, part);

@@ -1,7 +1,8 @@
 //! Why the reading of a log ends early.
 
+use rw_follow::SegmentError;
 use rw_sender::FeedFault;
-use rw_types::Failed;
+use rw_types::{Failed, ReadFault};
 use rw_wal_tail::TailFault;
 use std::alloc::AllocError;
 
@@ -10,10 +11,14 @@ use std::alloc::AllocError;
 pub enum FeedError {
     /// The log has this fault.
     Damaged(TailFault),
-    /// Memory was refused, or a worker has gone.
+    /// Memory ran out, or a worker has gone.
     Failed,
     /// A segment cannot be read.
     Unreadable,
+    /// The segment of this number is missing.
+    Missing(u64),
+    /// It was asked to end at once.
+    Aborted,
 }
 
 impl From<FeedFault> for FeedError {
@@ -26,6 +31,21 @@ impl From<FeedFault> for FeedError {
         match fault {
             FeedFault::Damaged(fault) => FeedError::Damaged(fault),
             FeedFault::OutOfMemory | FeedFault::Gone => FeedError::Failed,
+        }
+    }
+}
+
+impl From<SegmentError> for FeedError {
+    ghost use Rattle.std.specs.Prelude.{◌≡◌};
+    ghost use Rattle.rw_send.specs.FeedErrors.{segment_error_of};
+
+    ghost from_gives = { λ e h. h ≡ segment_error_of e };
+
+    fn from(error: SegmentError) -> FeedError {
+        match error {
+            SegmentError::Unreadable(ReadFault::OutOfMemory) => FeedError::Failed,
+            SegmentError::Unreadable(ReadFault::Failed) => FeedError::Unreadable,
+            SegmentError::Missing(number) => FeedError::Missing(number),
         }
     }
 }

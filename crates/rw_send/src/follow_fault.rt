@@ -5,7 +5,7 @@ use std::alloc::AllocError;
 use std::error::Error;
 use std::fmt;
 
-/// Why following a log ends other than well.
+/// Why the following of a log ends with a fault.
 #[derive(Clone, Copy, Debug, PartialEq, Eq)]
 pub enum FollowFault {
     /// As a run of the command `send` ends.

@@ -5,57 +5,39 @@ ghost use Rattle.rw_wal_format.specs.declared.tail_fault.TailFault.{TailFault};
 ghost use Rattle.rw_follow.specs.Growth.{Known};
 ghost use Rattle.rw_follow.specs.declared.signal.StopRequest.TheVariants as StopRequest;
 ghost use Rattle.rw_text.specs.declared.tool_fault.ToolFault.TheVariants.{OutOfMemory, Log, Line, SegmentFull, Device};
-ghost use Rattle.rw_send.specs.Following.{IsFollowPrinted, IsFollowPrintedPart, IsFollowed, IsUnread, answer_by, left_undone, shipped_by, told};
+ghost use Rattle.rw_send.specs.Following.{IsFollowPrinted, IsFollowPrintedPart, IsFollowed, IsUnread, follow_result, left_undone, as_follow_result};
 ghost use Rattle.rw_send.specs.declared.follow_fault.FollowFault.TheVariants.{Tool, Missing, Stopped};
 
 use crate::counters::{FeedContext, count_report, update_counters};
 use crate::feed_error::FeedError;
 use crate::follow_fault::FollowFault;
-use crate::live::{FollowError, ship_live};
+use crate::live::ship_live;
 use crate::options::SendOptions;
 use crate::printing::print_report;
-use crate::send::{Sent, stopped};
+use crate::send::{Sent, stop_shipper};
 use crate::sharding::Sharding;
 use crate::shipping::zeros;
-use rw_follow::{FollowEnd, SegmentError, Segments, StopRequest, Watch};
+use rw_follow::{Segments, StopRequest, Watch};
 use rw_sender::{Connect, Report, Shipper};
 use rw_settings::Settings;
 use rw_shard_core::Config;
 use rw_text::ToolFault;
-use rw_types::{ReadFault, Sink};
+use rw_types::Sink;
 use std::alloc::{AllocError, Global};
 use std::sync::Wait;
 use std::thread::Threads;
 use std::time::Clock;
 
-/// The result of following a log.
+/// The report and the answer of a following.
 #[derive(Drop)]
 struct Followed<T> {
     report: Report<T>,
     answer: Result<(), FollowFault>,
 }
 
-/// How the reading of a log ended that was followed.
-fn shipped_by(ended: Result<FollowEnd, FollowError>) -> Result<(), FeedError>
-    ensures { result ≡ shipped_by ended }
-{
-    match ended {
-        Ok(FollowEnd::Finished) => Ok(()),
-        Ok(FollowEnd::Aborted) => Err(FeedError::Unreadable),
-        Err(FollowError::Segment(SegmentError::Missing(_))) => Err(FeedError::Unreadable),
-        Err(FollowError::Segment(SegmentError::Unreadable(ReadFault::OutOfMemory))) => Err(
-            FeedError::Failed,
-        ),
-        Err(FollowError::Segment(SegmentError::Unreadable(ReadFault::Failed))) => Err(
-            FeedError::Unreadable,
-        ),
-        Err(FollowError::Feed(error)) => Err(error),
-    }
-}
-
-/// Returns an answer of `send` as one of `send --follow`.
-fn told(answer: Result<(), ToolFault>) -> Result<(), FollowFault>
-    ensures { result ≡ told answer }
+/// Returns an answer of `send` as that of a log that is followed.
+fn as_follow_result(answer: Result<(), ToolFault>) -> Result<(), FollowFault>
+    ensures { result ≡ as_follow_result answer }
 {
     match answer {
         Ok(()) => Ok(()),
@@ -63,30 +45,25 @@ fn told(answer: Result<(), ToolFault>) -> Result<(), FollowFault>
     }
 }
 
-/// How a following answers that ended so, where its shipper's stop is answered so.
-fn answer_by(
-    ended: Result<FollowEnd, FollowError>,
+/// Returns how a following answers that ended so, if its shipper's stop is answered so.
+fn follow_result(
+    ended: Result<(), FeedError>,
     answer: Result<(), ToolFault>,
 ) -> Result<(), FollowFault>
-    ensures { result ≡ answer_by ended answer }
+    ensures { result ≡ follow_result ended answer }
 {
     match ended {
-        Ok(FollowEnd::Finished) => told(answer),
-        Ok(FollowEnd::Aborted) => Err(FollowFault::Stopped),
-        Err(FollowError::Segment(SegmentError::Missing(number))) => Err(FollowFault::Missing(
-            number,
-        )),
-        Err(FollowError::Segment(SegmentError::Unreadable(_))) => told(answer),
-        Err(FollowError::Feed(_)) => told(answer),
+        Err(FeedError::Missing(number)) => Err(FollowFault::Missing(number)),
+        Err(FeedError::Aborted) => Err(FollowFault::Stopped),
+        Ok(()) | Err(FeedError::Damaged(_) | FeedError::Failed | FeedError::Unreadable) => {
+            as_follow_result(answer)
+        }
     }
 }
 
 /// Returns the answer of a following that has ended. If its work was cut short, a request to end at
 /// once may have cut it: the stop signal is looked at once more.
-fn answer_signed<W: Watch>(
-    watch: &mut W,
-    answer: Result<(), FollowFault>,
-) -> Result<(), FollowFault>
+fn or_stopped<W: Watch>(watch: &mut W, answer: Result<(), FollowFault>) -> Result<(), FollowFault>
     ensures answer { (result ≡ answer) ⊎ ((answer ≡ left_undone) × (result ≡ Err Stopped)
         × (W.said watch.new ≡ StopRequest.Abort)) }
     ensures watch { (answer ≡ left_undone → ⊥) → W.said watch.new ≡ W.said watch.old }
@@ -139,23 +116,23 @@ fn ship_on<
         &mut buf,
     );
     update_counters(counters, &shipper);
-    let Sent { report, answer } = stopped(rt, shipper, shipped_by(ended));
+    let Sent { report, answer } = stop_shipper(rt, shipper, ended);
     count_report(counters, &report);
-    let answer = answer_signed(watch, answer_by(ended, answer));
+    let answer = or_stopped(watch, follow_result(ended, answer));
     Ok(Followed { report, answer })
 }
 
-/// Ships a log while it grows, until the watch asks it to end, then stops and prints the report as
+/// Ships a log while it grows, until the watch asks to stop, then stops and prints the report as
 /// the command `send` does. Of what was read it keeps the labels and last timestamps of series, the
-/// samples that wait to be acknowledged and the dropped ones, and nothing else.
+/// samples that wait to be acknowledged, and the dropped ones, and nothing else.
 ///
-/// A segment is over once the next one exists and, read again after that was seen, it has no more
-/// bytes. Between two segments the number of shards is changed to what is wanted under the load.
-/// When asked to end, it reads what is there, and waits until the receiver has acknowledged all of
-/// it; when asked to end at once, it abandons what is not done. While it waits for room in a queue,
-/// or for the receiver, it notices that only if the stop flag of `line` is set too, after the stop
-/// signal. The counters are updated after each turn, and once the work has stopped. If a segment is
-/// missing between two, or cannot be read, the work is stopped at once too.
+/// A segment is over once the next one exists and, read again after that was seen, it gives no more
+/// bytes. Between two of them the number of shards is changed to what is wanted under the load.
+/// Asked to finish, it reads what the log has, and waits until the receiver has acknowledged all of
+/// it; asked to end at once, it leaves what is not done. While it waits for room in a queue, or for
+/// the receiver, it sees that only if the stop flag of `options` is set too, after the stop signal.
+/// The counters are updated after each turn, and once the work has stopped. If a segment is missing
+/// between two, or cannot be read, the work is stopped at once too.
 pub fn run_follow<
     R: Threads + Wait + Clock + Copy + Send + 'static,
     S: Segments,

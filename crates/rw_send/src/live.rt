@@ -3,8 +3,8 @@
 ghost use Rattle.std.specs.Prelude.{◌≡◌, ◌<◌, ◌≤◌, ◌⊎◌, [], length, map, true, false, None, Ok, IfErr, IfOk, IsSome, OnOk, OnErr};
 ghost use Rattle.rw_follow.specs.Growth as growth;
 ghost use Rattle.rw_follow.specs.Growth.{HadAll, IsBeginning, Known, with_next, with_piece};
-ghost use Rattle.rw_follow.specs.Turns.{IsWithin, given_by, request_of};
-ghost use Rattle.rw_follow.specs.declared.follower.FollowEnd.TheVariants as FollowEnd;
+ghost use Rattle.rw_follow.specs.Turns.{IsWithin, given_by};
+ghost use Rattle.rw_follow.specs.declared.signal.StopRequest.TheVariants as StopRequest;
 ghost use Rattle.rw_fleet.specs.ShardHistories.{marked, marks_of};
 ghost use Rattle.rw_fleet.specs.Work.{AreResolved};
 ghost use Rattle.rw_fleet.specs.Loads.{IsLoad};
@@ -19,44 +19,13 @@ use crate::counters::{FeedContext, update_counters};
 use crate::feed_error::FeedError;
 use crate::sharding::{Sharding, resharded, retuned};
 use crate::shipping::begin_segment;
-use rw_follow::{FollowEnd, Follower, SegmentError, Segments, Turn, Watch};
+use rw_follow::{Follower, Segments, Turn, Watch};
 use rw_sender::{Connect, Shipper};
 use rw_wal_tail::Piece;
 use std::alloc::Global;
 use std::sync::Wait;
 use std::thread::Threads;
 use std::time::Clock;
-
-/// Why a log is followed no further, but for a stop request.
-#[derive(Clone, Copy, Debug, PartialEq, Eq)]
-pub(crate) enum FollowError {
-    /// The log cannot be followed.
-    Segment(SegmentError),
-    /// The shipper takes no more.
-    Feed(FeedError),
-}
-
-impl From<SegmentError> for FollowError {
-    ghost use Rattle.std.specs.Prelude.{◌≡◌};
-    ghost use Rattle.rw_send.specs.declared.live.FollowError.TheVariants.{Segment};
-
-    ghost from_gives = { λ b c. c ≡ Segment b };
-
-    fn from(error: SegmentError) -> FollowError {
-        FollowError::Segment(error)
-    }
-}
-
-impl From<FeedError> for FollowError {
-    ghost use Rattle.std.specs.Prelude.{◌≡◌};
-    ghost use Rattle.rw_send.specs.declared.live.FollowError.TheVariants.{Feed};
-
-    ghost from_gives = { λ h c. c ≡ Feed h };
-
-    fn from(error: FeedError) -> FollowError {
-        FollowError::Feed(error)
-    }
-}
 
 /// Feeds some bytes of the current segment.
 fn feed_bytes<R: Wait, C: Connect + Drop>(
@@ -87,7 +56,7 @@ fn feed_bytes<R: Wait, C: Connect + Drop>(
     Ok(())
 }
 
-/// Begins the next segment, with as many shards as are wanted under the load.
+/// Feeds word that the next segment begins, with as many shards as are wanted under the load.
 fn feed_next<R: Threads + Wait + Clock + Copy + Send + 'static, C: Connect + Drop>(
     rt: &R,
     shipper: &mut Shipper<C>,
@@ -119,7 +88,7 @@ fn feed_next<R: Threads + Wait + Clock + Copy + Send + 'static, C: Connect + Dro
     Ok(next)
 }
 
-/// Asks each shard to send what waits for a full batch.
+/// Makes each shard send what waits for a full batch.
 fn flush<R: Wait, C: Connect + Drop>(rt: &R, shipper: &mut Shipper<C>) -> Result<(), FeedError>
     requires live { shipper.old.fault ≡ None }
     ensures kept { IsKept shipper.old shipper.new }
@@ -183,7 +152,7 @@ fn obey<R: Threads + Wait + Clock + Copy + Send + 'static, C: Connect + Drop>(
             flush(rt, shipper)?;
             Ok(sharding)
         }
-        Turn::Nothing | Turn::Stopped(_) => Ok(sharding),
+        Turn::Nothing | Turn::Finished | Turn::Aborted => Ok(sharding),
     }
 }
 
@@ -228,7 +197,7 @@ fn step<R: Threads + Wait + Clock + Copy + Send + 'static, C: Connect + Drop>(
     obey(rt, alloc, shipper, next, turn, buf)
 }
 
-/// Tells of a turn that was done.
+/// Counts a turn that was done.
 fn count_turn<C: Connect + Drop>(
     context: FeedContext<'_>,
     shipper: &Shipper<C>,
@@ -242,7 +211,7 @@ fn count_turn<C: Connect + Drop>(
     update_counters(context.counters, shipper);
 }
 
-/// Feeds a log as it grows, until the watch asks it to end.
+/// Feeds a log as it grows, until the watch asks to stop.
 pub(crate) fn ship_live<
     R: Threads + Wait + Clock + Copy + Send + 'static,
     S: Segments,
@@ -256,7 +225,7 @@ pub(crate) fn ship_live<
     segments: &mut S,
     watch: &mut W,
     buf: &mut [u8],
-) -> Result<FollowEnd, FollowError>
+) -> Result<(), FeedError>
     requires begun { shipper.old.log.pieces ≡ [] }
     requires live { shipper.old.fault ≡ None }
     requires shards { length shipper.old.fleet.current ≡ sharding.shards }
@@ -270,10 +239,10 @@ pub(crate) fn ship_live<
     ensures live { OnOk result (shipper.new.fault ≡ None) }
     ensures begins { Known (S.now segments.new)
         (λ m. IsBeginning (meal_of shipper.new.log.pieces) (growth.texts m)) }
-    ensures whole { result ≡ Ok FollowEnd.Finished
-        → Known (S.now segments.new) (HadAll (meal_of shipper.new.log.pieces)) }
-    ensures signed { IfOk result (λ stop. W.said watch.new ≡ request_of stop) }
-    ensures cut { IfErr result (IsCut shipper.new (S.now segments.new)
+    ensures whole { OnOk result
+        (Known (S.now segments.new) (HadAll (meal_of shipper.new.log.pieces))) }
+    ensures signed { OnOk result (W.said watch.new ≡ StopRequest.Finish) }
+    ensures cut { IfErr result (IsCut shipper.new (S.now segments.new) (W.said watch.new)
         (S.is_sure segments.old ≡ true → ⊥)) }
     ensures last { AreResolved shipper.old.fleet.ended → HasLastEpoch shipper.new }
 {
@@ -281,8 +250,11 @@ pub(crate) fn ship_live<
     let mut follower = Follower::new();
     for _ in rt.forever() {
         let turn = follower.turn(segments, watch, buf)?;
-        if let Turn::Stopped(stop) = turn {
-            return Ok(stop);
+        if let Turn::Finished = turn {
+            return Ok(());
+        }
+        if let Turn::Aborted = turn {
+            return Err(FeedError::Aborted);
         }
         let is_due = watch.is_reshard_due();
         sharding = step(rt, context.alloc, shipper, sharding, is_due, turn, buf)?;

@@ -3,15 +3,15 @@
 use rw_metrics::SendCounters;
 use rw_worker::StopFlag;
 
-/// What connects to a receiver, what counts the work, how many bytes the body of a batch may take,
-/// and what tells the workers to end at once. Nothing is claimed of the counters.
+/// The connections to a receiver, the counters, the greatest number of bytes in the body of a
+/// batch, and the flag that stops the workers at once. No clause says anything about the counters.
 #[derive(Drop)]
 pub struct SendOptions<'a, C> {
     pub connect: C,
     pub counters: &'a SendCounters,
     /// `None` for no limit.
     pub max_batch_bytes: Option<u64>,
-    /// If another thread sets it, the workers leave what is not sent, and nothing waits for them
+    /// If another thread sets it, the workers abandon what is not sent, and nothing waits for them
     /// any more.
     pub stop: StopFlag,
 }

@@ -7,7 +7,7 @@ ghost use Rattle.rw_sender.specs.Reports.{IsAbandoned, ListsCut, kind_of};
 ghost use Rattle.rw_sender.specs.Shipping.{HasStopped};
 ghost use Rattle.rw_text.specs.declared.tool_fault.ToolFault.{ToolFault};
 ghost use Rattle.rw_text.specs.declared.tool_fault.ToolFault.TheVariants.{OutOfMemory, Log, Line, SegmentFull, Device};
-ghost use Rattle.rw_send.specs.FeedErrors.{IsHalted};
+ghost use Rattle.rw_send.specs.FeedErrors.{HasDamage};
 ghost use Rattle.rw_send.specs.Sending.{answer_to, hard_fault, Answers, IsPrinted, IsPrintedPart, IsSent};
 
 use crate::counters::{FeedContext, count_report, update_counters};
@@ -44,24 +44,26 @@ fn answer_to(outcome: &Outcome) -> Result<(), ToolFault>
     }
 }
 
-/// The fault for which a shipper is stopped at once.
+/// Returns the fault for which a shipper is stopped at once.
 fn hard_fault(shipped: Result<(), FeedError>) -> Option<ToolFault>
     ensures { result ≡ hard_fault shipped }
 {
     match shipped {
         Ok(()) | Err(FeedError::Damaged(_)) => None,
         Err(FeedError::Failed) => Some(ToolFault::OutOfMemory),
-        Err(FeedError::Unreadable) => Some(ToolFault::Device),
+        Err(FeedError::Unreadable | FeedError::Missing(_) | FeedError::Aborted) => {
+            Some(ToolFault::Device)
+        }
     }
 }
 
-/// Stops a shipper whose log was fed whole or until it halted.
-pub(crate) fn stopped<R: Threads + Wait, C: Connect + Drop>(
+/// Stops a shipper whose log was fed, to its end or as far as it goes.
+pub(crate) fn stop_shipper<R: Threads + Wait, C: Connect + Drop>(
     rt: &R,
     shipper: Shipper<C>,
     shipped: Result<(), FeedError>,
 ) -> Sent<C::T>
-    requires halted { IfErr shipped (IsHalted shipper) }
+    requires halted { IfErr shipped (HasDamage shipper) }
     requires live { OnOk shipped (shipper.fault ≡ None) }
     ensures stopped { HasStopped C.T.tells C.T.seen C.T.is_for shipper result.report }
     ensures ended { EndBy (kind_of (is_some (hard_fault shipped))) shipper.fleet
@@ -69,7 +71,7 @@ pub(crate) fn stopped<R: Threads + Wait, C: Connect + Drop>(
     ensures cut { hard_fault shipped ≡ None → IsAbandoned result.report.outcome
         → ListsCut result.report.workers.items }
     ensures answers { Answers (IsOk shipped)
-        (shipped ≡ Err FeedError.Unreadable) result.report.outcome result.answer }
+        (hard_fault shipped ≡ Some Device) result.report.outcome result.answer }
     ensures hard { (f : ToolFault) → hard_fault shipped ≡ Some f
         → IsAbandoned result.report.outcome }
     ensures failed { IfSome shipper.fault (λ _. IsAbandoned result.report.outcome) }
@@ -113,23 +115,23 @@ fn ship<R: Threads + Wait + Clock + Copy + Send + 'static, S: Source + Drop, C: 
     let context = FeedContext { alloc, counters };
     let shipped = ship_all(rt, context, &mut shipper, sharding, segments, &mut buf);
     update_counters(counters, &shipper);
-    let sent = stopped(rt, shipper, shipped);
+    let sent = stop_shipper(rt, shipper, shipped);
     count_report(counters, &sent.report);
     Ok(sent)
 }
 
 /// Ships the segments of a log in their order, stops, and prints the report: `dropped POS REASON`
 /// by position, `filtered COUNT`, `abandoned POS` by position, and `report ..`, each line ended by
-/// LF. Of what was read it keeps the labels of series, the samples that wait to be acknowledged and
-/// the dropped ones, and nothing else.
+/// LF. Of what was read it keeps the labels of series, the samples that wait to be acknowledged,
+/// and the dropped ones, and nothing else.
 ///
-/// A segment is fed as it is read, in pieces of at most 64 KiB. Between two segments the number of
-/// shards is changed to what is wanted under the load, for which the workers get a moment to catch
-/// up. A log fault ends the reading, and what comes before it is still shipped. If memory runs out,
-/// no thread can be made, a worker has gone or a segment cannot be read, the work is stopped at
-/// once. If it could not start, or memory ran out for the report, nothing is printed. The counters
-/// are updated after each piece, and once the work has stopped. It waits until the receiver has
-/// acknowledged all that was read, or the work is stopped.
+/// A segment is fed as it is read, in pieces of at most 64 KiB. Between two of them the number of
+/// shards is changed to what is wanted under the load, for which the workers are given a moment to
+/// catch up. A log fault ends the reading, and what comes before it is still shipped. If there is
+/// no memory or no thread, a worker has gone, or a segment cannot be read, the work is stopped at
+/// once. If it could not start, or there is no memory to print the report, nothing is printed. The
+/// counters are updated after each piece, and once the work has stopped. Waits until the receiver
+/// has acknowledged all that was read, or the work is stopped.
 pub fn run_send<
     R: Threads + Wait + Clock + Copy + Send + 'static,
     S: Source + Drop,

@@ -23,7 +23,7 @@ use std::time::Clock;
 /// The most bytes of a piece.
 pub const PIECE_BYTES: usize = 65_536;
 
-/// Returns a buffer for a piece.
+/// Returns room for a piece.
 pub fn zeros(alloc: Global) -> Result<Vec<u8>, AllocError>
     ensures { IfOk result (λ v. vec_len v ≡ PIECE_BYTES) }
 {
@@ -31,7 +31,7 @@ pub fn zeros(alloc: Global) -> Result<Vec<u8>, AllocError>
 }
 
 /// Reads some bytes of a segment, through `buf`; none at its end. So memory is taken only for bytes
-/// that are there.
+/// that exist.
 fn read_piece<S: Source>(
     alloc: Global,
     segment: &mut S,
@@ -61,7 +61,7 @@ fn read_piece<S: Source>(
     Ok(piece)
 }
 
-/// Feeds the next bytes of a segment. `false` means its end.
+/// Feeds the next bytes of a segment. Returns false at its end.
 fn ship_piece<R: Wait, S: Source, C: Connect + Drop>(
     rt: &R,
     context: FeedContext<'_>,
@@ -138,7 +138,7 @@ fn ship_segment<R: Wait, S: Source + Drop, C: Connect + Drop>(
     unreachable!()
 }
 
-/// Begins the next segment, if it is not the first one.
+/// Feeds word that the next segment begins, unless it is the first one.
 pub fn begin_segment<R: Wait, C: Connect + Drop>(
     rt: &R,
     shipper: &mut Shipper<C>,
@@ -195,7 +195,7 @@ pub fn ship_all<
     ensures halted { IfErr result (IsHalted shipper.new) }
     ensures sure { AreSure (map S.is_sure segments.items) → result ≡ Err Unreadable → ⊥ }
 
-    // Memory for a piece is refused only if the log has more bytes.
+    // Memory for a piece runs out only if the log has more bytes.
     ensures refused { result ≡ Err FeedError.Failed → IsSome shipper.new.fault
         ⊎ HasMoreBytes (map S.remaining segments.items) shipper.new.log.pieces }
     ensures number { shipper.new.fault ≡ None → IsShardCount (length shipper.new.fleet.current) }

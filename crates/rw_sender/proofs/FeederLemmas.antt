@@ -76,7 +76,7 @@ same_taken tail after router names n ps hand h taken = record {
   filter_within = h.filter_within;
 }
 
--- a name for the next position leaves those behind it without one
+-- a name for the next position leaves those after it without one
 pub named_below : (names now : FinMap nat_cmp Reason) (n : ℕ) (reason : Reason) → ((p : ℕ) → n ≤ p → get names p ≡ None) → now ≡ insert names n reason → (p : ℕ) → n < p → get now p ≡ None
 named_below names now n reason h is p lt =
     ap (λ m. get m p) is ∙ get-insert nat_cmp_total names n reason p ∙ ap (λ b. cond b (Some reason) (get names p)) (nat_cmp-apart n p lt) ∙ h p (omega arith)
@@ -208,7 +208,7 @@ refused : (f : TailFault) → is_out_of_memory f ≡ true → f ≡ OutOfMemory
 refused OutOfMemory e = refl
 refused f e = absurd cc
 
--- memory is refused only where an entry comes next, or at the end of a count
+-- memory runs out only if an entry comes next, or at the end of a count
 pub read_refused : (choice : Choice) (t : Fed) (placed hand : List Entry) (s : Sorting) (said : Said) (f : TailFault) → record { choice = choice; pieces = t.pieces; placed = placed; hand = hand } ≡ s
     → HasTaken t (placed ++ hand) → said ≡ Err f → is_out_of_memory f ≡ true → (said ≡ Err OutOfMemory → (t.given < length (entries t.pieces)) ⊎ (2 ^ 60 ≤ size_of t.pieces))
     → (length s.placed < length (entries s.pieces)) ⊎ (2 ^ 60 ≤ size_of s.pieces)

@@ -41,8 +41,8 @@ fate_by (Some l) steps rest = fate_of l steps rest
 abbrev pub fate_at : List ShardHistory → (ℕ → List Step) → (ℕ → List Item) → ℕ → ShardFate
 fate_at lanes steps rest k = fate_by (slice_get lanes k) (steps k) (rest k)
 
--- The machine is at the beginning of an epoch, before the entries whose samples the shards of
--- the fleet were dealt. Nothing was sent in it.
+-- The machine is at the start of an epoch, before the entries whose samples the shards of the fleet
+-- were dealt. Nothing was sent in it.
 pub record IsBeginning (c : Setup) (past : Past) (pieces : List Piece) (epoch : ℕ) (lanes : List ShardHistory) (steps : ℕ → List Step) (left : ℕ → List Item) (before es : List Entry) (w : World) : Type 0 where
   pub going : (w.killed ≡ false) × (w.closed ≡ None) × (w.draining ≡ None)
   pub pieces_are : w.pieces ≡ pieces

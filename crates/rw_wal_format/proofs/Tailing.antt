@@ -1,4 +1,5 @@
--- A reader that has come some way: what is still read of the bytes that it holds and of the pieces that come later.
+-- A reader that has come some way: what is still read of the bytes that it holds and of the pieces
+-- that come later.
 use Rattle.std.proofs.Common.{◌≡◌, ℕ, ◌+◌, List, [], ◌∷◌, ◌++◌, length, drop, Option, Some, None, refl, sym, ap, ◌∙◌, subst, append_assoc, append-nil}
 use Rattle.std.proofs.lemmas.List.{drop-append-le}
 use Rattle.rw_wal_format.specs.Records.{record_entries}

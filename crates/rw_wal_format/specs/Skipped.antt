@@ -1,4 +1,4 @@
--- The types of the records that are passed over (wal.md).
+-- The types of skipped records (wal.md).
 use Rattle.std.specs.Prelude.{ℕ, List, [], ◌∷◌, Bool, true, false, ◌==◌, count_by, if◌then◌else◌}
 use Rattle.rw_wal_format.specs.Records.{is_skipped}
 use Rattle.rw_wal_format.specs.declared.skipped_type.SkippedType.{SkippedType}
@@ -17,12 +17,12 @@ type_of_byte b =
     else if b == 10 then CustomFloatHistograms
     else Unknown
 
--- the type of a record that is passed over; an empty one has none that is known
+-- the type of a skipped record; an empty one has no known type
 abbrev pub skipped_type : List ℕ → SkippedType
 skipped_type [] = Unknown
 skipped_type (b ∷ bs) = type_of_byte b
 
--- the types of the records that are passed over in this one: its own, or none
+-- the types of the records that are skipped in this one: its own, or none
 abbrev pub skips_of : List ℕ → List SkippedType
 skips_of d = if is_skipped d then skipped_type d ∷ [] else []
 
@@ -42,7 +42,7 @@ type_number CustomFloatHistograms = 10
 abbrev pub count_of : SkippedType → List SkippedType → ℕ
 count_of kind types = count_by (λ t. type_number t == type_number kind) types
 
--- whether samples may be lost when a record of this type is passed over
+-- whether samples may be lost when a record of this type is skipped
 abbrev pub loses_samples : SkippedType → Bool
 loses_samples Tombstones = false
 loses_samples Exemplars = false

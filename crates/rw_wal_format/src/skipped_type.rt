@@ -1,9 +1,9 @@
-//! What the records hold that are passed over (wal.md).
+//! The types of skipped records (wal.md).
 
 ghost use Rattle.std.specs.Prelude.{◌≡◌, ◌<◌, ◌∷◌, []};
 ghost use Rattle.rw_wal_format.specs.Skipped.{type_of_byte, skipped_type, type_number, loses_samples};
 
-/// The type of a record that is passed over, since it holds neither series nor samples.
+/// The type of a record that is skipped, since it holds neither series nor samples.
 #[derive(Clone, Copy, Debug, PartialEq, Eq, Drop)]
 pub enum SkippedType {
     /// An empty record, or one of a type that is not listed here.
@@ -27,7 +27,7 @@ pub enum SkippedType {
 }
 
 impl SkippedType {
-    /// The type that a record's first byte stands for.
+    /// Returns the type that a record's first byte stands for.
     #[tactic(auto, unfolding(crate::specs::Skipped::type_of_byte))]
     pub fn from_byte(byte: u8) -> SkippedType
         ensures { result ≡ type_of_byte byte }
@@ -45,7 +45,7 @@ impl SkippedType {
         }
     }
 
-    /// The type of a record that is passed over.
+    /// Returns the type of a skipped record.
     pub fn of(bytes: &[u8]) -> SkippedType
         ensures { result ≡ skipped_type bytes.now }
     {
@@ -55,7 +55,7 @@ impl SkippedType {
         SkippedType::from_byte(bytes[0])
     }
 
-    /// The byte that stands for the type, which is at most 10; 0 for `Unknown`.
+    /// Returns the byte that stands for the type, at most 10, or 0 for `Unknown`.
     pub fn number(self) -> u8
         ensures number { result ≡ type_number self }
         ensures small { result < 11 }
@@ -73,7 +73,8 @@ impl SkippedType {
         }
     }
 
-    /// Whether such a record may hold samples, which are lost when it is passed over: one of histograms does, and one of an unknown type may.
+    /// Returns whether such a record may hold samples, which are lost when it is skipped: one of
+    /// histograms does, and one of an unknown type may.
     pub fn loses_samples(self) -> bool
         ensures { result ≡ loses_samples self }
     {
@@ -90,7 +91,7 @@ impl SkippedType {
         }
     }
 
-    /// The name of the type, as Prometheus has it.
+    /// Returns the name of the type, as Prometheus has it.
     pub fn name(self) -> &'static str {
         match self {
             SkippedType::Unknown => "unknown",

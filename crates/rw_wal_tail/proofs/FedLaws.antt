@@ -1,4 +1,4 @@
--- A reader that is told more, and one that answers.
+-- A reader that is fed more, and one that answers.
 use Rattle.std.proofs.Common.{◌≡◌, ℕ, ◌+◌, ◌≤◌, List, [], ◌∷◌, ◌++◌, length, Option, Some, None, Result, Ok, Err, Bool, true, false, nat_lt, ltb, refl, sym, ap, ◌∙◌, arith, append_assoc, append-nil, length-append, lt-ltb, le-ltb, subst}
 use Rattle.std.specs.Prelude.{slice_get, if◌then◌else◌}
 use Rattle.rw_types.specs.declared.entry.Entry.{Entry}
@@ -176,7 +176,7 @@ module _ (ps : List Piece) (given : List Entry) (r : Reader) (f : Follows ps giv
   pub has_fault : (x : TailFault) → r.fault ≡ Some x → r.ready.items ≡ [] → fault ps ≡ Some x
   has_fault x e n = ap (λ (y : Reading). fault_at y.stop) (fails_at x e n)
 
-  -- the place of the fault is that of what stands at the reader's front
+  -- the place of the fault is that of what comes at the reader's front
   pub places_fault : (x : TailFault) → r.fault ≡ Some x → r.ready.items ≡ [] → fault_place ps ≡ Some (front_of r.input)
   unfolding fault_place
   places_fault x e n =
@@ -214,7 +214,7 @@ module _ (ps : List Piece) (t : Fed) (count : ℕ) (told : Option TailFault) whe
 
 -- ---- more pieces
 
--- what is told stays so
+-- what was reported does not change
 pub still_stuck : (old new : Reader) (told : Option TailFault) → new.fault ≡ old.fault → new.ready ≡ old.ready → IsStuck old told → IsStuck new told
 still_stuck old new None f r s = tt
 still_stuck old new (Some x) f r s = (f ∙ s.0, ap (λ q. q.items) r ∙ s.1)

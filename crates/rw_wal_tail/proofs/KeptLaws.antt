@@ -75,7 +75,7 @@ kept_fed old new b n i d p room k =
       ends = omega (arith, e, g.ends_same, k.ends);
     }
 
--- the same where feeding may be refused
+-- the same if feeding may fail
 pub kept_feed : {T E : Type 0} (r : Result T E) (old new : Reader) (b : List ℕ) (n : ℕ) → OnOk r (new.input ≡ fed b old.input) → OnErr r (new.input ≡ old.input) → new.begun.items ≡ old.begun.items → new.passed ≡ old.passed
     → length old.begun.items + (unread old.input + length b) ≤ vec_capacity new.begun → vec_capacity old.begun ≤ vec_capacity new.begun → IsKept n old → MatchResult r (λ _. IsKept (n + length b) new) (λ _. IsKept n new)
 kept_feed (Ok x) old new b n i e d p room c k = kept_fed old new b n i d p room k
@@ -103,7 +103,7 @@ kept_marked old new n i d p k =
 
 -- ---- steps
 
--- new is old after so many bytes, of which m at most are joined to the data of a record
+-- new is old after n bytes, of which m at most are joined to the data of a record
 pub kept_passed : (old new : Reader) (n m k : ℕ) → new.input ≡ passed n old.input → n ≤ length old.input.rest → m < n → length new.begun.items ≤ length old.begun.items + m
     → vec_capacity old.begun ≤ vec_capacity new.begun → length new.passed ≤ length old.passed + 1 → IsKept k old → IsKept k new
 kept_passed old new n m k i le lt d c p kept =
@@ -153,7 +153,7 @@ skip_by t false = omega arith
 pub skip_within : (passed after : List SkippedType) (d : List ℕ) → after ≡ passed ++ skips_of d → length after ≤ length passed + 1
 skip_within passed after d e = omega (arith, ap length e, length-append passed (skips_of d), skip_by (skipped_type d) (is_skipped d))
 
--- ---- where memory may be refused
+-- ---- if memory may run out
 
 cannot_by : (a b : ℕ) (p q : Bool) → ltb a (2 ^ 60) ≡ p → ltb b (2 ^ 60) ≡ q → (p && q) ≡ false → (2 ^ 60 ≤ a) ⊎ (2 ^ 60 ≤ b)
 cannot_by a b false q e f h = inl (ltb-false a (2 ^ 60) e)
@@ -240,7 +240,7 @@ tail_lacks ps t count told given n r v c f lacks = subst (λ (x : Fed). (x.given
   | inr m ↦ inr m
 ])
 
--- a fault of the log is not that memory is refused
+-- a fault of the log is not out of memory
 pub not_of_log : (f : TailFault) → IsOfLog (Some f) → (let e : Result (Option Entry) TailFault = Err f in e ≡ Err OutOfMemory) → ⊥
 not_of_log f l e = let same : f ≡ OutOfMemory = cc in subst (λ x. IsOfLog (Some x)) same l
 

@@ -8,7 +8,7 @@ use Rattle.rw_wal_format.specs.Skipped.{type_number}
 use Rattle.rw_wal_format.specs.declared.skipped_type.SkippedType.{SkippedType}
 use Rattle.rw_wal_tail.specs.Skips.{AreCounted}
 
--- so many of the types have this number
+-- this many of the types have this number
 abbrev numbered : ℕ → List SkippedType → ℕ
 numbered n types = count_by (λ t. type_number t == n) types
 

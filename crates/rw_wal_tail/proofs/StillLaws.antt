@@ -160,7 +160,7 @@ module _ (left : ℕ) (l : 0 < left) (rest : List ℕ) where
     unfolding still
     still_torn o d w later t = ap (after es n) (ap (λ (r : Reading). then_next r (reading_after page_size [] (w ++ later))) (inside_read o d t))
 
-    -- what is read where nothing more has come
+    -- what is read if nothing more has come
     pub still_waits : (o : Bool) (d : List ℕ) → (item_at left rest ≡ nothing) ⊎ (item_at left rest ≡ begun)
         → (s : Stop) × (still es n None left o d rest [] [] ≡ after es n (stopped s)) × NoFault s
     unfolding still

@@ -1,4 +1,4 @@
--- What waits after the segment at hand.
+-- What waits after the current segment.
 use Rattle.std.proofs.Common.{◌≡◌, ℕ, ◌<◌, List, [], ◌∷◌, ◌++◌, Option, Some, None, Bool, true, false, refl, sym, ap, ◌∙◌, ◌⊎◌}
 use Rattle.rw_types.specs.declared.entry.Entry.{Entry}
 use Rattle.rw_wal_format.specs.Segments.{nothing, begun, item_at, read_from, segment}
@@ -11,7 +11,7 @@ use Rattle.rw_wal_tail.specs.Held.{Held, waiting, has_ended, begun_with, extend_
 use Rattle.rw_wal_tail.specs.Still.{after, open_data, still}
 use Rattle.rw_wal_tail.proofs.StillLaws.{none_first, still_next, still_torn}
 
--- where the segment at hand has ended, the next one is the first that waits
+-- if the current segment has ended, the next one is the first that waits
 next_waits : (later : List (ℕ × List ℕ)) (ended : Bool) → has_ended later ended ≡ true → (w : List Piece) × (waiting later ended ≡ next_segment ∷ w)
 next_waits [] true h = ([], refl)
 next_waits [] false h = absurd cc

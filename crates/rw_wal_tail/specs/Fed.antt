@@ -16,7 +16,8 @@ use Rattle.rw_wal_tail.specs.Places.{stop_after}
 use Rattle.rw_wal_tail.specs.Placed.{ends_after}
 use Rattle.rw_wal_tail.specs.Steps.{IsReader, still_read, still_place, Counts, IsKept}
 
--- the pieces that were fed, the number of entries that were given, and the types of the records that were passed over
+-- the pieces that were fed, the number of entries that were returned, and the types of the skipped
+-- records
 pub record Fed : Type 0 where
   pub pieces : List pieces.Piece
   pub given : ℕ
@@ -25,7 +26,7 @@ pub record Fed : Type 0 where
   -- the fault that `next_entry` has answered, if it has
   pub fault : Option TailFault
 
--- what stands at the end of the entries
+-- what comes at the end of the entries
 abbrev pub end_of : Option TailFault → Result (Option Entry) TailFault
 end_of None = Ok None
 end_of (Some f) = Err f
@@ -34,7 +35,7 @@ end_of (Some f) = Err f
 unfoldable pub next_of : List pieces.Piece → ℕ → Result (Option Entry) TailFault
 next_of ps n = if nat_lt n (length (entries ps)) then Ok (slice_get (entries ps) n) else end_of (fault ps)
 
--- what a reader is after an answer: want of memory changes nothing
+-- what a reader is after an answer: running out of memory changes nothing
 unfoldable pub answered : Fed → Result (Option Entry) TailFault → Fed
 answered t (Ok (Some e)) = record t { given = t.given + 1 }
 answered t (Ok None) = record t { skipped = skipped t.pieces }
@@ -73,7 +74,7 @@ pub record Follows (ps : List pieces.Piece) (given : List Entry) (r : Reader) : 
   pub counts : Counts (ends_after 0 ps) r
   pub stops : (later : List pieces.Piece) → stop_after page_size 0 [] (ps ++ later) ≡ still_place r (ends_after 0 ps) later
 
--- nothing is ready, and this is the reader's fault, where there is one
+-- nothing is ready, and this is the reader's fault, if there is one
 abbrev pub IsStuck : Reader → Option TailFault → Type 0
 IsStuck r None = Unit {0}
 IsStuck r (Some f) = (r.fault ≡ Some f) × (r.ready.items ≡ [])

@@ -25,7 +25,7 @@ waiting_of r = waiting r.input.later r.input.ended
 abbrev pub still_read : Reader → List Piece → Reading
 still_read r later = still r.ready.items r.passed r.fault r.left r.is_open r.begun.items r.input.rest (waiting_of r) later
 
--- where the reading stops of what it still reads, where so many segments have ended
+-- where the reading stops of what it still reads, if this many segments have ended
 abbrev pub still_place : Reader → ℕ → List Piece → FaultPlace
 still_place r ends later = place_from r.fault r.left (open_data r.is_open r.begun.items) r.input ends later
 
@@ -73,7 +73,7 @@ pub record CanStep (r : Reader) : Type 0 where
   pub none_ready : r.ready.items ≡ []
   pub no_fault : r.fault ≡ None
 
--- what has come of the segment at hand ends here, inside a record or fragment or not
+-- what has come of the current segment ends here, inside a record or fragment or not
 pub record PausesAt (is_inside : Bool) (r : Reader) : Type 0 where
   pub can_step : CanStep r
   pub ends : ((item_at r.left r.input.rest ≡ begun) × (is_inside ≡ true)) ⊎ ((item_at r.left r.input.rest ≡ nothing) × (is_inside ≡ r.is_open))
@@ -98,7 +98,7 @@ goes_on first = false
 goes_on middle = true
 goes_on last = true
 
--- a fragment of this kind stands there, with so many bytes
+-- a fragment of this kind comes there, with this many bytes
 pub record FoundFragment (kind : grammar.Kind) (n : ℕ) (r : Reader) : Type 0 where
   pub can_step : CanStep r
   pub whole : 7 + n ≤ length r.input.rest
@@ -136,7 +136,8 @@ Ran More r = 0 < length r.ready.items
 Ran Waits r = Ends r
 Ran (Failed f) r = (r.fault ≡ Some f) × (r.ready.items ≡ [])
 
--- There is room for the data of a record in fragments, whatever is not read, and n bounds all counts.
+-- There is room for the data of a record in fragments, whatever is not read, and n bounds all
+-- counts.
 pub record IsKept (n : ℕ) (r : Reader) : Type 0 where
   pub room : length r.begun.items + unread r.input ≤ vec_capacity r.begun
   pub passed : length r.passed + unread r.input ≤ n
@@ -147,6 +148,6 @@ pub record IsKept (n : ℕ) (r : Reader) : Type 0 where
 abbrev pub GivesNext : Reader → Type 0
 GivesNext r = 0 < length (still_read r []).entries
 
--- memory may be refused: an entry comes next, or a count has come to its end
+-- memory may run out: an entry comes next, or a count has come to its end
 abbrev pub MayLack : ℕ → Reader → Type 0
 MayLack n r = GivesNext r ⊎ (2 ^ 60 ≤ n)

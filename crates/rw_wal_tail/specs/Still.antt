@@ -7,7 +7,7 @@ use Rattle.rw_wal_format.specs.Pieces.{Piece, page_size}
 use Rattle.rw_wal_format.proofs.Tailing.{read_on}
 use Rattle.rw_wal_format.specs.declared.tail_fault.TailFault.{TailFault}
 
--- first these entries and records passed over of these types, and then a reading
+-- first these entries and skipped records of these types, and then a reading
 abbrev pub after : List Entry → List SkippedType → Reading → Reading
 after front n r = record { entries = front ++ r.entries; skipped = n ++ r.skipped; stop = r.stop }
 
@@ -21,6 +21,7 @@ abbrev pub from_here : Option TailFault → ℕ → Option (List ℕ) → List �
 from_here None left so_far rest later = read_on page_size left so_far rest later
 from_here (Some f) left so_far rest later = stopped (at_fault f)
 
--- the entries that are ready, and then the reading of the bytes at hand, of the pieces that wait and of those that come later
+-- the entries that are ready, and then the reading of the bytes in the buffer, of the pieces that
+-- wait and of those that come later
 unfoldable pub still : List Entry → List SkippedType → Option TailFault → ℕ → Bool → List ℕ → List ℕ → List Piece → List Piece → Reading
 still ready passed fault left is_open d rest waiting later = after ready passed (from_here fault left (open_data is_open d) rest (waiting ++ later))

@@ -16,7 +16,7 @@ pub record HasRead (pieces : List Piece) (taken : List Entry) (found : Option Ta
   pub all : taken ≡ entries pieces
   pub fault_is : fault pieces ≡ found
 
--- all entries were taken, with this fault after them, or none, and what was passed over is counted
+-- all entries were taken, with this fault after them, or none, and the skipped records are counted
 pub record HasTakenAll (t : Fed) (taken : List Entry) (found : Option TailFault) : Type 0 where
   pub taken_all : HasTaken t taken
   pub read : HasRead t.pieces taken found

@@ -1,5 +1,5 @@
 //! Reads a Prometheus write-ahead log (wal.md) while it grows: bytes go in, in any pieces, and
-//! entries come out. A fault is reported where the format has it.
+//! entries come out. A fault is reported at the place where the format has it.
 //!
 //! No contract says how much memory a reader holds. By its code it does not keep the entries that
 //! it returned. Between calls it holds what it was fed and has not read yet, in one buffer for each

@@ -37,7 +37,7 @@ pub(crate) struct Reader {
     pub(crate) begun: Vec<u8>,
     pub(crate) is_open: bool,
     pub(crate) ready: VecDeque<Entry>,
-    /// The records that were passed over.
+    /// The skipped records.
     pub(crate) passed: Skips,
     pub(crate) fault: Option<TailFault>,
 }

@@ -1,4 +1,4 @@
-//! The records that were passed over, counted by type.
+//! The skipped records, counted by type.
 
 ghost use Rattle.std.specs.Prelude.{◌≡◌, ◌<◌, ◌+◌, ◌^◌, ◌++◌, ◌∷◌, [], length};
 ghost use Rattle.rw_wal_format.specs.Skipped.{count_of};
@@ -7,7 +7,7 @@ use rw_history::History;
 use rw_wal_format::SkippedType;
 use std::marker::Model;
 
-/// How many records were passed over, in all and of each type. Contracts see their types, in order.
+/// How many records were skipped, in all and of each type. Contracts see their types, in order.
 #[derive(Drop)]
 pub(crate) struct Skips {
     types: History<SkippedType>,
@@ -39,7 +39,7 @@ impl Skips {
         }
     }
 
-    /// One more record, of this type.
+    /// Counts one more record, of this type.
     pub(crate) fn push(&mut self, kind: SkippedType)
         requires { length self.old + 1 < 2 ^ 60 }
         ensures { self.new ≡ self.old ++ kind ∷ [] }
@@ -49,21 +49,21 @@ impl Skips {
         self.of_type[kind.number() as usize] += 1;
     }
 
-    /// How many records there are.
+    /// Returns how many records there are.
     pub(crate) fn len(&self) -> u64
         ensures { result ≡ length self.now }
     {
         self.all
     }
 
-    /// How many of them are of this type.
+    /// Returns how many of them are of this type.
     pub(crate) fn count_of(&self, kind: SkippedType) -> u64
         ensures { result ≡ count_of kind self.now }
     {
         self.of_type[kind.number() as usize]
     }
 
-    /// A second value with the same counts.
+    /// Returns a second value with the same counts.
     pub(crate) fn again(&self) -> Skips
         ensures { result ≡ self.now }
     {

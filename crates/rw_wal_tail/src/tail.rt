@@ -131,9 +131,11 @@ impl Tail {
         }
     }
 
-    /// The next entry; `None` where what was fed ends before another one. A fault is reported after all entries before it, and then again by each later call.
+    /// Returns the next entry, or `None` if what was fed ends before another one. A fault is
+    /// reported after all entries before it, and then again by each later call.
     ///
-    /// After `OutOfMemory` the same call may be made again. It is also the answer where a count would reach 2^60.
+    /// After `OutOfMemory` the same call may be made again. It is also the result if a count would
+    /// reach 2^60.
     pub fn next_entry(&mut self) -> Result<Option<Entry>, TailFault>
         ensures answer { (result ≡ Err OutOfMemory)
             ⊎ (result ≡ next_of self.old.pieces self.old.given) }
@@ -143,7 +145,7 @@ impl Tail {
             → TakesNext taken result self.new }
         ensures pieces { self.new.pieces ≡ self.old.pieces }
 
-        // Memory is refused only if an entry comes next, or if a count has come to its end: neither a
+        // Memory runs out only if an entry comes next, or if a count has come to its end: neither a
         // fault nor the end of the log waits for memory.
         ensures certain { result ≡ Err OutOfMemory
             → (self.old.given < length (entries self.old.pieces))
@@ -185,14 +187,16 @@ impl Tail {
         self.count
     }
 
-    /// How many records were passed over, since they are empty or of another type, up to where `next_entry` last found no entry.
+    /// Returns how many records were skipped, since they are empty or of another type, up to the
+    /// point at which `next_entry` last found no entry.
     pub fn skipped(&self) -> u64
         ensures { result ≡ length self.now.skipped }
     {
         self.skipped.len()
     }
 
-    /// How many of these records are of a type. The numbers of all types add up to `skipped`.
+    /// Returns how many of these records are of a type. The numbers of all types add up to
+    /// `skipped`.
     pub fn skipped_of(&self, kind: SkippedType) -> u64
         ensures { result ≡ count_of kind self.now.skipped }
     {

@@ -22,7 +22,7 @@ use std::alloc::{AllocError, Global};
 use std::marker::Model;
 use std::sync::Arc;
 
-/// A shard: its queue, and the core behind it.
+/// A shard: its queue, and the core that takes from it.
 #[derive(Drop)]
 pub(crate) struct WorldShard {
     queue: PlainQueue,

@@ -15,7 +15,7 @@ use rw_words::bad_address;
 use std::io::{Error, IsTerminal};
 use std::process::ExitCode;
 
-/// The exit status for arguments and settings that the program does not take.
+/// The exit status for arguments and settings that are not valid.
 const BAD_ARGUMENTS: u8 = 2;
 
 /// The exit status for dropped samples, if they are a fault.
@@ -27,7 +27,7 @@ const EMPTY: u8 = 1;
 /// The exit status for positions that have no entry.
 const NOT_THERE: u8 = 1;
 
-/// The exit status for work that something outside has cut off.
+/// The exit status for work that was ended from outside.
 const CUT_OFF: u8 = 4;
 
 /// Writes the one line of a fault to standard error, and returns its exit status.
@@ -44,7 +44,7 @@ pub fn report_result(rt: &HostRuntime, outcome: Result<(), ToolFault>) -> ExitCo
     }
 }
 
-/// Reports why a log was followed no further, and returns the exit status.
+/// Reports why following a log ended, and returns the exit status.
 pub fn report_follow_fault(rt: &HostRuntime, fault: FollowFault) -> ExitCode
     ensures { process.exit_status result ≡ follow_status fault }
 {
@@ -91,7 +91,7 @@ pub fn point_to_explain(rt: &HostRuntime) {
     }
 }
 
-/// Prints what could not be done with what, and what the system said.
+/// Prints what could not be done with what, and the error of the system.
 pub fn print_device_error(rt: &HostRuntime, action: &str, name: &str, error: &Error) {
     let _ = eprintln!(rt; "  cannot {action} {name}: {error}");
 }

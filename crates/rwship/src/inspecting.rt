@@ -152,7 +152,7 @@ pub fn print_found(
     Ok(found.missing)
 }
 
-/// Prints what a table says of a fault, at its end.
+/// Prints the end of a table that describes a fault.
 fn print_table_end(rt: &HostRuntime, table: &str) {
     let mut has_begun = false;
     for line in table.lines() {
@@ -179,7 +179,7 @@ fn print_damage(rt: &HostRuntime, dir: LogDir<'_>) {
     }
 }
 
-/// Prints which segment cannot be opened, the first one.
+/// Prints the first segment that cannot be opened.
 fn print_first_closed(rt: &HostRuntime, dir: LogDir<'_>) -> Result<(), AllocError> {
     for segment in files_of(rt, dir, None)?.files {
         let path = Path::new(dir.path).join(rt.alloc(), segment.place().name())?;
@@ -191,7 +191,7 @@ fn print_first_closed(rt: &HostRuntime, dir: LogDir<'_>) -> Result<(), AllocErro
     Ok(())
 }
 
-/// Prints what cannot be read of a folder, which is tried once more for that.
+/// Prints what in a folder cannot be read; this is found by a second try.
 fn print_unreadable(rt: &HostRuntime, dir: LogDir<'_>) {
     match fs::read_dir(rt, dir.path) {
         Ok(_) => {
@@ -201,7 +201,7 @@ fn print_unreadable(rt: &HostRuntime, dir: LogDir<'_>) {
     }
 }
 
-/// Prints what is wrong with the log in a folder that could not be shipped for this fault.
+/// Prints what is wrong with the log in a folder that could not be shipped because of this fault.
 fn print_log_fault(rt: &HostRuntime, dir: LogDir<'_>, fault: ToolFault) {
     match fault {
         ToolFault::Log(_) => print_damage(rt, dir),

@@ -8,7 +8,7 @@ use std::io::{Error, IsTerminal};
 use std::net::TcpListener;
 use std::thread::Threads;
 
-/// Says that an address cannot be listened at, and why.
+/// Reports that the program cannot listen at an address, and why.
 pub fn print_listen_error(rt: &HostRuntime, listen: Address<'_>, error: &Error) {
     let Address { host, port } = listen;
     let _ = eprintln!(rt; "  cannot listen on {host}:{port}: {error}");

@@ -29,7 +29,7 @@ use std::time::{Clock, Duration};
 enum Log {
     /// The files of the folder.
     Whole(LogFiles<HostRuntime>),
-    /// The folder while it grows, and what says when that ends.
+    /// The folder while it grows, and the watch that ends it.
     Growing(Folder<HostRuntime>, Timed<HostRuntime>),
 }
 

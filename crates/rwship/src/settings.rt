@@ -77,7 +77,7 @@ pub fn settings_in(rt: &HostRuntime, file: SettingsFile<'_>) -> Result<Settings,
     }
 }
 
-/// The settings that are asked for, as a text that gives each key.
+/// Returns the settings that are asked for, as a text with each key.
 pub fn settings_text(rt: &HostRuntime, file: SettingsFile<'_>) -> Result<String, Unset>
     ensures { file.entry.path ≡ None
         → IfOk result (λ t. IsOkAnd (toml.settings_in []) (λ s. string_bytes t ≡ settings_text s)) }

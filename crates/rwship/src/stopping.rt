@@ -1,4 +1,4 @@
-//! What tells the program to stop.
+//! The stop signal of the program.
 
 use rw_follow::{StopRequest, StopSignal, watch_file, watch_input};
 use rw_send::StopFlag;
@@ -16,8 +16,8 @@ fn forward_abort(signal: &StopSignal, workers: &Option<StopFlag>) {
 }
 
 /// Returns a signal that is set by the file or, if none is given, by standard input. If that asks
-/// to end at once, the flag of the workers is set after the signal. Nobody waits for the thread
-/// that sets it.
+/// to end at once, the flag of the workers is set after the signal. The thread that sets it is
+/// never joined.
 pub fn stop_signal<R: Threads>(
     rt: &HostRuntime,
     threads: &R,

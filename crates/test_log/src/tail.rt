@@ -598,7 +598,7 @@ fn put_skipped(text: &mut Vec<u8>) -> Result<(), AllocError> {
     put_fragment(text, 1, &[7, 9])
 }
 
-/// How many records a reader has passed over of each type.
+/// Returns how many records of each type a reader has skipped.
 fn counts(tail: &Tail) -> [u64; 9] {
     [
         tail.skipped_of(SkippedType::Unknown),
@@ -613,7 +613,8 @@ fn counts(tail: &Tail) -> [u64; 9] {
     ]
 }
 
-/// Whether a reader counts these records by type, once it has read to their end, and so does its copy.
+/// Whether a reader counts these records by type, once it has read to their end, and so does its
+/// copy.
 fn are_counted_by_type(alloc: Global) -> bool {
     let mut text = Vec::new(alloc);
     if put_skipped(&mut text).is_err() {

@@ -168,8 +168,8 @@ static ROWS: [Row; 19] = [
     ),
 ];
 
-/// Whether a head that stages the body, and aborts it, finds as `admit` does whether it is full.
-/// Returns the head.
+/// Returns the head, and whether it finds as `admit` does whether it is full when it stages the
+/// body and aborts it.
 fn stages(head: Head, body: &[u8], capacity: &Capacity, is_full: bool) -> (Head, bool) {
     match head.stage(body) {
         Ok(staged) => {
@@ -202,7 +202,7 @@ fn is_admitted(alloc: Global, head: Head, row: &Row) -> (Head, bool) {
     )
 }
 
-/// The first row that goes wrong.
+/// Returns the first row that goes wrong.
 fn wrong_row(alloc: Global) -> Option<&'static str> {
     let Ok(mut head) = standard(alloc) else {
         return Some("a head");
@@ -222,8 +222,8 @@ fn a_head_holds_no_more_than_its_capacity(rt: HostRuntime) {
     none_differs(&rt, wrong_row(rt.alloc()));
 }
 
-/// Whether a head that is full of nothing answers bytes that are no message with 400, and a head
-/// without limits is that of `Capacity::unlimited`.
+/// Returns whether a head with a capacity of 0 answers bytes that are not a message with 400, and a
+/// head without limits is that of `Capacity::unlimited`.
 fn judges_first(alloc: Global) -> bool {
     let Ok(mut head) = standard(alloc) else {
         return false;

@@ -8,7 +8,7 @@ use std::alloc::Global;
 use std::time::Clock;
 
 /// Makes this request once it was asked `looks` times. What was fed is flushed at once, or never,
-/// and so is the number of shards asked for.
+/// and the number of shards is adjusted likewise.
 #[derive(Drop)]
 pub(crate) struct Countdown {
     pub(crate) looks: u32,
@@ -16,7 +16,7 @@ pub(crate) struct Countdown {
     pub(crate) flushes: bool,
     pub(crate) reshards: bool,
     pub(crate) said: StopRequest,
-    /// The sleeps so far. The greatest number stands for more, too.
+    /// The sleeps so far; the greatest number also stands for more.
     pub(crate) sleeps: u32,
 }
 

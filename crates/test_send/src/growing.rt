@@ -6,7 +6,7 @@ use crate::countdown::Countdown;
 use crate::kept::{Kept, follow_into};
 use crate::rows::none_is_wrong;
 use Happens::{Gap, More, Next, Quiet, Turn};
-use rw_follow::{Event, FollowEnd, Listed, SegmentError, StopRequest};
+use rw_follow::{Event, Listed, SegmentError, StopRequest};
 use std::alloc::{AllocError, Global};
 use std::collections::VecDeque;
 use std::sync::Wait;
@@ -23,14 +23,14 @@ enum Happens<'a> {
 }
 
 /// What happens, after how many looks it is to stop, by which request, in pieces of how many bytes;
-/// how the following ends, the segments that were given whole, the beginning of the next one, and
-/// how often it was flushed.
+/// how the following ends, the segments that were read whole, the part of the next one, and how
+/// often it was flushed.
 type Row<'a> = (
     &'a [Happens<'a>],
     u32,
     StopRequest,
     usize,
-    Result<FollowEnd, Option<u64>>,
+    Result<StopRequest, Option<u64>>,
     &'a [&'a [u8]],
     &'a [u8],
     u64,
@@ -66,7 +66,7 @@ fn followed<R: Wait>(
     kept: &mut Kept,
     row: &Row<'_>,
     buf: &mut [u8],
-) -> Result<Result<FollowEnd, Option<u64>>, AllocError>
+) -> Result<Result<StopRequest, Option<u64>>, AllocError>
     requires { 0 < length buf.old }
 {
     let mut watch = Countdown {
@@ -127,7 +127,7 @@ fn wrong_row<R: Wait>(
     Ok(None)
 }
 
-const FINISHED: Result<FollowEnd, Option<u64>> = Ok(FollowEnd::Finished);
+const FINISHED: Result<StopRequest, Option<u64>> = Ok(StopRequest::Finish);
 
 static GROWING: [Row<'static>; 9] = [
     // nothing
@@ -257,7 +257,7 @@ static STOPPED: [Row<'static>; 4] = [
         1,
         StopRequest::Abort,
         8,
-        Ok(FollowEnd::Aborted),
+        Ok(StopRequest::Abort),
         &[],
         b"ab",
         1,

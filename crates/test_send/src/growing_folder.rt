@@ -120,8 +120,8 @@ impl<R: Files<File = File> + AllocGlobal> Watch for Writer<R> {
     }
 }
 
-/// What was given, a bar behind each segment that is over, and at the end the number that is
-/// missing or a point.
+/// Returns what was read, with a bar after each segment that is over, and at the end the number
+/// that is missing or a point.
 fn text_of(alloc: Global, kept: &Kept, end: Option<u64>) -> Result<String, AllocError> {
     let mut text = Vec::new(alloc);
     for segment in &kept.whole {

@@ -2,7 +2,7 @@
 
 ghost use Rattle.std.specs.Prelude.{◌<◌, length};
 
-use rw_follow::{FollowEnd, Follower, SegmentError, Segments, Turn, Watch};
+use rw_follow::{Follower, SegmentError, Segments, StopRequest, Turn, Watch};
 use std::alloc::{AllocError, Global};
 use std::mem;
 use std::sync::Wait;
@@ -43,25 +43,26 @@ impl Kept {
                 self.flushes = self.flushes.saturating_add(1);
                 Ok(())
             }
-            Turn::Nothing | Turn::Stopped(_) => Ok(()),
+            Turn::Nothing | Turn::Finished | Turn::Aborted => Ok(()),
         }
     }
 }
 
-/// Follows a log to its end.
+/// Follows a log until it is stopped. Returns the request that it followed then.
 pub(crate) fn follow_into<R: Wait, S: Segments, W: Watch>(
     rt: &R,
     kept: &mut Kept,
     segments: &mut S,
     watch: &mut W,
     buf: &mut [u8],
-) -> Result<Result<FollowEnd, SegmentError>, AllocError>
+) -> Result<Result<StopRequest, SegmentError>, AllocError>
     requires { 0 < length buf.old }
 {
     let mut follower = Follower::new();
     for _ in rt.forever() {
         match follower.turn(segments, watch, buf) {
-            Ok(Turn::Stopped(end)) => return Ok(Ok(end)),
+            Ok(Turn::Finished) => return Ok(Ok(StopRequest::Finish)),
+            Ok(Turn::Aborted) => return Ok(Ok(StopRequest::Abort)),
             Ok(turn) => kept.take(turn, buf)?,
             Err(error) => return Ok(Err(error)),
         }

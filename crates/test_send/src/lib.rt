@@ -1,6 +1,6 @@
-//! Tests of the commands `send` and `receive` and of what they stand on: requests over TCP, a log
-//! that is followed while it grows, the receiver as a service, its stop signal and its counters;
-//! over memory, over a folder and over the loopback interface.
+//! Tests of the commands `send` and `receive` and of the parts below them: requests over TCP, a log
+//! that is followed while it grows, the receiver as a service, its stop signal and its counters; in
+//! memory, over a folder and over the loopback interface.
 #![tactic(auto)]
 
 #[cfg(test)]

@@ -15,7 +15,7 @@ fn request_after_input(alloc: Global, text: &[u8]) -> StopRequest {
     signal.request()
 }
 
-/// Returns the place of the first input after which something else is asked for.
+/// Returns the index of the first input after which something else is asked for.
 fn wrong_input(alloc: Global) -> Option<usize> {
     INPUTS.iter().position(|(text, request)| request_after_input(alloc, text) != *request)
 }
@@ -62,9 +62,9 @@ fn request_after_file<R: Clock + Files>(
     Some(signal.request())
 }
 
-/// Makes a file, which a watch has looked for then, and writes to it. Returns what was asked for
-/// after an empty file, after another line, and after the line `hard`; and asks to end at once, so
-/// that the watch ends.
+/// Makes a file that a watch looks for, and writes to it. Returns what was asked for after an empty
+/// file, after another line, and after the line `hard`; and asks to end at once, so that the watch
+/// ends.
 fn write_later<R: Clock + Files>(
     rt: &R,
     path: &str,

@@ -40,8 +40,8 @@ impl Clock for Ticks {
     }
 }
 
-/// A watch with five seconds between two looks, in which something may wait for three, and the
-/// number of shards is asked for after two. Nobody sets its signal.
+/// Returns a watch with five seconds between two looks, a flush after three, and an adjustment of
+/// the number of shards after two. Nobody sets its signal.
 fn watch_by(alloc: Global, ticks: &Ticks) -> Result<Timed<&Ticks>, AllocError> {
     let signal = Arc::new(alloc, StopSignal::new())?;
     let poll = Duration::from_secs(5);

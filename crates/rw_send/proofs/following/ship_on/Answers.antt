@@ -1,31 +1,28 @@
-use Rattle.std.proofs.Common.{◌≡◌, None, true, refl, ap, ◌∙◌}
+use Rattle.std.proofs.Common.{◌≡◌, true, refl, ap, ◌∙◌}
 use Rattle.rw_sender.specs.Feeders.{Sorting}
 use Rattle.rw_send.proofs.AnswerLemmas.{cut_for, ends_for, failed_so}
-use Rattle.rw_send.proofs.FollowLemmas.{follow_so, follow_why, halts_so, live_so, signed_answers}
+use Rattle.rw_send.proofs.FollowLemmas.{damaged_by, follow_so, follow_why, signed_answers}
 use Rattle.rw_send.proofs.EpochLemmas.{none_ended}
 use Rattle.rw_send.specs.Following.{FollowStopsAtOnce, meal_of}
 use Rattle.rw_send.proofs.following.ship_on.Goals as goal
 
-pub stopped-report-requires-clause-halted : goal.stopped-report-requires-clause-halted
-stopped-report-requires-clause-halted g c κs within =
-    halts_so c.ship_live-ended.new.shipper _ _ c.ship_live-ended.result c.shipped_by.result c.shipped_by.ensures c.ship_live-ended.ensures.cut
-
-pub stopped-report-requires-clause-live : goal.stopped-report-requires-clause-live
-stopped-report-requires-clause-live g c κs within = live_so (c.ship_live-ended.new.shipper.fault ≡ None) c.ship_live-ended.result c.shipped_by.result c.shipped_by.ensures c.ship_live-ended.ensures.live
+pub stop_shipper-report-requires-clause-halted : goal.stop_shipper-report-requires-clause-halted
+stop_shipper-report-requires-clause-halted g c κs within =
+    damaged_by c.ship_live-ended.new.shipper _ _ _ c.ship_live-ended.result c.ship_live-ended.ensures.cut
 
 pub returns : goal.returns
 returns g c =
     let live = c.ship_live-ended.ensures in
-    let stopped = c.stopped-report.ensures in
+    let stopped = c.stop_shipper-report.ensures in
     let shipper = c.ship_live-ended.new.shipper in
-    let report = c.stopped-report.result.report in
-    let signed = c.answer_signed-answer in
+    let report = c.stop_shipper-report.result.report in
+    let signed = c.or_stopped-answer in
     let unsure = g.S.Segments.is_sure c.args.segments.now ≡ true → ⊥ in
     let now = g.S.Segments.now c.ship_live-ended.new.segments in
     let said = g.W.Watch.said signed.new.watch in
     let cause = FollowStopsAtOnce now said unsure (meal_of shipper.log.pieces) signed.result in
-    let why = follow_why shipper now _ said unsure c.ship_live-ended.result c.shipped_by.result _ c.answer_by.result signed.result c.shipped_by.ensures c.answer_by.ensures signed.ensures.answer signed.ensures.watch
-    live.signed live.cut stopped.answer in
+    let why = follow_why shipper now _ said unsure c.ship_live-ended.result _ c.follow_result.result signed.result c.follow_result.ensures signed.ensures.answer signed.ensures.watch
+    live.cut stopped.answer in
     record {
       pieces = c.ship_live-ended.new.shipper.log.pieces;
       begins = live.begins;
@@ -39,14 +36,14 @@ returns g c =
         stopped = stopped.stopped;
         placed = c.update_counters.ensures.placed;
         read = c.update_counters.ensures.read;
-        ended = ends_for cause shipper report c.shipped_by.result stopped.ended stopped.hard why;
-        cut = cut_for cause shipper report c.shipped_by.result stopped.cut why;
+        ended = ends_for cause shipper report c.ship_live-ended.result stopped.ended stopped.hard why;
+        cut = cut_for cause shipper report c.ship_live-ended.result stopped.cut why;
         failed = failed_so shipper.fault report.outcome stopped.failed;
         number = live.number;
         last = live.last (none_ended _ c.in_ok-shipper.ensures.opened.1);
         capacity = c.of-sharding.ensures.capacity;
         batch = c.of-sharding.ensures.batch;
       };
-      answers = signed_answers _ _ _ _ _ c.answer_by.result c.answer_signed-answer.result c.answer_signed-answer.ensures.answer c.answer_signed-answer.ensures.watch
-          (follow_so c.ship_live-ended.new.shipper _ _ _ _ _ c.ship_live-ended.result c.shipped_by.result _ _ c.shipped_by.ensures c.answer_by.ensures live.whole live.signed live.cut stopped.answers stopped.hard);
+      answers = signed_answers _ _ _ _ _ c.follow_result.result c.or_stopped-answer.result c.or_stopped-answer.ensures.answer c.or_stopped-answer.ensures.watch
+          (follow_so c.ship_live-ended.new.shipper _ _ _ _ _ c.ship_live-ended.result _ _ c.follow_result.ensures live.whole live.signed live.cut stopped.answers stopped.hard);
     }

@@ -27,7 +27,7 @@ returns-in_err-next-clause-fails g c = err_so (FailsWith c.resharded.new.shipper
 
 pub returns-in_err-begin_segment-clause-fails : goal.returns-in_err-begin_segment-clause-fails
 returns-in_err-begin_segment-clause-fails g c =
-    err_so (FailsWith c.begin_segment.new.shipper) _ _ c.from_residual-in_err-begin_segment.ensures.1 (begin_fails c.begin_segment.new.shipper _ c.in_err-begin_segment.ensures.refused c.in_err-begin_segment.ensures.unread)
+    err_so (FailsWith c.begin_segment.new.shipper) _ _ c.from_residual-in_err-begin_segment.ensures.1 (begin_fails c.begin_segment.new.shipper _ c.in_err-begin_segment.ensures.halted c.in_err-begin_segment.ensures.refused c.in_err-begin_segment.ensures.unread)
 
 pub returns-in_err-next-clause-last : goal.returns-in_err-next-clause-last
 returns-in_err-next-clause-last g c = λ done.

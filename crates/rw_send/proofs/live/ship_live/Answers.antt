@@ -1,6 +1,6 @@
 use Rattle.std.proofs.Common.{◌≡◌, true, Ok, Err, ap, ◌∙◌}
 use Rattle.rw_send.specs.Following.{IsCut}
-use Rattle.rw_send.proofs.FollowLemmas.{begins_turn, cut_broken, cut_halted, cut_live, cut_short, cut_signed, halts_for}
+use Rattle.rw_send.proofs.FollowLemmas.{begins_turn, cut_broken, cut_halted, err_so, halts_for, on_err}
 use Rattle.rw_send.proofs.EpochLemmas.{last_same}
 use Rattle.rw_send.proofs.FeedErrorLemmas.{count_so}
 use Rattle.rw_send.proofs.live.ship_live.Goals as goal
@@ -14,17 +14,17 @@ returns-in_err-sharding g c =
       number = c.step.ensures.number;
       last = λ done. c.step.ensures.last (c.loop.invariant.resolved done);
       short = c.step.ensures.short c.loop.invariant.short;
-      live = cut_live _ _ _ is_err;
+      live = on_err _ _ is_err;
       begins = begins_turn _ _ c.in_ok-turn.turn c.turn.new.buf _ _ c.in_ok-turn.ensures.given c.loop.invariant.given c.in_err-sharding.ensures.part;
-      whole = cut_short _ _ _ is_err;
-      signed = cut_signed _ _ _ is_err;
-      cut = cut_halted (IsCut c.step.new.shipper (g.S.Segments.now c.turn.new.segments) (g.S.Segments.is_sure c.args.segments.now ≡ true → ⊥)) _ _ is_err
-          (c.in_err-sharding.ensures.halted, halts_for c.loop.shipper c.step.new.shipper _ _ _ _ _ c.in_err-sharding.ensures.halts c.in_ok-turn.ensures.given c.loop.invariant.given c.in_ok-turn.ensures.piece (λ n e. c.in_ok-turn.ensures.some n (ap Ok e)));
+      whole = on_err _ _ is_err;
+      signed = on_err _ _ is_err;
+      cut = err_so (IsCut c.step.new.shipper (g.S.Segments.now c.turn.new.segments) _ (g.S.Segments.is_sure c.args.segments.now ≡ true → ⊥)) _ _ is_err
+          (cut_halted c.step.new.shipper _ _ _ _ c.in_err-sharding.ensures.halted (halts_for c.loop.shipper c.step.new.shipper _ _ _ _ _ c.in_err-sharding.ensures.halts c.in_ok-turn.ensures.given c.loop.invariant.given c.in_ok-turn.ensures.piece (λ n e. c.in_ok-turn.ensures.some n (ap Ok e))));
     }
 
 pub returns-in_err-turn-clause-cut : goal.returns-in_err-turn-clause-cut
 returns-in_err-turn-clause-cut g c =
-    cut_broken c.loop.shipper _ _ _ _ c.from_residual.ensures.1 (λ n e. c.in_err-turn.ensures.missing n (ap Err e)) (λ f e sure. (c.in_err-turn.ensures.sure (c.loop.invariant.sure sure)).1 f (ap Err e))
+    cut_broken c.loop.shipper _ _ _ _ _ c.from_residual.ensures.1 (λ n e. c.in_err-turn.ensures.missing n (ap Err e)) (λ f e sure. (c.in_err-turn.ensures.sure (c.loop.invariant.sure sure)).1 f (ap Err e))
 
 pub returns-in_err-turn-clause-last : goal.returns-in_err-turn-clause-last
 returns-in_err-turn-clause-last g c = λ done. last_same c.loop.shipper (c.loop.invariant.resolved done) (count_so c.loop.invariant.shards c.loop.sharding.some c.loop.sharding.few)

@@ -1,17 +1,20 @@
 use Rattle.std.proofs.Common.{true, map, refl, ap, ◌∙◌}
 use Rattle.rw_sender.specs.Feeders.{Sorting}
 use Rattle.rw_send.specs.Steps.{AreShipped, AreShippedPart}
-use Rattle.rw_send.proofs.AnswerLemmas.{answers_too, at_ok, failed_so, send_ends}
+use Rattle.rw_send.proofs.AnswerLemmas.{answers_too, at_ok, damage_of, failed_so, send_ends, unread_so}
 use Rattle.rw_send.proofs.EpochLemmas.{none_ended}
 use Rattle.rw_send.proofs.StepLemmas.{between}
 use Rattle.rw_send.proofs.send.ship.Goals as goal
 
+pub stop_shipper-sent-requires-clause-halted : goal.stop_shipper-sent-requires-clause-halted
+stop_shipper-sent-requires-clause-halted g c κs within = damage_of c.ship_all-shipped.new.shipper c.ship_all-shipped.result c.ship_all-shipped.ensures.halted
+
 pub returns : goal.returns
 returns g c =
     let all = c.ship_all-shipped in
-    let sent = c.stopped-sent in
+    let sent = c.stop_shipper-sent in
     let ends = send_ends (map g.S.Source.remaining c.args.segments.items) (map g.S.Source.is_sure c.args.segments.items) all.new.shipper.log.pieces all.new.shipper sent.result.report all.result sent.result.answer
-    sent.ensures.ended sent.ensures.hard sent.ensures.cut sent.ensures.answer all.ensures.refused all.ensures.sure in
+    all.ensures.halted sent.ensures.ended sent.ensures.hard sent.ensures.cut sent.ensures.answer all.ensures.refused all.ensures.sure in
     record {
       pieces = c.ship_all-shipped.new.shipper.log.pieces;
       begins = c.ship_all-shipped.ensures.begins;
@@ -22,7 +25,7 @@ returns g c =
         config = c.ship_all-shipped.ensures.kept.1 ∙ c.in_ok-shipper.ensures.config;
         limit_is = λ _. c.ship_all-shipped.ensures.limit ∙ c.in_ok-shipper.ensures.limit;
         pieces_are = refl;
-        stopped = c.stopped-sent.ensures.stopped;
+        stopped = c.stop_shipper-sent.ensures.stopped;
         placed = c.update_counters.ensures.placed;
         read = c.update_counters.ensures.read;
         ended = ends.0;
@@ -43,5 +46,5 @@ returns g c =
         limit_is = c.in_ok-shipper.ensures.limit;
       };
       part = between (λ fewest most. AreShippedPart fewest most true (map g.S.Source.remaining c.args.segments.items) c.in_ok-shipper.shipper c.ship_all-shipped.new.shipper) c.of-sharding.ensures.fewest c.of-sharding.ensures.most c.ship_all-shipped.ensures.part;
-      answers = answers_too _ _ (λ ok. (at_ok c.ship_all-shipped.result c.ship_all-shipped.ensures.whole ok, between (λ fewest most. AreShipped fewest most true (map g.S.Source.remaining c.args.segments.items) c.in_ok-shipper.shipper c.ship_all-shipped.new.shipper) c.of-sharding.ensures.fewest c.of-sharding.ensures.most (at_ok c.ship_all-shipped.result c.ship_all-shipped.ensures.steps ok))) (λ unread. λ sure. c.ship_all-shipped.ensures.sure sure unread) c.stopped-sent.ensures.answers;
+      answers = answers_too _ _ (λ ok. (at_ok c.ship_all-shipped.result c.ship_all-shipped.ensures.whole ok, between (λ fewest most. AreShipped fewest most true (map g.S.Source.remaining c.args.segments.items) c.in_ok-shipper.shipper c.ship_all-shipped.new.shipper) c.of-sharding.ensures.fewest c.of-sharding.ensures.most (at_ok c.ship_all-shipped.result c.ship_all-shipped.ensures.steps ok))) (λ unread. λ sure. all.ensures.sure sure (unread_so all.new.shipper all.result all.ensures.halted unread)) c.stop_shipper-sent.ensures.answers;
     }

@@ -5,7 +5,7 @@ use Rattle.rw_fleet.specs.Fleets.{EndBy}
 use Rattle.rw_fleet.specs.declared.running.Fault.{Fault}
 use Rattle.rw_sender.specs.Reports.{kind_of}
 use Rattle.rw_send.proofs.AnswerLemmas.{abandons_so, answers_orderly, answers_hard, goes_on, same_answer}
-use Rattle.rw_send.proofs.send.stopped.Goals as goal
+use Rattle.rw_send.proofs.send.stop_shipper.Goals as goal
 
 pub returns-in-None-clause-answers : goal.returns-in-None-clause-answers
 returns-in-None-clause-answers g c =
