@@ -42,8 +42,8 @@ impl Codes {
         }
     }
 
-    /// Returns the statuses that came here or there, in ascending order, each with the larger of the
-    /// two counts.
+    /// Returns the statuses that came here or there, in ascending order, each with the larger of
+    /// the two counts.
     pub(crate) fn read_with(
         &self,
         other: &Codes,

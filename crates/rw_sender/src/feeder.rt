@@ -167,8 +167,8 @@ impl Feeder {
         self.tail.skipped_of(kind)
     }
 
-    /// Returns the latest timestamp of the samples that `sent` was told of, in milliseconds. It is best
-    /// effort: no clause says what it is.
+    /// Returns the latest timestamp of the samples that `sent` was told of, in milliseconds. It is
+    /// best effort: no clause says what it is.
     pub fn newest(&self) -> i64 {
         self.newest
     }
