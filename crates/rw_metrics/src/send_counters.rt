@@ -292,7 +292,7 @@ impl SendCounters {
         self.fail(Cause::Status(status));
     }
 
-    /// An attempt has failed.
+    /// Counts an attempt that has failed.
     pub fn fail(&self, cause: Cause) {
         let failures = &self.failures;
         add(&failures.all, 1);
