@@ -43,8 +43,11 @@ pub grows_by : (a b c : Counted) (e : Entry) → Grows a b → c ≡ record { en
 grows_by a b c e g is = grows_grows a b c g (record { more = e ∷ []; entries_are = ap (λ (x : Counted). x.entries) is; here_are = ap (λ (x : Counted). x.here) is })
 
 -- what comes next is an entry, or the end
-pub next_is : (taken : List Entry) (new : Fed) (came now : Next) → came ≡ now → ComesNext taken new came → ComesNext taken new now
-next_is taken new came now is h = subst (ComesNext taken new) is h
+pub next_entry : (taken : List Entry) (new : Fed) (came : Next) (e : Entry) → came ≡ next.Entry e → ComesNext taken new came → HasTaken new (taken ++ e ∷ [])
+next_entry taken new came e is h = subst (ComesNext taken new) is h
+
+pub next_end : (taken : List Entry) (new : Fed) (came : Next) (found : Option TailFault) → came ≡ next.End found → ComesNext taken new came → HasTakenAll new taken found
+next_end taken new came found is h = subst (ComesNext taken new) is h
 
 -- how far the entries of some pieces were taken and counted
 pub record Taking (t at : Fed) (before after : Counted) : Type 0 where

@@ -1,5 +1,5 @@
 use Rattle.std.proofs.Common.{refl, ◌∙◌}
-use Rattle.rw_inspect.proofs.ReadingLemmas.{grows-none, next_is, takes_all, taking_more}
+use Rattle.rw_inspect.proofs.ReadingLemmas.{grows-none, next_end, next_entry, takes_all, taking_more}
 use Rattle.rw_inspect.proofs.reading.take_all.Goals as goal
 
 pub loop-init : goal.loop-init
@@ -9,11 +9,11 @@ pub loop-preserved : goal.loop-preserved
 loop-preserved g c =
     let taking = c.loop.invariant.taking in
     record {
-      taking = taking_more _ _ _ _ _ _ _ taking c.next_of.ensures.pieces (next_is _ _ _ _ c.in-Entry.is (c.in_ok-entry.ensures.comes _ taking.has)) c.in_ok-take-in-Entry.ensures.taken;
+      taking = taking_more _ _ _ _ _ _ _ taking c.next_of.ensures.pieces (next_entry _ _ _ _ c.in-Entry.is (c.in_ok-entry.ensures.comes _ taking.has)) c.in_ok-take-in-Entry.ensures.taken;
       task = c.in_ok-take-in-Entry.ensures.task ∙ c.loop.invariant.task;
     }
 
 pub returns-in-End-clause-ok : goal.returns-in-End-clause-ok
 returns-in-End-clause-ok g c =
     let taking = c.loop.invariant.taking in
-    takes_all _ _ _ _ _ _ taking c.next_of.ensures.pieces (next_is _ _ _ _ c.in-End.is (c.in_ok-entry.ensures.comes _ taking.has))
+    takes_all _ _ _ _ _ _ taking c.next_of.ensures.pieces (next_end _ _ _ _ c.in-End.is (c.in_ok-entry.ensures.comes _ taking.has))
