@@ -24,7 +24,8 @@ pub fn of_heads() {
 
 /// The calls of a head under a lock.
 pub fn of_shared_heads<R: Wait, L: Naming>() {
-    let _ = (Blank::new, SharedHead::<L>::seats, SharedHead::<L>::gather);
+    let _ = (Blank::new, Blank::with_capacity);
+    let _ = (SharedHead::<L>::seats, SharedHead::<L>::gather);
     let _ = (Seat::<L>::answer::<R>, Seat::<L>::ask::<R>);
     let _ = Seat::<L>::stored;
 }
