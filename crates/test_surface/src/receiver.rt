@@ -1,7 +1,8 @@
 //! The receiver: its head, alone and under a lock, and its endpoint.
 
 use rw_recv_head::{
-    Blank, Block, Head, HeldSeries, LabelSets, Limits, Naming, Seat, SharedHead, Verdict,
+    AddedSeries, Admission, Blank, Block, Capacity, Head, HeldSeries, LabelSets, Limits, Naming,
+    Seat, SharedHead, StagedHead, Verdict,
 };
 use rw_recv_http::{Answer, Asking, ServeEnd, serve};
 use rw_types::{Sink, Source};
@@ -20,6 +21,15 @@ pub fn of_heads() {
     let _ = (Head::sealed, Head::open, Head::stage, Head::admit);
     let _ = Block::samples;
     let _ = (HeldSeries::labels, HeldSeries::samples, Limits::standard);
+}
+
+/// The calls of a staged head, and of what limits a head.
+pub fn of_staged_heads() {
+    let _ = (Capacity::unlimited, Admission::status, Admission::is_full);
+    let _ = (StagedHead::added, StagedHead::exceeds);
+    let _ = (StagedHead::commit, StagedHead::abort);
+    let _ = (AddedSeries::place, AddedSeries::labels);
+    let _ = AddedSeries::copy_samples;
 }
 
 /// The calls of a head under a lock.
