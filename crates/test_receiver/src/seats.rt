@@ -277,7 +277,7 @@ fn is_one_held(asked: Asked, status: u16, is_full: bool) -> bool {
         && asked.samples == 1
 }
 
-/// Whether the seat was answered as it should be, and the head holds one sample.
+/// Returns whether the answers to a seat are right, and the head holds one sample.
 fn holds_one(outcome: Result<(bool, Head), AllocError>) -> bool {
     matches!(outcome, Ok((true, head)) if head.total() == 1)
 }

@@ -1,8 +1,8 @@
 //! The receiver: its head, alone and under a lock, and its endpoint.
 
 use rw_recv_head::{
-    AddedSeries, Admission, Blank, Block, Capacity, Head, HeldSeries, LabelSets, Limits, Naming,
-    Seat, SharedHead, StagedHead, Verdict,
+    AddedSeries, Admission, AllAdded, Blank, Block, Capacity, Head, HeldSeries, LabelSets, Limits,
+    Naming, Seat, SharedHead, StagedHead, Verdict,
 };
 use rw_recv_http::{Answer, Asking, ServeEnd, serve};
 use rw_types::{Sink, Source};
@@ -11,6 +11,7 @@ use std::sync::Wait;
 /// The types of rw_recv_head and rw_recv_http.
 pub type Types<'a, R, L> = (
     (Head, Limits, Verdict, LabelSets<'a>),
+    (Capacity, Admission, StagedHead, AllAdded<'a>),
     (SharedHead<L>, Seat<L>, Asking<'a, R, L>, ServeEnd),
 );
 
@@ -19,17 +20,17 @@ pub fn of_heads() {
     let _ = (Head::new, Head::apply, Head::answer, Head::samples);
     let _ = (Head::label_sets, Head::total, Head::series, Head::places);
     let _ = (Head::sealed, Head::open, Head::stage, Head::admit);
-    let _ = Block::samples;
+    let _ = (Block::samples, Capacity::unlimited);
     let _ = (HeldSeries::labels, HeldSeries::samples, Limits::standard);
 }
 
-/// The calls of a staged head, and of what limits a head.
-pub fn of_staged_heads() {
-    let _ = (Capacity::unlimited, Admission::status, Admission::is_full);
+/// The calls of a message that a head has staged, and of a head with a capacity.
+pub fn of_staged_messages() {
     let _ = (StagedHead::added, StagedHead::exceeds);
     let _ = (StagedHead::commit, StagedHead::abort);
     let _ = (AddedSeries::place, AddedSeries::labels);
     let _ = AddedSeries::copy_samples;
+    let _ = (Admission::status, Admission::is_full);
 }
 
 /// The calls of a head under a lock.

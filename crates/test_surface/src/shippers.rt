@@ -43,6 +43,7 @@ pub fn of_feeders() {
     let _ = (Feeder::new, Feeder::feed, Feeder::read, Feeder::place);
     let _ = (Feeder::sent, Feeder::count, Feeder::dropped);
     let _ = (Feeder::filtered, Feeder::finish);
+    let _ = (Feeder::skipped_of, Feeder::newest);
     let _ = (Cuts::within, Cuts::reset, Cuts::count);
 }
 
@@ -71,6 +72,7 @@ pub fn of_resharded_shippers<C: Connect + Drop, R: Threads + Wait + Copy + Send 
 pub fn of_loads<C: Connect + Drop>() {
     let _ = (Shipper::<C>::entries_read, Shipper::<C>::load);
     let _ = (Shipper::<C>::dropped, Shipper::<C>::filtered);
+    let _ = (Shipper::<C>::skipped_of, Shipper::<C>::newest);
 }
 
 /// The orderly stop.
