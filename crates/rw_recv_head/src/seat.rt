@@ -19,7 +19,7 @@ use std::sync::ledger::{Share, Total};
 pub struct Asked {
     /// 204, 400, 429 or 503.
     pub status: u16,
-    /// Whether it was 503 since the request would have taken the head above its capacity.
+    /// Whether the status is 503 because the request would have taken the head above its capacity.
     pub is_full: bool,
     /// Of how many label sets the head has samples from then on.
     pub label_sets: usize,

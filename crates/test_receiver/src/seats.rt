@@ -244,8 +244,8 @@ fn limited(alloc: Global, max_samples: u64) -> Result<Blank, AllocError>
     Blank::with_capacity(alloc, 2, capacity)
 }
 
-/// Whether the one seat of a head that holds a sample finds it full for two more, and is then
-/// answered a repeat. Gives the head too.
+/// Returns whether the one seat of a head that holds a sample finds it full for two more, and then
+/// has a repeat acknowledged, and the head.
 fn finds_full<L: Naming, R: Wait>(
     rt: &R,
     alloc: Global,
