@@ -79,8 +79,8 @@ impl Sharding {
         }
     }
 
-    /// Returns as many shards as are wanted under what was placed and resolved since the clock
-    /// asked last, and what waits under this load.
+    /// Returns as many shards as are wanted under what was placed and resolved since the clock last
+    /// asked for an adjustment, and what waits under this load.
     fn lately(self, load: Load) -> Sharding
         ensures shards { result.shards
             ≡ wanted self.shards (load.placed - self.placed)
