@@ -1,6 +1,6 @@
 //! Feeds a log to a shipper as it grows.
 
-ghost use Rattle.std.specs.Prelude.{◌≡◌, ◌<◌, ◌≤◌, ◌⊎◌, [], length, map, true, false, None, Ok, IfErr, IfOk, IsSome, OnOk, OnErr};
+ghost use Rattle.std.specs.Prelude.{◌≡◌, ◌<◌, ◌≤◌, ◌⊎◌, [], length, map, true, false, None, IfErr, IfOk, IsSome, OnOk, OnErr};
 ghost use Rattle.rw_follow.specs.Growth as growth;
 ghost use Rattle.rw_follow.specs.Growth.{HadAll, IsBeginning, Known, with_next, with_piece};
 ghost use Rattle.rw_follow.specs.Turns.{IsWithin, given_by};
