@@ -25,7 +25,7 @@ pub enum Turn {
     Flush,
     /// Nothing is to be done.
     Nothing,
-    /// It was asked to finish, and all that the log had was given.
+    /// It was asked to finish, and everything that the log had was read.
     Finished,
     /// It was asked to end at once.
     Aborted,

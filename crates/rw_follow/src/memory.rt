@@ -20,7 +20,7 @@ pub enum Event {
     More(Vec<u8>),
     /// A new segment comes, with its bytes.
     Next(Vec<u8>),
-    /// The current segment grows, if it is the last one, and then a segment comes.
+    /// The current segment grows, if it is the last one, and then a new segment comes.
     Turn(Vec<u8>, Vec<u8>),
     /// The segment of this number is missing after the last one.
     Gap(u64),
@@ -69,7 +69,7 @@ impl Listed {
         }
     }
 
-    /// Lets the current segment grow, if it is the last one.
+    /// Appends to the current segment, if it is the last one.
     fn grow(&mut self, bytes: &[u8]) -> Result<(), ReadFault>
         ensures { Later self.old [] self.new }
     {
@@ -92,7 +92,7 @@ impl Listed {
         Ok(())
     }
 
-    /// Lets one event happen. If memory runs out, some of it does not.
+    /// Lets one event happen. If memory runs out, only part of it happens.
     fn play(&mut self) -> Result<(), ReadFault>
         ensures { Later self.old [] self.new }
     {

@@ -21,14 +21,14 @@ pub enum Ahead {
 /// The segments of a log, read in order while the log grows at its end. The log may grow before
 /// each call and within one.
 pub trait Segments {
-    /// What is there, and what was given of it, if that is known.
+    /// What exists, and how much of it was read, if that is known.
     ghost now: { Self → Option Moment };
 
     /// Whether no call from here on fails.
     ghost is_sure: { Self → Bool };
 
     /// Reads some bytes of the current segment into the front of the buffer, and returns how many.
-    /// `Ok(0)` into a buffer that is not empty: nothing is left of it now.
+    /// `Ok(0)` into a buffer that is not empty means that nothing is left of it now.
     fn read(&mut self, buf: &mut [u8]) -> Result<usize, ReadFault>
         ensures bound { ReadsAtMost result buf.new }
         ensures reads { Reads (now self.old) (now self.new) result buf.new }

@@ -31,6 +31,6 @@ pub struct Report {
     /// The positions of the first ten samples that are not later than the last one of their series.
     pub first_not_rising: Vec<u64>,
     pub damage: Option<Damage>,
-    /// The records that were passed over, by type. No clause says what these are.
+    /// The skipped records, by type. No clause says what these are.
     pub skipped: Vec<SkippedRecords>,
 }

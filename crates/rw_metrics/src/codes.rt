@@ -22,7 +22,7 @@ impl Codes {
         Ok(Codes { counts })
     }
 
-    /// Counts a status as often as that.
+    /// Counts a status this many times.
     pub(crate) fn add(&self, status: u16, times: u64) {
         if let Some(count) = self.counts.get(status as usize) {
             count.fetch_add(times, Ordering::Relaxed);
@@ -42,8 +42,8 @@ impl Codes {
         }
     }
 
-    /// Returns the statuses that came here or there, in ascending order, each with the larger of the
-    /// two counts.
+    /// Returns the statuses that came here or there, in ascending order, each with the larger of
+    /// the two counts.
     pub(crate) fn read_with(
         &self,
         other: &Codes,
@@ -61,7 +61,7 @@ impl Codes {
         Ok(came)
     }
 
-    /// Returns the statuses that came, in ascending order, each with how often.
+    /// Returns the statuses that came, in ascending order, each with how often it came.
     pub(crate) fn read(&self, alloc: Global) -> Result<Vec<(u16, u64)>, AllocError> {
         self.read_with(self, alloc)
     }

@@ -157,10 +157,10 @@ fn push_reading_line(out: &mut Vec<u8>, n: &SendNumbers) -> Result<(), AllocErro
     Ok(())
 }
 
-/// Returns the progress of a sender with these numbers, in one line: `entries N read N acknowledged N
-/// dropped N filtered N in_flight N`, ` lag N` if a sample was acknowledged, ` shards N attempts N
-/// failed N`, ` last CAUSE` if an attempt has failed, ` segment N bytes N`, ` newest N` if the newest
-/// segment is known and not 0, and ` percent N` if the bytes of the folder are known.
+/// Returns the progress of a sender with these numbers, in one line: `entries N read N acknowledged
+/// N dropped N filtered N in_flight N`, ` lag N` if a sample was acknowledged, ` shards N attempts
+/// N failed N`, ` last CAUSE` if an attempt has failed, ` segment N bytes N`, ` newest N` if the
+/// newest segment is known and not 0, and ` percent N` if the bytes of the folder are known.
 pub fn send_line(alloc: Global, numbers: &SendNumbers) -> Result<Vec<u8>, AllocError>
     ensures { IfOk result (λ line. line.items ≡ send_line numbers.now) }
 {

@@ -106,9 +106,9 @@ fn write_last<W: Write>(
     Ok(())
 }
 
-/// Writes what was counted in the end, and of a sender how many samples were dropped, by reason, and
-/// which records of the log were skipped, if any: each in a line of its own. If out of memory, what
-/// follows is not written.
+/// Writes what was counted in the end, and of a sender how many samples were dropped, by reason,
+/// and which records of the log were skipped, if any: each in a line of its own. If out of memory,
+/// what follows is not written.
 pub fn write_end<W: Write>(writer: &mut W, screen: Screen, alloc: Global, counters: &Counters) {
     let _ = write_last(writer, screen, alloc, counters);
 }

@@ -75,7 +75,7 @@ impl ReceiveCounters {
         self.max_label_sets.store(max_label_sets, Ordering::Relaxed);
     }
 
-    /// What was counted.
+    /// Returns the values of the counters.
     pub fn numbers(&self, alloc: Global) -> Result<ReceiveNumbers, AllocError> {
         let statuses = self.statuses.read(alloc)?;
         let ended = read(&self.ended);

@@ -195,8 +195,8 @@ impl SendCounters {
         set(&self.shards, shards as u64);
     }
 
-    /// Sets how many samples were put into queues, and how many of them have no answer and do not only
-    /// wait for a batch to be full.
+    /// Sets how many samples were put into queues, and how many of them have no answer and do not
+    /// only wait for a batch to be full.
     pub fn set_load(&self, placed: u64, waiting: u64) {
         set(&self.placed, placed);
         set(&self.waiting, waiting);
@@ -217,8 +217,8 @@ impl SendCounters {
         self.skipped.set(skipped);
     }
 
-    /// Takes how many samples are resolved once the work has ended, and those of refused batches were
-    /// counted.
+    /// Takes how many samples are resolved once the work has ended, and those of refused batches
+    /// were counted.
     pub fn set_resolved(&self, resolved: u64) {
         let refused = read(&self.drops.listed_in_all);
         set(&self.acknowledged, resolved.saturating_sub(refused));
@@ -292,7 +292,7 @@ impl SendCounters {
         self.fail(Cause::Status(status));
     }
 
-    /// An attempt has failed.
+    /// Counts an attempt that has failed.
     pub fn fail(&self, cause: Cause) {
         let failures = &self.failures;
         add(&failures.all, 1);
@@ -309,8 +309,8 @@ impl SendCounters {
         }
     }
 
-    /// Returns what was counted. Samples are read, acknowledged, dropped, filtered and in flight so that
-    /// the first number is the sum of the others, though they are not read at one moment.
+    /// Returns what was counted. Samples are read, acknowledged, dropped, filtered and in flight so
+    /// that the first number is the sum of the others, though they are not read at one moment.
     pub fn numbers(&self, alloc: Global) -> Result<SendNumbers, AllocError> {
         let drops = self.drops.numbers(alloc)?;
         let failures = self.failures.numbers(alloc)?;

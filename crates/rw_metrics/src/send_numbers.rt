@@ -89,7 +89,7 @@ impl Skipped {
     }
 }
 
-/// What the counters of a sender were when they were read, one after the other.
+/// The values of a sender's counters when they were read, one after the other.
 #[derive(Drop)]
 pub struct SendNumbers {
     /// Entries of the log that were read.
@@ -102,7 +102,7 @@ pub struct SendNumbers {
     pub segment: u64,
     /// The number of the newest segment in the folder, as it was last looked at; 0 if it was not.
     pub newest_segment: u64,
-    /// Bytes of the segment that is read that were read.
+    /// Bytes that were read of the current segment.
     pub segment_bytes: u64,
     /// Samples that were read: those that are acknowledged, dropped, filtered and in flight.
     pub read: u64,

@@ -77,8 +77,8 @@ pub record HasGathered (opening : State) (seats : List Seated) (store : Store) :
   pub each : (n : ℕ) (q : Question) → slice_get asked n ≡ Some q → (k : ℕ) × (s : Seated) × (slice_get seats k ≡ Some s) × (s.number ≡ q.seat)
   pub apart : (i j : ℕ) (s t : Seated) → slice_get seats i ≡ Some s → slice_get seats j ≡ Some t → s.number ≡ t.number → i ≡ j
 
--- The head was full: it was not busy, and with the message of this body it would hold more samples or
--- label sets than before and than its capacity.
+-- The head was full: it was not busy, and with the message of this body it would hold more samples
+-- or label sets than before and than its capacity.
 abbrev pub FindsFull : Capacity → State → List Question → List ℕ → Type 0
 FindsFull capacity opening asked body =
     exceeds capacity (store_after opening (bodies_of asked))

@@ -41,7 +41,8 @@ impl Blank {
         Blank::with_capacity(alloc, parts, Capacity::unlimited())
     }
 
-    /// A new one, of a head that takes no request above this capacity. It takes memory for one word.
+    /// Returns a new blank, of a head that takes no request above this capacity. It takes memory
+    /// for one word.
     pub fn with_capacity(alloc: Global, parts: u64, capacity: Capacity) -> Result<Blank, AllocError>
         ensures parts { IfOk result (λ b. b.parts ≡ parts) }
         ensures capacity { IfOk result (λ b. b.table.capacity ≡ capacity) }

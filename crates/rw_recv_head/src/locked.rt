@@ -122,7 +122,7 @@ impl<L: Naming> Locked<L> {
         self.head.places()
     }
 
-    /// How many samples the head holds.
+    /// Returns how many samples the head holds.
     pub(crate) fn samples(&self) -> u64
         ensures total { result ≡ total (store_after L.opening
             (bodies_of self.now.questions.asked)) }

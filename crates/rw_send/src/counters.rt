@@ -32,8 +32,8 @@ fn skipped_by<C: Connect + Drop>(shipper: &Shipper<C>) -> Skipped {
     }
 }
 
-/// Counts how far a shipper has come, and what it has dropped and filtered of the log so far. By its
-/// contract the shards have what was placed.
+/// Counts how far a shipper has come, and what it has dropped and filtered of the log so far. By
+/// its contract the shards have what was placed.
 pub fn update_counters<C: Connect + Drop>(counters: &SendCounters, shipper: &Shipper<C>)
     ensures placed { PlacesAll shipper.now.log shipper.now.fleet }
     ensures read { shipper.now.fault ≡ None

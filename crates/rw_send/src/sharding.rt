@@ -79,8 +79,8 @@ impl Sharding {
         }
     }
 
-    /// Returns as many shards as are wanted under what was placed and resolved since the clock asked
-    /// last, and what waits under this load.
+    /// Returns as many shards as are wanted under what was placed and resolved since the clock last
+    /// asked for an adjustment, and what waits under this load.
     fn lately(self, load: Load) -> Sharding
         ensures shards { result.shards
             ≡ wanted self.shards (load.placed - self.placed)
@@ -125,8 +125,8 @@ fn let_catch_up<R: Clock, C: Connect + Drop>(rt: &R, shipper: &Shipper<C>) {
     }
 }
 
-/// Changes the number of shards to what is wanted under the load, if that is another one and more is
-/// to come.
+/// Changes the number of shards to what is wanted under the load, if that is another one and more
+/// is to come.
 pub fn resharded<R: Threads + Wait + Clock + Copy + Send + 'static, C: Connect + Drop>(
     rt: &R,
     shipper: &mut Shipper<C>,
@@ -163,8 +163,8 @@ pub fn resharded<R: Threads + Wait + Clock + Copy + Send + 'static, C: Connect +
     Ok(next)
 }
 
-/// Changes the number of shards to what is wanted under what was placed and resolved since the clock
-/// asked last, if it asks and that is another one.
+/// Changes the number of shards to what is wanted under what was placed and resolved since the
+/// clock asked last, if it asks and that is another one.
 pub fn retuned<R: Threads + Wait + Clock + Copy + Send + 'static, C: Connect + Drop>(
     rt: &R,
     shipper: &mut Shipper<C>,

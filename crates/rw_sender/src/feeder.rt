@@ -167,13 +167,13 @@ impl Feeder {
         self.tail.skipped_of(kind)
     }
 
-    /// Returns the latest timestamp of the samples that `sent` was told of, in milliseconds. It is best
-    /// effort: no clause says what it is.
+    /// Returns the latest timestamp of the samples for which `sent` was called, in milliseconds. It
+    /// is best effort: no clause says what it is.
     pub fn newest(&self) -> i64 {
         self.newest
     }
 
-    /// The samples that were dropped so far. This takes no memory, and its time does not grow.
+    /// Returns the samples that were dropped so far. This takes no memory, and constant time.
     pub fn dropped(&self) -> &Ledger
         ensures { result.now.names ≡ named (dropped self.now.choice self.now.placed) }
     {

@@ -372,14 +372,15 @@ impl<C: Connect + Drop> Shipper<C> {
         self.feeder.skipped_of(kind)
     }
 
-    /// Returns the latest timestamp of the samples that were put into a queue, in milliseconds. It is
-    /// best effort: no clause says what it is.
+    /// Returns the latest timestamp of the samples that were put into a queue, in milliseconds. It
+    /// is best effort: no clause says what it is.
     pub fn newest(&self) -> i64 {
         self.feeder.newest()
     }
 
-    /// The samples that were dropped so far without being put into a queue, as the report will name them. Those of a batch that the receiver has
-    /// refused are not among them: their workers name them, and the report has them.
+    /// Returns the samples that were dropped so far without being put into a queue, as the report
+    /// will list them. Those of a batch that the receiver has refused are not among them: their
+    /// workers name them, and the report has them.
     pub fn dropped(&self) -> &Ledger
         ensures { result.now.names ≡ named (dropped self.now.log.choice self.now.log.placed) }
     {

@@ -173,8 +173,8 @@ fn exchange_through<C: Clock + Copy>(
     )
 }
 
-/// Counts an attempt to send a request that was answered with this status: the samples of the request
-/// if they are acknowledged or refused, and else a failure.
+/// Counts an attempt to send a request that was answered with this status: the samples of the
+/// request if they are acknowledged or refused, and else a failure.
 fn count_status(counters: &SendCounters, request: &[u8], status: StatusCode) {
     match judge(status) {
         Judgement::Done => counters.acknowledge(request),

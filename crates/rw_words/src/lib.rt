@@ -90,7 +90,7 @@ pub struct Sending<'a> {
     pub fails_on_empty: bool,
     /// Whether a record that is skipped and may hold samples is a fault.
     pub fails_on_skip: bool,
-    /// How many bytes the body of a batch may take; none for no limit.
+    /// The most bytes of a batch's body, or `None` for no limit.
     pub max_batch_bytes: Option<u64>,
 }
 

@@ -273,8 +273,8 @@ fn a_sender_for_prometheus(rt: HostRuntime) -> Result<(), Fail> {
     Ok(())
 }
 
-/// Whether counters of a sender that was told less than its transports have heard, and then ends,
-/// still add up.
+/// Returns whether the counters of a sender still add up if its report counts less than its
+/// transports have heard.
 fn adds_up_at_the_end(alloc: Global) -> Result<bool, AllocError> {
     let counters = SendCounters::new(alloc)?;
     counters.acknowledge(TWO_SAMPLES);

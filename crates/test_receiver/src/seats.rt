@@ -232,7 +232,8 @@ fn a_seat_counts_what_was_stored(rt: HostRuntime) -> Result<(), Fail> {
     Ok(())
 }
 
-/// A blank of two parts, for a head that may hold so many samples and any number of series.
+/// Returns a blank of two parts, for a head that may hold `max_samples` samples and any number of
+/// series.
 fn limited(alloc: Global, max_samples: u64) -> Result<Blank, AllocError>
     ensures { IfOk result (λ b. b.parts ≡ 2) }
 {
@@ -276,7 +277,7 @@ fn is_one_held(asked: Asked, status: u16, is_full: bool) -> bool {
         && asked.samples == 1
 }
 
-/// Whether what a seat was told is so, and the head holds one sample.
+/// Returns whether the answers to a seat are right, and the head holds one sample.
 fn holds_one(outcome: Result<(bool, Head), AllocError>) -> bool {
     matches!(outcome, Ok((true, head)) if head.total() == 1)
 }
