@@ -9,7 +9,7 @@ use crate::seat_request::SeatRequest;
 use crate::service::receive_until;
 use crate::serving::ServerContext;
 use rw_follow::StopSignal;
-use rw_head::Head;
+use rw_head::{Capacity, Head};
 use rw_metrics::ReceiveCounters;
 use rw_recv_head::Blank;
 use rw_settings::Settings;
@@ -32,6 +32,9 @@ pub struct Service<'a> {
     pub idle_ms: Bounded<10, 3_600_000>,
     /// How many milliseconds a request may take, and a reply; one more for each byte of a request.
     pub request_ms: Bounded<10, 3_600_000>,
+    /// How much the head may hold. A request that would add more is answered with 503, and changes
+    /// nothing.
+    pub capacity: Capacity,
     /// They count each connection and each answer of the head. No clause says anything about them.
     pub counters: &'a ReceiveCounters,
 }
@@ -73,7 +76,7 @@ pub fn run_receive<R: Threads + Wait + Clock + Sync, W: Sink>(
         (W.contents writer.old) (W.contents writer.new)) }
 {
     let count = service.most.get();
-    let blank = Blank::new(alloc, count + 1)?;
+    let blank = Blank::with_capacity(alloc, count + 1, service.capacity)?;
     let head = Head::new(alloc, &settings.limits);
     let never = StopSignal::new();
     let seat_request = SeatRequest::new();
@@ -129,7 +132,7 @@ pub fn run_receive_until<R: Threads + Wait + Clock + Sync, W: Sink>(
         (W.contents writer.old) (W.contents writer.new)) }
 {
     let most = service.most.get();
-    let blank = Blank::new(alloc, most + 1)?;
+    let blank = Blank::with_capacity(alloc, most + 1, service.capacity)?;
     let head = Head::new(alloc, &settings.limits);
     let seat_request = SeatRequest::new();
     let context = ServerContext {

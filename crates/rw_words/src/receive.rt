@@ -36,6 +36,8 @@ pub(crate) fn receive_task<'a>(
             until,
             idle_ms,
             request_ms,
+            max_samples: options.get_one::<u64>("max-samples"),
+            max_series: options.get_one::<u64>("max-series"),
             reporting,
         },
     })

@@ -355,6 +355,18 @@ static RECEIVE: Words = Words {
             bonds: &[],
             help: "Close a connection whose request takes more than N milliseconds and 1 more for each byte, 10 to 3600000",
         },
+        Opt {
+            name: "max-samples",
+            takes: Takes::Number(1, 1_099_511_627_776),
+            bonds: &[],
+            help: "Hold at most N samples: answer 503 to a request that adds more, 1 to 1099511627776",
+        },
+        Opt {
+            name: "max-series",
+            takes: Takes::Number(1, 1_099_511_627_776),
+            bonds: &[],
+            help: "Hold samples of at most N series: answer 503 to a request that adds more, 1 to 1099511627776",
+        },
         PROGRESS,
         METRICS,
     ],

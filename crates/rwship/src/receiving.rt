@@ -4,18 +4,27 @@ use crate::ending::{point_to_explain, report_result, report_settings_fault};
 use crate::reporting::{begin_reporting, end_reporting, print_listen_error};
 use crate::settings::settings_in;
 use crate::stopping::stop_signal;
+use rw_head::Capacity;
 use rw_metrics::{Counters, ReceiveCounters};
 use rw_receive::{Service, run_receive, run_receive_until};
 use rw_settings::Settings;
 use rw_text::ToolFault;
 use rw_types::{Bounded, Std};
-use rw_words::{Receiving, Reporting, SettingsFile, Until};
+use rw_words::{Receiving, SettingsFile, Until};
 use std::alloc::{AllocError, Global};
 use std::net::TcpListener;
 use std::process::ExitCode;
 use std::sync::{Arc, Wait};
 use std::thread::Threads;
 use std::time::Clock;
+
+/// Returns how much the head may hold.
+fn capacity_of(receiving: &Receiving<'_>) -> Capacity {
+    Capacity {
+        max_samples: receiving.max_samples.unwrap_or(u64::MAX),
+        max_series: receiving.max_series.unwrap_or(u64::MAX),
+    }
+}
 
 /// Serves connections until a stop is requested, and prints what they left.
 fn serve_until<R: Threads + Wait + Clock + Sync>(
@@ -33,6 +42,7 @@ fn serve_until<R: Threads + Wait + Clock + Sync>(
         most: Bounded::new(1_000),
         idle_ms: receiving.idle_ms,
         request_ms: receiving.request_ms,
+        capacity: capacity_of(receiving),
         counters,
     };
     run_receive_until(
@@ -61,6 +71,7 @@ fn serve_some<R: Threads + Wait + Clock + Sync>(
         most,
         idle_ms: receiving.idle_ms,
         request_ms: receiving.request_ms,
+        capacity: capacity_of(receiving),
         counters,
     };
     run_receive(
@@ -104,11 +115,15 @@ fn new_counters(rt: &HostRuntime) -> Result<Arc<ReceiveCounters, Global>, AllocE
 fn reported_counters<R: Threads>(
     rt: &HostRuntime,
     threads: &R,
-    reporting: &Reporting<'_>,
+    receiving: &Receiving<'_>,
 ) -> Result<Arc<ReceiveCounters, Global>, ToolFault> {
     let counters = new_counters(rt)?;
+    counters.set_limits(
+        receiving.max_samples.unwrap_or(0),
+        receiving.max_series.unwrap_or(0),
+    );
     let shown = Counters::Receive(Arc::try_clone(&counters)?);
-    begin_reporting(rt, threads, reporting, &shown)?;
+    begin_reporting(rt, threads, &receiving.reporting, &shown)?;
     Ok(counters)
 }
 
@@ -120,7 +135,7 @@ fn serve_and_report<R: Threads + Wait + Clock + Sync>(
     listener: TcpListener,
     receiving: &Receiving<'_>,
 ) -> Result<(), ToolFault> {
-    let counters = reported_counters(rt, threads, &receiving.reporting)?;
+    let counters = reported_counters(rt, threads, receiving)?;
     let outcome = serve(rt, threads, settings, listener, receiving, &counters);
     end_reporting(rt, &receiving.reporting, &Counters::Receive(counters));
     outcome

@@ -1,5 +1,6 @@
 //! A sender and a receiver in one process, over the loopback interface.
 
+use rw_head::Capacity;
 use rw_metrics::{ReceiveCounters, SendCounters};
 use rw_receive::{Service, run_receive};
 use rw_settings::{Settings, read_settings};
@@ -213,6 +214,7 @@ fn are_served<
                 most,
                 idle_ms: Bounded::new(60_000),
                 request_ms: Bounded::new(60_000),
+                capacity: Capacity::unlimited(),
                 counters: &counters,
             };
             run_receive(rt, alloc, settings, service, listener, printed)
@@ -451,6 +453,7 @@ fn fails_without_waiting<
         most: Bounded::new(1_000),
         idle_ms: Bounded::new(60_000),
         request_ms: Bounded::new(60_000),
+        capacity: Capacity::unlimited(),
         counters: &counters,
     };
     let ended = run_receive(rt, alloc, settings, service, listener, &mut printed);

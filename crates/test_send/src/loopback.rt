@@ -2,6 +2,7 @@
 
 use crate::counted::holds_as_printed;
 use crate::logs::{BEHIND, FALLS, NAMES, UP, segment};
+use rw_head::Capacity;
 use rw_metrics::{ReceiveCounters, SendCounters};
 use rw_receive::{Service, run_receive};
 use rw_send::{SendOptions, StopFlag, TcpConnect, run_send};
@@ -101,6 +102,7 @@ fn receives<R: Threads + Wait + Clock + Sync>(
         most,
         idle_ms: Bounded::new(60_000),
         request_ms: Bounded::new(60_000),
+        capacity: Capacity::unlimited(),
         counters: &counters,
     };
     let has_ended = match read_settings(alloc, row.0) {

@@ -4,6 +4,7 @@
 use crate::clients::{Clients, Door, read_by};
 use crate::counted::holds_as_printed;
 use rw_follow::StopSignal;
+use rw_head::Capacity;
 use rw_metrics::ReceiveCounters;
 use rw_receive::{Service, run_receive, run_receive_until};
 use rw_settings::{Settings, read_settings};
@@ -64,6 +65,7 @@ fn service_of(
         most,
         idle_ms,
         request_ms: Bounded::new(60_000),
+        capacity: Capacity::unlimited(),
         counters,
     }
 }
