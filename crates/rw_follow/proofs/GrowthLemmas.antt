@@ -28,7 +28,7 @@ after_grows m n bytes p =
     let d = ap (λ (xs : List (List ℕ)). length xs) p.done in
     omega (arith, l, a, b, d)
 
--- ---- what was fed is what was given
+-- ---- what was fed is what was read
 
 pub passed : (o n : Option Moment) (bytes : List ℕ) (meal : Meal) → Known o (λ m. IsGivenAt meal m) → Passes o bytes n → Known n (λ m. IsGivenAt (with_piece meal bytes) m)
 passed None None bytes meal h p = h
@@ -51,7 +51,7 @@ stepped (Some m) (Some n) meal h p = record {
   begun = sym p.given;
 }
 
--- a read of no byte gave nothing
+-- a read of no byte returned nothing
 pub nothing : (o n : Option Moment) (k : ℕ) (bytes : List ℕ) → k ≡ 0 → Passes o (take k bytes) n → Passes o [] n
 nothing o n k bytes e p = subst (λ j. Passes o (take j bytes) n) e p
 

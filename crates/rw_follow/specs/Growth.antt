@@ -56,7 +56,7 @@ IsLast m = m.after ≡ []
 abbrev pub HasGap : ℕ → Moment → Type 0
 HasGap n m = IsLast m × (m.gap ≡ Some n)
 
--- A read gives the next bytes of the current segment, and no byte only if nothing is left of it.
+-- A read returns the next bytes of the current segment, and no byte only if nothing is left of it.
 abbrev pub Reads : {E : Type 0} → Option Moment → Option Moment → Result ℕ E → List ℕ → Type 0
 Reads old new r buf = MatchResult r (λ n. Passes old (take n buf) new × (n ≡ 0 → 0 < length buf → Known new IsRead)) (λ _. Passes old [] new)
 

@@ -84,7 +84,7 @@ fault_kept r s f x e = ap (λ (t : Reading). fault_at t.stop) (x.stays f (stop_i
     stop_is inside h = absurd cc
     stop_is (at_fault g) h = let same : g ≡ f = cc in ap at_fault same
 
--- a text was read, of which the pieces are read, and the entries that were given were taken
+-- a text was read, of which the pieces are read, and the entries that were returned were taken
 pub record HasRead (left_before left_after : Option (List ℕ)) (t : Fed) (taken : List Entry) : Type 0 where
   pub text : List ℕ
   pub read : Consumes left_before left_after text

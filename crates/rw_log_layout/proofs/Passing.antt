@@ -1,4 +1,4 @@
--- What a reader passes over, an item at a time: its reading and the number of its bytes.
+-- What a reader skips, an item at a time: its reading and the number of its bytes.
 use Rattle.std.proofs.Common.{◌≡◌, ℕ, zero, suc, ◌+◌, ◌-◌, ◌<◌, ◌≤◌, List, [], ◌∷◌, ◌++◌, length, drop, replicate, map, flat_map, Option, Some, None, true, false, ltb, refl, sym, ap, ◌∙◌, subst, inl, inr, arith, lt-ltb, le-ltb, append_assoc, append-nil, length-append, length-drop, le_refl}
 use Rattle.std.proofs.lemmas.Bool.{cases_lt}
 use Rattle.std.proofs.lemmas.List.{length-replicate}
@@ -176,7 +176,7 @@ records_gather fs (d ∷ ds) forms h =
     let b = records_gather h.1 ds forms.1 h.4 in
     subst (λ (l : List Fragment). Gathers None l (d ∷ ds) None) (sym h.2) (gathers_join None h.0 h.1 (d ∷ []) None ds None a b)
 
--- ---- what the reader passes over
+-- ---- what the reader skips
 
 -- first these records, and then a reading
 abbrev pub with_records : List (List ℕ) → Reading → Reading
@@ -410,7 +410,7 @@ passes_paged page left o bs fs ds o' p is g =
     subst (λ (t : List ℕ). Passes page page o t left o' (j.front ++ j.back)) (sym is.parts) c in
     subst (λ (x : List (List ℕ)). Passes page page o bs left o' x) (sym j.all) c1
 
--- the front of a segment is passed over, with its records
+-- the front of a segment is skipped, with its records
 pub passes_front : (page left : ℕ) (bs : List ℕ) (ds : List (List ℕ)) (o : Option (List ℕ))
     → 0 < page → HaveForms ds → IsFront page bs left ds o → Passes page page None bs left o ds
 passes_front page left bs ds o p forms is =

@@ -15,7 +15,7 @@ use Rattle.rw_relabel.specs.declared.choice.Choice.{Choice}
 use Rattle.rw_series_cache.specs.Known.{Unknown, Bad, Filtered, Kept, known, standing_of, standing_by, standing_of_set, is_definition, definitions_of}
 use Rattle.rw_series_cache.specs.Numbers.{series_of, with_entry}
 
--- labels that are no label set
+-- labels that are not a label set
 pub bad_labels : (choice : Choice) (l : Labels) (f : LabelFault) → label_fault choice.names l ≡ Some f → standing_of choice (Some l) ≡ Bad f
 bad_labels choice l f e = ap (standing_by choice l) e
 
@@ -59,7 +59,7 @@ pub series_of-push : (choice : Choice) (es : List Entry) (e : Entry) → series_
 unfolding series_of
 series_of-push choice es e = fold-append (with_entry choice) [] es (e ∷ [])
 
--- what passes over samples sees the definitions alone
+-- what skips samples sees the definitions alone
 fold_definitions : {A : Type 0} (f : A → Entry → A) → ((a : A) (r t w : _) → f a (Sample r t w) ≡ a) → (a : A) (es : List Entry) → fold f a (definitions_of es) ≡ fold f a es
 fold_definitions f h a [] = refl
 fold_definitions f h a (Def r l ∷ es) = fold_definitions f h (f a (Def r l)) es

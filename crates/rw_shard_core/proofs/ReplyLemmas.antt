@@ -52,7 +52,7 @@ head_bad room text h rest reads wrong more status r =
     let high : 100 ≤ status_code h = rw same f.3 in
     absurd (elim wrong [ inl long ↦ omega (arith, short, long) | inr low ↦ omega (arith, high, low) ])
 
--- an informational head is passed over
+-- an informational head is skipped
 no_reply_after : (room : ℕ) (text : List ℕ) (h : ResponseHead) (rest : List ℕ) → ReadsResponse text h rest →
     IsInformational h → HasNoReply (room - length (print_response h)) rest → HasNoReply room text
 no_reply_after room text h rest reads info none status ([], r) =

@@ -115,7 +115,7 @@ takes port v is x items views h at =
       ),
     )
 
--- one who knows both ends gives them to two hands, and may say anew what went through them
+-- the owner of both ends gives them to two owners, and may say anew what went through them
 forked : (blocks : List Filled) (views : List Log) (port : ℕ) (v : Log) → IsRelayed blocks views → get_elem? views port ≡ some v → v.feeds ≡ true → v.drains ≡ true → (name : Name) (put taken : List Item) → put ≡ taken ++ joined blocks → length blocks ≤ name.slots → AreBlocks name.most blocks → IsHistory name.epoch name.shard put
     → IsRelayed blocks (set views port (feeder name put) ++ drainer name taken ∷ [])
 forked blocks views port v h at feeds drains name put taken split within sized history =

@@ -41,7 +41,7 @@ split_parts text front back h =
 pub back_has_no_colon : (text front back : List ℕ) → SplitsLast text front back → HasNo 58 back
 back_has_no_colon text front back h = subst (HasNo 58) (sym h.4) (λ i within. NoCharPasses-char 58 (drop h.1 text) i h.2.0 (lit< tt) within)
 
--- what follows the last colon is no port
+-- what follows the last colon is not a port
 pub no_address : (text front back : List ℕ) → SplitsLast text front back → ((port : ℕ) → IsPort back port → ⊥) → (host : List ℕ) (port : ℕ) → IsAddress text host port → ⊥
 no_address text front back h none host port a =
     let same : a.digits ≡ back = behind_is_one 58 host front a.digits back (digits_have_no_colon a.digits a.is_port.is_number.digits.1)

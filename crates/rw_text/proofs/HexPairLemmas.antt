@@ -36,7 +36,7 @@ pair_taken bytes high low rest = joined (bytes_of rest)
     joined None = refl
     joined (Some more) = ap Some (sym (append_assoc bytes ((high * 16 + low) ∷ []) more))
 
--- what the first characters of a text have given
+-- what the first characters of a text have yielded
 pub record HasRead (text : List ℕ) (i : ℕ) (bytes : List ℕ) (high : Option ℕ) : Type 0 where
   pub read : then_bytes bytes (waiting high ++ values (drop i text)) ≡ bytes_of (values text)
   pub small : IfSome high (λ v. v < 16)

@@ -56,7 +56,7 @@ unfolding layout_from
 read_step page left so_far bs x p l e = ap (of_layout so_far) (layout_step page left bs p l ∙ ap (from_item page left bs (layout_from page)) e)
 
 module _ (page left : ℕ) (bs : List ℕ) (p : 0 < page) (l : 0 < left) where
-  -- zeros to the page's end are passed over
+  -- zeros to the page's end are skipped
   pub read_zeros : (so_far : Option (List ℕ)) → item_at left bs ≡ zeros → read_from page left so_far bs ≡ read_from page page so_far (drop left bs)
   unfolding layout_from
   read_zeros so_far e = read_step page left so_far bs zeros p l e

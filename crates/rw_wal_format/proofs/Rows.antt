@@ -166,7 +166,7 @@ records_passed_over = refl
 unfoldable read_small : List ℕ → Reading
 read_small text = reading 32 (bytes text ∷ [])
 
--- where just one record was passed over, of type 3
+-- just one record, of type 3, was skipped
 abbrev one_passed : Stop → Reading
 one_passed s = record { entries = []; skipped = type_of_byte 3 ∷ []; stop = s }
 
@@ -210,7 +210,7 @@ begun_inside : map read_small ((frame first (3 ∷ []) ++ frame first (3 ∷ [])
 unfolding read_small item_at segment record_entries number_in_groups reading crc_bits frame log_bytes
 begun_inside = refl
 
--- zeros that have not all come are no begun record
+-- zeros that have not all come are not the start of a record
 zeros_cut_short : reading 32 (bytes (0 ∷ 0 ∷ []) ∷ next_segment ∷ []) ≡ stopped between
 unfolding item_at segment record_entries number_in_groups reading crc_bits
 zeros_cut_short = refl

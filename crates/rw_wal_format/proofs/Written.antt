@@ -144,14 +144,14 @@ zeros_item (suc n) rest p h =
     let u : ltb (suc (length (replicate n 0 ++ rest))) (suc n) ≡ false = le-ltb (suc (length (replicate n 0 ++ rest))) (suc n) (omega (arith, length-append (replicate n 0) rest, length-zeros n)) in
     rw (t, a, u) refl
 
--- the padding is passed over
+-- the padding is skipped
 -- the left that follows the left bytes of a page is a new page
 left_full : (page offset : ℕ) → 0 < page → left_at page (offset + left_at page offset) ≡ page
 left_full page offset p =
     let t : ltb (left_at page offset) (left_at page offset) ≡ false = le-ltb (left_at page offset) (left_at page offset) (le_refl (left_at page offset)) in
     sym (left_moves page offset (left_at page offset) p (le_refl (left_at page offset))) ∙ rw t refl
 
--- the padding is passed over, and what follows has room for a fragment
+-- the padding is skipped, and what follows has room for a fragment
 pub record PaddingRead (page offset : ℕ) (pad rest : List ℕ) : Type 0 where
   pub same : read_from page (left_at page offset) None (pad ++ rest) ≡ read_from page (left_at page (offset + length pad)) None rest
   pub room : 7 ≤ left_at page (offset + length pad)

@@ -11,8 +11,9 @@ use Rattle.rw_wal_format.specs.Writing.{log_bytes}
 use Rattle.rw_wal_format.specs.declared.skipped_type.SkippedType.{SkippedType}
 use Rattle.rw_wal_format.specs.declared.tail_fault.TailFault.{TailFault}
 
--- A later reading goes on from an earlier one: it begins with the same entries, and has passed over
--- the same records first. Where the earlier one had met a fault, it is the same.
+-- A later reading goes on from an earlier one: the entries of the earlier one are a prefix of its
+-- entries, and it has skipped the same records first. If the earlier one had met a fault, the later
+-- one has the same.
 pub record Extends (earlier later : Reading) : Type 0 where
   pub more : List Entry
   pub entries : later.entries ≡ earlier.entries ++ more

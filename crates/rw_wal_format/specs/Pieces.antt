@@ -47,7 +47,7 @@ page_size = 32768
 abbrev pub entries : List Piece → List Entry
 entries pieces = (reading page_size pieces).entries
 
--- the types of the records before the first fault that were passed over
+-- the types of the skipped records before the first fault
 abbrev pub skipped : List Piece → List SkippedType
 skipped pieces = (reading page_size pieces).skipped
 

@@ -99,8 +99,8 @@ abbrev pub layout_of : ℕ → ℕ → ℕ → List ℕ → Layout
 layout_of page zero left bytes = record { fragments = []; stop = between }
 layout_of page (suc k) left bytes = from_item page left bytes (λ l rest. layout_of page k l rest) (item_at left bytes)
 
--- the entries of whole records before the first fault, the types of those that were passed over,
--- and where it stops
+-- the entries of whole records before the first fault, the types of the skipped ones, and where it
+-- stops
 pub record Reading : Type 0 where
   pub entries : List Entry
   pub skipped : List SkippedType

@@ -93,7 +93,7 @@ has_entries [] s h i = absurd cc
 has_entries (kind ∷ []) s h i = absurd (h refl)
 has_entries (kind ∷ b ∷ bs) s h i = has_entries_by (kind ∷ b ∷ bs) (record_entries (kind ∷ b ∷ bs)) refl s (omega arith) i
 
--- a record that is passed over has none
+-- a skipped record has none
 pub skipped_empty : (d : List ℕ) → is_skipped d ≡ true → record_entries d ≡ Some []
 unfolding record_entries
 skipped_empty [] s = refl

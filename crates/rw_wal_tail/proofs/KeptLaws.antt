@@ -149,7 +149,7 @@ skip_by : (t : SkippedType) (b : Bool) → length (cond b (t ∷ []) []) ≤ 1
 skip_by t true = omega arith
 skip_by t false = omega arith
 
--- a record is passed over once at most
+-- a record is skipped once at most
 pub skip_within : (passed after : List SkippedType) (d : List ℕ) → after ≡ passed ++ skips_of d → length after ≤ length passed + 1
 skip_within passed after d e = omega (arith, ap length e, length-append passed (skips_of d), skip_by (skipped_type d) (is_skipped d))
 

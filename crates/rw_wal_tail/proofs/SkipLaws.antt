@@ -1,4 +1,4 @@
--- Records that were passed over, counted by type.
+-- Skipped records, counted by type.
 use Rattle.std.proofs.Common.{◌≡◌, ℕ, ◌+◌, ◌<◌, ◌≤◌, List, [], ◌∷◌, ◌++◌, cond, ◌==◌, get_or, set, replicate, sym, ap, ◌∙◌, inl, inr, refl, arith, length-append}
 use Rattle.std.specs.List.{count_by}
 use Rattle.std.proofs.lemmas.Bool.Decides.{eqb_tells}

@@ -58,7 +58,7 @@ took_none t after taken h r n =
       passed = refl;
     }
 
--- what was passed over is counted at a fault
+-- what was skipped is counted at a fault
 passes_fault : (t : Fed) (f : TailFault) → is_out_of_memory f ≡ false → (answered t (Err f)).skipped ≡ skipped t.pieces
 unfolding answered
 passes_fault t OutOfMemory e = absurd cc

@@ -67,7 +67,7 @@ abbrev pub told_of : Told → pieces.Piece
 told_of (told.Bytes b) = pieces.bytes b
 told_of told.NextSegment = pieces.next_segment
 
--- whatever comes later, the reading is what was given and then what the reader still reads
+-- whatever comes later, the reading is what was returned and then what the reader still reads
 pub record Follows (ps : List pieces.Piece) (given : List Entry) (r : Reader) : Type 0 where
   pub reader : IsReader r
   pub reads : (later : List pieces.Piece) → reading page_size (ps ++ later) ≡ after given [] (still_read r later)

@@ -78,6 +78,6 @@ module _ {W : Type 0} (contents : W → Option (List ℕ)) (has_failed : W → B
   pub part_at_err : {T E : Type 0} (a b : W) (x : List ℕ) (r : Result T E) (f : E) → r ≡ Err f → Takes contents has_failed room a b x r → TakesPart contents has_failed room a b x
   part_at_err a b x r f e t = MatchResult-at_err (λ _. TakesAll contents has_failed room a b x) (λ _. TakesPart contents has_failed room a b x) f e t
 
-  -- what a call answers that gives the failure on
+  -- what a call answers that returns the failure
   pub takes_failure : {T E : Type 0} (a b : W) (x : List ℕ) (r : Result T E) → IsErr r → TakesPart contents has_failed room a b x → Takes contents has_failed room a b x r
   takes_failure a b x r e p = MatchResult-from_err r _ _ e (λ _. p)

@@ -296,7 +296,7 @@ module _ (target : Target) (epoch shard n : ℕ) (items : List Item) (es : List 
   abbrev AfterAnswer : Result Reply Lost → Working → Type 0
   AfterAnswer answer w = Keeps target epoch shard n items (es ++ exchange answer ∷ []) w
 
-  -- the batch was sent in vain
+  -- the batch was sent without success
   keeps_lost : (answer : Result Reply Lost) → IsAgain answer → Before → can_send c ≡ true → AfterAnswer answer (working (record c { waiting = false }) l)
   keeps_lost answer again h can =
       let p = send_parts c.killed (is_empty c.batch) c.waiting can in record {

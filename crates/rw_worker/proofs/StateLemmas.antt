@@ -312,7 +312,7 @@ module _ {T P : Type 0} (tells : T → Type 0) (seen : T → List Exchange) (wai
       let none = ap length (k.one some) in
       state-sent i s v p q true h some sent counts backoff waited (omega arith)
 
-  -- the batch was sent in vain
+  -- the batch was sent without success
   pub steps-again : (i : Intake) (s v : Sending T) (p q : P) (b : Bool) → b ≡ false → At i s p → is_empty s.core.batch ≡ false → Sent s v b → CountsOn s v false → v.backoff ≡ s.backoff → WaitsOn s p q false
       → Stepped s v p q
   steps-again i s v p q b is h some given counts backoff waited = steps-sent i s v p q false h some (sent-again s v b is given) counts backoff waited

@@ -62,7 +62,7 @@ transcript-take target n items es rest resolved names x unsent more h by =
       names_are = h.names_are;
     }
 
--- the batch was sent once more in vain
+-- the batch was sent once more without success
 pub transcript-again : (target : Target) (n : ℕ) (items : List Item) (es : List Exchange) (unsent rest resolved : List Placed) (names : FinMap nat_cmp Reason) (answer : Result Reply Lost)
     → IsTranscriptOf target n items es unsent rest resolved names → is_empty unsent ≡ false → IsAgain answer
     → IsTranscriptOf target n items (es ++ exchange_of (batch_request target unsent) answer ∷ []) unsent rest resolved names

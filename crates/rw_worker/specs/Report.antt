@@ -73,8 +73,8 @@ IsClosed (intake.Ended Orderly d) c = is_due c ≡ false → c.builder ≡ []
 IsClosed (intake.Ended Reshard d) c = is_due c ≡ false → c.builder ≡ []
 
 module _ {T : Type 0} (tells : T → Type 0) (seen : T → List Exchange) (setup : Setup) (begun : T) where
-  -- these steps were made: they took what the end of the queue gave, and added their exchanges to
-  -- those of the transport
+  -- these steps were made: they took what came out of the end of the queue, and added their
+  -- exchanges to those of the transport
   pub record HasMade (drain : Draining) (transport : T) (steps : List Step) : Type 0 where
     pub queue_is : drain.queue ≡ setup.queue
     pub history : IsHistory setup.queue.epoch setup.queue.shard drain.taken

@@ -6,7 +6,7 @@ use Rattle.rw_endpoint.specs.Fields.{is_named}
 use Rattle.rw_endpoint.specs.Values.{first_length}
 use Rattle.rw_endpoint.proofs.fields.first_length.Goals as goal
 
--- a field of another name is passed over
+-- a field of another name is skipped
 passed : (buf : List ℕ) (hs : List HeaderSpan) (i : ℕ) (d : HeaderSpan) → i < length hs →
     is_named (codes "content-length") (header_bytes buf (get_or hs i d)) ≡ false →
     first_length (map (header_bytes buf) (drop i hs)) ≡ first_length (map (header_bytes buf) (drop (i + 1) hs))
