@@ -26,7 +26,7 @@ IsText pieces text = (later : List Piece) → reading page_size (pieces ++ later
 abbrev pub entries_left : Fed → ℕ
 entries_left t = length (entries t.pieces) - t.given
 
--- where one more was taken of the same pieces, fewer are left
+-- if one more was taken of the same pieces, fewer are left
 pub fewer_left : (t new : Fed) (before after : List Entry) (e : Entry) → HasTaken t before → HasTaken new after → after ≡ before ++ e ∷ [] → new.pieces ≡ t.pieces → entries_left new < entries_left t
 fewer_left t new before after e h n grown same =
     let all : length (entries new.pieces) ≡ length (entries t.pieces) = ap (λ ps. length (entries ps)) same in
