@@ -23,8 +23,8 @@ AreMade path (x ∷ xs) = ((host : List ℕ) × (body : List ℕ) × (is_host_na
 abbrev pub IsLine : State → List ℕ → ℕ → Line → Type 0
 IsLine opening path limit line = AreMade path line.seen → IsSeatOf path limit opening line.seen line.seat
 
--- the seat was asked for this body, which is within the limit, and gave that status; or it was not
--- asked
+-- the seat was asked for this body, which is within the limit, and returned that status; or it was
+-- not asked
 abbrev pub IsAskedOnce : State → ℕ → Seated → List ℕ → Option ℕ → Seated → Type 0
 IsAskedOnce opening limit old body None new = new ≡ old
 IsAskedOnce opening limit old body (Some status) new = (length body ≤ limit) × HasAsked opening old body status new

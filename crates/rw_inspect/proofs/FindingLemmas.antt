@@ -24,7 +24,7 @@ use Rattle.rw_inspect.specs.declared.finding.Found.{Found}
 use Rattle.rw_inspect.specs.declared.report.Segment.{Segment}
 use Rattle.rw_types.specs.Gathering.{gather_from, gather}
 
--- a note of another position is passed over
+-- a note of another position is skipped
 passes : (b : Bool) (p q : ℕ) (text : List ℕ) (notes : List (ℕ × List ℕ)) → nat_eq p q ≡ false → noted_at (note_if b p text ++ notes) q ≡ noted_at notes q
 passes true p q text notes e = ap (λ x. cond x (Some text) (noted_at notes q)) e
 passes false p q text notes e = refl

@@ -176,11 +176,11 @@ reads_segment is_first left_before left_after old begun_at new before anew after
   passed = passed;
 }
 
--- where the next segment begins, what was taken is counted
+-- once the next segment begins, what was taken is counted
 pub begins_next : (begun_at : Fed) (before anew : Counted) → HasTaken begun_at before.entries → anew ≡ record before { here = [] } → HasTaken begun_at anew.entries
 begins_next begun_at before anew h a = let same = ap (λ (e : Counted). e.entries) a in rw same h
 
--- records that were passed over stay passed over
+-- records that were skipped stay skipped
 pub passed_grows : (is_first : Bool) (left_before left_after : Option (List ℕ)) (old begun_at new : Fed) (before anew after : Counted) (found : ℕ × Option TailFault)
     → HasTakenAll old before.entries None → begun_at ≡ record old { pieces = begun is_first old.pieces } → ReadsText left_before left_after begun_at new anew after found → length old.skipped ≤ length new.skipped
 passed_grows is_first left_before left_after old begun_at new before anew after found h b r =

@@ -26,7 +26,7 @@ IsText pieces text = (later : List Piece) → reading page_size (pieces ++ later
 abbrev pub entries_left : Fed → ℕ
 entries_left t = length (entries t.pieces) - t.given
 
--- where one more was taken of the same pieces, fewer are left
+-- if one more was taken of the same pieces, fewer are left
 pub fewer_left : (t new : Fed) (before after : List Entry) (e : Entry) → HasTaken t before → HasTaken new after → after ≡ before ++ e ∷ [] → new.pieces ≡ t.pieces → entries_left new < entries_left t
 fewer_left t new before after e h n grown same =
     let all : length (entries new.pieces) ≡ length (entries t.pieces) = ap (λ ps. length (entries ps)) same in
@@ -84,7 +84,7 @@ fault_kept r s f x e = ap (λ (t : Reading). fault_at t.stop) (x.stays f (stop_i
     stop_is inside h = absurd cc
     stop_is (at_fault g) h = let same : g ≡ f = cc in ap at_fault same
 
--- a text was read, of which the pieces are read, and the entries that were given were taken
+-- a text was read, of which the pieces are read, and the entries that were returned were taken
 pub record HasRead (left_before left_after : Option (List ℕ)) (t : Fed) (taken : List Entry) : Type 0 where
   pub text : List ℕ
   pub read : Consumes left_before left_after text

@@ -30,7 +30,7 @@ pub record HasFault (text : List ℕ) (f : TailFault) (offset : ℕ) : Type 0 wh
   pub fault_is : fault (ended text) ≡ Some f
   pub at : offset ≡ stop_offset page_size text
 
--- one more entry of the same pieces was given
+-- one more entry of the same pieces was returned
 pub record Gives (e : Entry) (old new : Fed) : Type 0 where
   pub fed : new.pieces ≡ old.pieces
   pub count : new.given ≡ old.given + 1

@@ -118,7 +118,7 @@ cause_of s failed refused unsure (Err error.Unreadable) answer h is memory read 
 cause_of s failed refused unsure (Err (error.Missing n)) answer h is memory read = absurd h
 cause_of s failed refused unsure (Err error.Aborted) answer h is memory read = absurd h
 
--- a segment that is given and cannot be read
+-- a segment that is returned and cannot be read
 pub unread_so : {T : Type 0} (s : Shipping T) (shipped : Result (Unit {0}) FeedError) → IfErr shipped (IsHalted s) → hard_fault shipped ≡ Some fault.Device → shipped ≡ Err error.Unreadable
 unread_so s (Ok u) h e = let no : ⊥ = cc in absurd no
 unread_so s (Err (error.Damaged f)) h e = let no : ⊥ = cc in absurd no

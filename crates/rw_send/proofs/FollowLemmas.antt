@@ -76,7 +76,7 @@ pub begins : (o : Option Moment) (meal : Meal) → Known o (λ m. IsGivenAt meal
 begins None meal h = h
 begins (Some m) meal h = record { rest = m.rest; after = m.after; whole = rw (h.whole, h.begun) refl }
 
--- before the piece that was given last
+-- before the piece that was returned last
 begins_piece : (o : Option Moment) (meal : Meal) (b : List ℕ) → Known o (λ m. IsGivenAt (with_piece meal b) m) → Known o (λ m. IsBeginning meal (growth.texts m))
 begins_piece None meal b h = h
 begins_piece (Some m) meal b h = record {
@@ -102,7 +102,7 @@ begins_before o turn.Nothing buf meal h = begins o meal h
 begins_before o turn.Finished buf meal h = begins o meal h
 begins_before o turn.Aborted buf meal h = begins o meal h
 
--- what was given at a turn, and fed or not
+-- what was returned at a turn, and fed or not
 pub begins_turn : (old new : Option Moment) (t : Turn) (buf : List ℕ) (meal fed : Meal) → Moves old new (given_by t buf) → Known old (λ m. IsGivenAt meal m) → (fed ≡ meal) ⊎ (fed ≡ given_by t buf meal)
     → Known new (λ m. IsBeginning fed (growth.texts m))
 begins_turn old new t buf meal fed move h (inl e) = subst (λ (f : Meal). Known new (λ m. IsBeginning f (growth.texts m))) (sym e) (begins_before new t buf meal (move meal h))
@@ -314,7 +314,7 @@ with_stops : {F A B : Type 0} → (A → B) → F ⊎ A → F ⊎ B
 with_stops go (inl f) = inl f
 with_stops go (inr a) = inr (go a)
 
--- so it is of the shipping that was stopped by it, and of the answer in the end
+-- the same for the shipping that was stopped by it, and for the answer in the end
 pub follow_why : {T : Type 0} (s : Shipping T) (now : Option Moment) (old new : StopRequest) (unsure : Type 0) (ended : Result (Unit {0}) FeedError) (answer : Result (Unit {0}) ToolFault) (so result : Result (Unit {0}) FollowFault)
     → so ≡ follow_result ended answer
     → (result ≡ so) ⊎ ((so ≡ left_undone) × (result ≡ Err fault.Stopped) × (new ≡ request.Abort)) → ((so ≡ left_undone → ⊥) → new ≡ old)

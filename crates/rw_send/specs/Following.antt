@@ -92,10 +92,10 @@ HaltsFor s now error.Unreadable = ⊥
 HaltsFor s now (error.Missing n) = ⊥
 HaltsFor s now error.Aborted = ⊥
 
--- Why a following ended, other than as it was asked to finish: a log that is damaged has that
--- fault; the shipper failed, memory was refused for bytes that the log has given, or a call failed
--- of a log of which calls may fail (`unsure`); a segment is missing that the log says is; or an end
--- at once was asked for.
+-- Why a following ended other than as it was asked to finish: a damaged log has that fault; the
+-- shipper failed, memory ran out for bytes that the log has returned, or a call failed of a log
+-- whose calls may fail (`unsure`); a segment that is reported as missing is missing in the log; or
+-- an end at once was asked for.
 abbrev pub IsCut : {T : Type 0} → Shipping T → Option Moment → StopRequest → (unsure : Type 0)
     → FeedError → Type 0
 IsCut s now said unsure (error.Damaged f) = HasDamage s (error.Damaged f)

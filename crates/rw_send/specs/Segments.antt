@@ -34,8 +34,7 @@ AreAllOf [] (text ∷ texts) = ⊥
 AreAllOf (left ∷ lefts) [] = ⊥
 AreAllOf (left ∷ lefts) (text ∷ texts) = IsAllOf left text × AreAllOf lefts texts
 
--- one segment for each reader, in order, with all that it had left; no piece if there is no
--- reader
+-- one segment for each reader, in order, with all that it had left; without a reader no piece
 abbrev pub IsLogOf : List (Option (List ℕ)) → List Piece → Type 0
 IsLogOf [] pieces = pieces ≡ []
 IsLogOf (left ∷ lefts) pieces = AreAllOf (left ∷ lefts) (texts pieces)

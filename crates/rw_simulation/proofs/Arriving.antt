@@ -232,7 +232,7 @@ module _ (c : Setup) (exs : ℕ → ℕ → List Exchange) (arrivals : List Arri
             ap (unless_over c w (event.Freeze k)) (not-over w k r at (alive-now j m w h.all, inr (undrained k None Freezes ss r wk.ledger (λ e. cc) wk.allowed wk.can_end)))
             ∙ ap (λ zs. record w { shards = zs }) (change-is shard_freeze k w.shards r at ∙ ap (λ (q : List Queued). change k (λ _. record r { queue = q; core = freeze r.core }) w.shards) wk.queue)
 
-    -- a step that is no event
+    -- a step that is not an event
     wait-it : (j m k : ℕ) (ss : List Step) (sent : List Exchange) (w : World) → Stands j m k None (Waits ∷ ss) sent w → Stands j m k None ss sent w
     wait-it j m k ss sent w h = let wk = h.work in record {
       all = h.all;

@@ -68,7 +68,7 @@ rest_within : (put taken rest : ℕ) (capacity n : ℕ) → put ≡ taken + rest
 rest_within put taken rest capacity n sum most same = omega arith
 
 module _ {T : Type 0} (tells : T → Type 0) (seen : T → List Exchange) (is_for : ℕ → ℕ → T → Type 0) (j : StoppedShard T) (c : Setup) (epoch k : ℕ) (h : IsWorked tells seen is_for j) (own : IsShardOf c epoch k j) where
-  -- where these items were left
+  -- these items were left
   with_rest : (rest : List Item) → put_of j.finished.ends ≡ taken_of j.finished.ends ++ rest → IsShardRun c epoch k (lane_of j) h.report.steps rest
   with_rest rest is = record {
     target = own.target;

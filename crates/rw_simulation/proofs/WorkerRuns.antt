@@ -16,7 +16,7 @@ use Rattle.rw_simulation.proofs.Changes.{change-get, change-same, change-twice, 
 use Rattle.rw_simulation.proofs.WorkerSteps.{moved, take-step, freeze-step, send-step}
 use Rattle.rw_simulation.proofs.WorkerLists.{core_after, after-is, numbered-after, epoch-step, goes-on, can-end-after}
 
--- no step, or one that is no event
+-- no step, or one that is not an event
 none : (c : Setup) (w : World) (i : ℕ) (s : Shard) (l : Named) (rest : List Queued) → slice_get w.shards i ≡ Some s → s.queue ≡ rest → IsAfter w i s l [] rest w
 none c w i s l rest e q = record {
   requests = [];

@@ -92,7 +92,7 @@ fn commands_of<'a>(alloc: Global, rows: &[&Words]) -> Result<Vec<Command<'a>>, A
 fn program<'a>(alloc: Global) -> Command<'a> {
     Command::new(alloc, "rwship")
         .version("0.2.0")
-        .about("Remote-write shipper and receiving head of Prometheus")
+        .about("Remote-write shipper and receiver for Prometheus")
         .after_help(help::ALL)
         .subcommand_required(true)
 }

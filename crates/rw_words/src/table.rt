@@ -105,7 +105,7 @@ const METRICS: Opt = Opt {
     name: "metrics",
     takes: Takes::Text("HOST:PORT"),
     bonds: &[],
-    help: "Serve metrics here, at /metrics, in the text format of Prometheus",
+    help: "Serve metrics on this address, at /metrics, in the text format of Prometheus",
 };
 
 static BODY: Words = Words {
@@ -190,7 +190,7 @@ static INSPECT: Words = Words {
             name: "at",
             takes: Takes::Numbers("POS"),
             bonds: &[Bond::Excludes("json"), Bond::Needs("dir")],
-            help: "With --dir: print only the entries at these positions, as a report of 'send' gives them",
+            help: "With --dir: print only the entries at these positions, as 'send' reports them",
         },
     ],
 };
@@ -253,7 +253,7 @@ static SEND: Words = Words {
             name: "follow",
             takes: Takes::Nothing,
             bonds: &[],
-            help: "Go on reading what the server writes, until standard input ends",
+            help: "Keep reading what the server writes, until standard input ends",
         },
         Opt {
             name: "stop-file",
@@ -301,7 +301,7 @@ static SEND: Words = Words {
             name: "max-batch-bytes",
             takes: Takes::Number(1, 1_099_511_627_776),
             bonds: &[],
-            help: "Send no body of more than N bytes, unless it has one sample, 1 to 1099511627776",
+            help: "Keep request bodies within N bytes, 1 to 1099511627776; a larger single sample is still sent",
         },
         PROGRESS,
         METRICS,
@@ -323,7 +323,7 @@ static RECEIVE: Words = Words {
             name: "listen",
             takes: Takes::Text("HOST:PORT"),
             bonds: &[Bond::Required],
-            help: "Listen here",
+            help: "Listen on this address",
         },
         Opt {
             name: "connections",

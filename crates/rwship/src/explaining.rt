@@ -12,7 +12,7 @@ use std::process::ExitCode;
 const NO_DIGITS: &str =
     "a character is no hexadecimal digit and no white space, or a digit lacks its other half";
 
-/// The note on a line of a script that is an event.
+/// The note on a script that mixes the two ways of letting its log grow.
 const MIXED: &str =
     "a script lets its log grow by 'log' lines or by 'feed' and 'segment' lines, and not by both";
 

@@ -34,7 +34,7 @@ returns-in-Status g c =
           (let same = is.0 in let read = c.in-Status.is in (cc), is.1);
     }
 
--- what a reader gives is a status
+-- what a reader returns is a status
 no_status : (read : ReplyRead) (status : ℕ) → read ≡ Status status → (read ≡ Partial) ⊎ (read ≡ Bad) → ⊥
 no_status read status e (inl p) = cc
 no_status read status e (inr b) = cc
