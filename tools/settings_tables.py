@@ -21,7 +21,7 @@ KINDS = {
     "Action": ("required", "`keep` or `drop`"),
     "Labels": ("required", "a list of texts, at least one"),
 }
-KEY = re.compile(r'((?:^/// .*\n)+)^pub\(crate\) const (\w+): Key =\s+Key\("(\w+)", Kind::(\w+)(?:\(([\d_, ]+)\))?\);', re.M)
+KEY = re.compile(r'((?:^/// .*\n)+)^pub\(crate\) const (\w+): Key =\s+Key\(\s*"(\w+)",\s*Kind::(\w+)(?:\(([\d_, ]+)\))?,?\s*\);', re.M)
 
 
 def row_of(comment, key, kind, numbers):

@@ -11,7 +11,7 @@ use Rattle.rw_relabel.specs.Rules.{RuleConfig}
 use Rattle.rw_shard_core.specs.declared.config.ConfigFields.{ConfigFields}
 use Rattle.rw_head.specs.declared.limits.Limits.{Limits}
 use Rattle.rw_settings.specs.Faults.{least}
-use Rattle.rw_settings.specs.Receiving.{receive_limits, receive_values}
+use Rattle.rw_settings.specs.Receiving.{receive_values}
 use Rattle.rw_settings.specs.Keys.{document_keys, send_keys, receive_keys, keys_fault}
 use Rattle.rw_settings.specs.RuleTables.{with_rules_fault, rules_of}
 use Rattle.rw_settings.specs.Sending.{send_fields, send_fault, send_values}

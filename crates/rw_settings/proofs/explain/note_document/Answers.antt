@@ -20,6 +20,7 @@ returns c =
       c.in_ok-note_receive_part.ensures,
       c.in_ok-note_send_part.ensures,
       c.in_ok-note_keys.ensures,
+      c.document_keys.ensures,
     ) (least_from (noted c.args.notes.now.items) (
     keys_fault document_keys document
     ∷ part_fault send_fault (section (get_member (codes "send") document))
