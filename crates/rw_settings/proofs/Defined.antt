@@ -1,44 +1,32 @@
 -- The document that the expressions of settings define.
 use Rattle.std.proofs.Common.{◌≡◌, List, [], ◌∷◌, ◌++◌, flat_map, codes, Option, Some, refl}
-use Rattle.toml.specs.Data.{string, array, table, Items, no_items, item, push_item, Members, no_members, member}
-use Rattle.toml.specs.Tables.{value, open_table, open_array, header, Nodes, no_nodes, node, close, Expression, Document, define, along_header, along_dots, at_key}
+use Rattle.toml.specs.Data.{array, table, Items, no_items, item, push_item, Members, no_members, member}
+use Rattle.toml.specs.Tables.{value, open_table, open_array, header, Nodes, no_nodes, node, insert, close, Expression, Document, define, along_header, along_dots, at_key}
 use Rattle.toml.proofs.ReadLines.{run}
 use Rattle.rw_relabel.specs.Rules.{RuleConfig}
 use Rattle.rw_shard_core.specs.declared.config.ConfigFields.{ConfigFields}
 use Rattle.rw_head.specs.declared.limits.Limits.{Limits}
 use Rattle.rw_settings.specs.declared.settings.Settings.{Settings}
-use Rattle.rw_settings.specs.SettingsText.{names_text, action_text}
-use Rattle.rw_settings.proofs.Written.{number, text_items, send_expressions, receive_expressions, rule_expressions}
+use Rattle.rw_settings.specs.Keys.{Row, send_keys, receive_keys, rule_keys}
+use Rattle.rw_settings.specs.Receiving.{receive_values}
+use Rattle.rw_settings.specs.RuleTables.{rule_values}
+use Rattle.rw_settings.specs.Sending.{send_values}
+use Rattle.rw_settings.specs.Values.{Setting}
+use Rattle.rw_settings.proofs.Written.{data_of, send_expressions, receive_expressions, rule_expressions}
+
+-- the nodes of a table, each at its place in the order
+abbrev nodes_of : Nodes → List Row → List Setting → Nodes
+nodes_of nodes (row ∷ rows) (s ∷ settings) = nodes_of (insert row.0 (value (data_of s)) nodes) rows settings
+nodes_of nodes _ _ = nodes
 
 abbrev send_nodes : ConfigFields → Nodes
-send_nodes send =
-    node (codes "batch") (value (number send.batch))
-    (node (codes "capacity") (value (number send.capacity))
-    (node (codes "host") (value (string send.target.host))
-    (node (codes "max_backoff_ms") (value (number send.max_backoff_ms))
-    (node (codes "max_shards") (value (number send.max_shards))
-    (node (codes "min_backoff_ms") (value (number send.min_backoff_ms))
-    (node (codes "min_shards") (value (number send.min_shards))
-    (node (codes "names") (value (string (names_text send.names)))
-    (node (codes "path") (value (string send.target.path))
-    (node (codes "shards") (value (number send.shards))
-    (node (codes "timeout_ms") (value (number send.timeout_ms)) no_nodes))))))))))
+send_nodes send = nodes_of no_nodes send_keys (send_values send)
 
 abbrev receive_nodes : Limits → Nodes
-receive_nodes limits =
-    node (codes "busy_first") (value (number limits.busy_first))
-    (node (codes "max_body_bytes") (value (number limits.max_body_bytes))
-    (node (codes "max_label_bytes") (value (number limits.max_label_bytes))
-    (node (codes "max_labels") (value (number limits.max_labels))
-    (node (codes "names") (value (string (names_text limits.names)))
-    (node (codes "path") (value (string limits.path)) no_nodes)))))
+receive_nodes limits = nodes_of no_nodes receive_keys (receive_values limits)
 
 abbrev rule_nodes : RuleConfig → Nodes
-rule_nodes rule =
-    node (codes "action") (value (string (action_text rule.action)))
-    (node (codes "regex") (value (string rule.pattern))
-    (node (codes "separator") (value (string rule.separator))
-    (node (codes "source_labels") (value (array (text_items rule.source_labels))) no_nodes)))
+rule_nodes rule = nodes_of no_nodes rule_keys (rule_values rule)
 
 -- the tables of the document
 abbrev pub send_members : ConfigFields → Members

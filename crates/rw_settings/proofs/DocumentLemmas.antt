@@ -5,6 +5,7 @@ use Rattle.toml.specs.Data.{Members, no_members, no_items, get_member}
 use Rattle.rw_relabel.specs.Rules.{RuleConfig}
 use Rattle.rw_shard_core.specs.Configs.{is_ordered}
 use Rattle.rw_settings.specs.Faults.{fault_number, lesser, least}
+use Rattle.rw_settings.specs.Keys.{send_keys, table_fault}
 use Rattle.rw_settings.specs.RuleTables.{rules_of}
 use Rattle.rw_settings.specs.Sending.{send_fields, order_fault, send_fault}
 use Rattle.rw_settings.specs.Settings.{document_fault, settings_of, settings_if, unless_faulty, IsRefusedRule, IsFaultOf}
@@ -36,8 +37,7 @@ least_none fs h = (none_among None fs h).1
 
 -- a table `send` without a fault is in order
 ordered_send : (table : Members) → send_fault table ≡ None → order_fault table ≡ None
-unfolding send_fault
-ordered_send table h = (least_none _ h).1.1.1.1.1.1.1.1.1.1.1.1.0
+ordered_send table h = (lesser_none (table_fault send_keys table) (order_fault table) h).1
 
 ordered_part : (o : Option Members) → part_fault send_fault o ≡ None → order_fault (part_or no_members o) ≡ None
 ordered_part None h = absurd cc

@@ -1,9 +1,8 @@
 -- The document that was written has no fault, and sets the same.
-use Rattle.std.proofs.Common.{◌≡◌, ℕ, ◌^◌, ◌<◌, ℤ, pos, negsuc, List, [], ◌∷◌, ◌++◌, codes, Bool, true, false, ◌&&◌, nat_le, cond, Option, Some, None, Ok, Err, refl, sym, ap, ◌∙◌, arith, append_assoc, append-nil}
+use Rattle.std.proofs.Common.{◌≡◌, ℕ, ◌^◌, ◌<◌, List, [], ◌∷◌, ◌++◌, codes, Bool, true, false, ◌&&◌, nat_le, nat_lt, cond, Option, Some, None, Ok, Err, refl, sym, ap, ◌∙◌, arith, append_assoc, append-nil}
 use Rattle.std.specs.List.{AllByRecursion}
-use Rattle.std.specs.Result.{result_err}
 use Rattle.std.proofs.lemmas.Bool.Decides.{nat_tests}
-use Rattle.toml.specs.Data.{Data, as_integer, as_str, as_table, as_array, table, Items, no_items, item, push_item, Members, no_members, get_member}
+use Rattle.toml.specs.Data.{Data, as_str, as_table, as_array, table, Items, no_items, item, push_item, Members, no_members, get_member}
 use Rattle.rw_types.specs.Requests.{is_host_name, is_request_path}
 use Rattle.rw_types.specs.declared.names.Names.{Names}
 use Rattle.rw_types.specs.declared.names.Names.TheVariants.{Legacy, Utf8}
@@ -14,128 +13,103 @@ use Rattle.rw_shard_core.specs.Configs.{is_ordered}
 use Rattle.rw_shard_core.specs.declared.config.ConfigFields.{ConfigFields}
 use Rattle.rw_head.specs.declared.limits.Limits.{Limits}
 use Rattle.rw_settings.specs.Faults.{lesser, least}
-use Rattle.rw_settings.specs.Receiving.{receive_limits, receive_fault}
-use Rattle.rw_settings.specs.RuleTables.{are_texts, labels_fault, source_fault, rule_table_fault, rule_fault_of, with_rules_fault, texts_of, rule_config, rules_of}
-use Rattle.rw_settings.specs.Sending.{send_fields, order_fault, send_fault}
-use Rattle.rw_settings.specs.Values.{number_if, number_at, text_if, text_at, names_in, found_or, part_or, list_at}
+use Rattle.rw_settings.specs.Receiving.{receive_limits, receive_fault, receive_values}
+use Rattle.rw_settings.specs.Keys.{Row, host, path, shards, min_shards, max_shards, capacity, batch, min_backoff_ms, max_backoff_ms, timeout_ms, max_body_bytes, max_labels, max_label_bytes, busy_first, send_keys, receive_keys, number_for, number_of, table_fault}
+use Rattle.rw_settings.specs.RuleTables.{rule_table_fault, rule_fault_of, with_rules_fault, texts_of, rule_config, rules_of}
+use Rattle.rw_settings.specs.Sending.{send_fields, order_fault, send_fault, send_values}
+use Rattle.rw_settings.specs.Values.{Setting, of_number, of_text, of_texts, names_text, are_texts, labels_fault, source_fault, number_at, text_if, text_at, names_in, found_or, part_or, list_at}
 use Rattle.rw_settings.specs.declared.fault.SettingsFault.{SettingsFault}
+use Rattle.rw_settings.specs.declared.keys.Kind.{Kind}
 use Rattle.rw_settings.proofs.DocumentLemmas.{lesser_none, least_none}
-use Rattle.rw_settings.specs.SettingsText.{names_text}
-use Rattle.rw_settings.proofs.Written.{text_items, SendFits, LimitsFit}
+use Rattle.rw_settings.proofs.KeyLemmas.{IsIn, number_taken}
+use Rattle.rw_settings.proofs.Written.{text_items, Fits}
 use Rattle.rw_settings.proofs.Defined.{send_members, receive_members, rule_members, with_rules}
 
--- ---- what is taken at a key
+-- ---- what settings have that were read
 
-abbrev pub IsIn : ℕ → ℕ → ℕ → Type 0
-IsIn low high n = (nat_le low n && nat_le n high) ≡ true
+text_passes : (test : List ℕ → Bool) (d t : List ℕ) (b : Bool) → test t ≡ b → test d ≡ true → test (found_or d (cond b (Ok (Some t)) (Err SettingsFault.OutOfRange))) ≡ true
+text_passes test d t true is default = is
+text_passes test d t false is default = default
 
-number_in_range : (low high d n : ℕ) (b : Bool) → (nat_le low n && nat_le n high) ≡ b
-    → result_err (cond b (Ok (Some n)) (Err SettingsFault.OutOfRange)) ≡ None → IsIn low high (found_or d (cond b (Ok (Some n)) (Err SettingsFault.OutOfRange)))
-number_in_range low high d n true is h = is
-number_in_range low high d n false is h = absurd cc
+text_if_taken : (test : List ℕ → Bool) (d : List ℕ) (o : Option (List ℕ)) → test d ≡ true → test (found_or d (text_if test o)) ≡ true
+text_if_taken test d None default = default
+text_if_taken test d (Some t) default = text_passes test d t (test t) refl default
 
-number_if_taken : (low high d : ℕ) (z : Option ℤ) → result_err (number_if low high z) ≡ None → IsIn low high (found_or d (number_if low high z))
-number_if_taken low high d None h = absurd cc
-number_if_taken low high d (Some (pos n)) h = number_in_range low high d n (nat_le low n && nat_le n high) refl h
-number_if_taken low high d (Some (negsuc n)) h = absurd cc
+-- a text that was taken passes its test, and so does its default
+text_taken : (test : List ℕ → Bool) (d : List ℕ) (o : Option Data) → test d ≡ true → test (found_or d (text_at test o)) ≡ true
+text_taken test d None default = default
+text_taken test d (Some v) default = text_if_taken test d (as_str v) default
 
--- a number that was taken, or its default
-number_taken : (low high d : ℕ) (o : Option Data) → IsIn low high d → result_err (number_at low high o) ≡ None → IsIn low high (found_or d (number_at low high o))
-number_taken low high d None default h = default
-number_taken low high d (Some value) default h = number_if_taken low high d (as_integer value) h
+-- a number is in the range of its key
+abbrev IsNumber : Kind → ℕ → Type 0
+IsNumber (Kind.Number low high default) n = IsIn low high n
+IsNumber _ n = ⊥
 
-text_passes : (test : List ℕ → Bool) (d t : List ℕ) (b : Bool) → test t ≡ b
-    → result_err (cond b (Ok (Some t)) (Err SettingsFault.OutOfRange)) ≡ None → test (found_or d (cond b (Ok (Some t)) (Err SettingsFault.OutOfRange))) ≡ true
-text_passes test d t true is h = is
-text_passes test d t false is h = absurd cc
+-- a text passes the test of its key
+abbrev passes : Kind → List ℕ → Bool
+passes Kind.Host t = is_host_name t
+passes Kind.Path t = is_request_path t
+passes _ t = true
 
-text_if_taken : (test : List ℕ → Bool) (d : List ℕ) (o : Option (List ℕ)) → result_err (text_if test o) ≡ None → test (found_or d (text_if test o)) ≡ true
-text_if_taken test d None h = absurd cc
-text_if_taken test d (Some t) h = text_passes test d t (test t) refl h
+-- a key takes the setting, and it fits 64 signed bits
+abbrev Suits : Setting → Kind → Type 0
+Suits (of_number n) kind = IsNumber kind n × (n < 2 ^ 63)
+Suits (of_text t) kind = passes kind t ≡ true
+Suits (of_texts ts) kind = Unit {0}
 
-text_taken : (test : List ℕ → Bool) (d : List ℕ) (o : Option Data) → test d ≡ true → result_err (text_at test o) ≡ None → test (found_or d (text_at test o)) ≡ true
-text_taken test d None default h = default
-text_taken test d (Some value) default h = text_if_taken test d (as_str value) h
+abbrev pub AllSuit : List Setting → List Row → Type 0
+AllSuit [] [] = Unit {0}
+AllSuit (s ∷ settings) (row ∷ rows) = Suits s row.1 × AllSuit settings rows
+AllSuit _ _ = ⊥
 
--- ---- the tables `send` and `receive`
+number_suits : (low high d : ℕ) (o : Option Data) → nat_lt high (2 ^ 63) ≡ true → IsIn low high d → IsIn low high (found_or d (number_at low high o)) × (found_or d (number_at low high o) < 2 ^ 63)
+number_suits low high d o small default =
+    let taken = number_taken low high d o default in
+    (taken, grind (arith, nat_tests))
+
+-- the default of a number is in its range, which fits
+abbrev is_sound : Kind → Bool
+is_sound (Kind.Number low high default) = nat_lt high (2 ^ 63) && (nat_le low default && nat_le default high)
+is_sound _ = false
+
+kind_suits : (kind : Kind) (o : Option Data) → is_sound kind ≡ true → IsNumber kind (number_for kind o) × (number_for kind o < 2 ^ 63)
+kind_suits (Kind.Number low high d) o sound = number_suits low high d o (grind (arith, nat_tests)) (grind (arith, nat_tests))
+kind_suits _ o sound = absurd cc
+
+number_row : (row : Row) (ms : Members) → is_sound row.1 ≡ true → IsNumber row.1 (number_of row ms) × (number_of row ms < 2 ^ 63)
+number_row row ms sound = kind_suits row.1 (get_member row.0 ms) sound
 
 pub record SendTaken (send : ConfigFields) : Type 0 where
-  pub host : is_host_name send.target.host ≡ true
-  pub path : is_request_path send.target.path ≡ true
-  pub shards : IsIn 1 1000 send.shards
-  pub min_shards : IsIn 1 1000 send.min_shards
-  pub max_shards : IsIn 1 1000 send.max_shards
-  pub capacity : IsIn 1 1000000 send.capacity
-  pub batch : IsIn 1 10000 send.batch
-  pub min_backoff_ms : IsIn 1 3600000 send.min_backoff_ms
-  pub max_backoff_ms : IsIn 1 3600000 send.max_backoff_ms
-  pub timeout_ms : IsIn 1 3600000 send.timeout_ms
+  pub suits : AllSuit (send_values send) send_keys
   pub ordered : is_ordered send ≡ true
-
-pub record LimitsTaken (limits : Limits) : Type 0 where
-  pub path : is_request_path limits.path ≡ true
-  pub max_body_bytes : IsIn 1 67108864 limits.max_body_bytes
-  pub max_labels : IsIn 1 64 limits.max_labels
-  pub max_label_bytes : IsIn 1 16384 limits.max_label_bytes
-  pub busy_first : IsIn 0 1000000 limits.busy_first
 
 in_order : (b : Bool) → cond b None (Some SettingsFault.OutOfRange) ≡ None → b ≡ true
 in_order true h = refl
 in_order false h = absurd cc
 
 pub send_taken : (ms : Members) (rules : List RuleConfig) → send_fault ms ≡ None → SendTaken (send_fields ms rules)
-unfolding send_fault order_fault send_fields
-send_taken ms rules h =
-    let all = least_none _ h in
-    record {
-      host = text_taken is_host_name (codes "localhost:9090") (get_member (codes "host") ms) refl all.1.0;
-      path = text_taken is_request_path (codes "/api/v1/write") (get_member (codes "path") ms) refl all.1.1.0;
-      shards = number_taken 1 1000 1 (get_member (codes "shards") ms) refl all.1.1.1.0;
-      min_shards = number_taken 1 1000 1 (get_member (codes "min_shards") ms) refl all.1.1.1.1.0;
-      max_shards = number_taken 1 1000 50 (get_member (codes "max_shards") ms) refl all.1.1.1.1.1.0;
-      capacity = number_taken 1 1000000 10000 (get_member (codes "capacity") ms) refl all.1.1.1.1.1.1.0;
-      batch = number_taken 1 10000 2000 (get_member (codes "batch") ms) refl all.1.1.1.1.1.1.1.0;
-      min_backoff_ms = number_taken 1 3600000 30 (get_member (codes "min_backoff_ms") ms) refl all.1.1.1.1.1.1.1.1.0;
-      max_backoff_ms = number_taken 1 3600000 5000 (get_member (codes "max_backoff_ms") ms) refl all.1.1.1.1.1.1.1.1.1.0;
-      timeout_ms = number_taken 1 3600000 30000 (get_member (codes "timeout_ms") ms) refl all.1.1.1.1.1.1.1.1.1.1.0;
-      ordered = in_order _ all.1.1.1.1.1.1.1.1.1.1.1.1.0;
-    }
-
-pub limits_taken : (ms : Members) → receive_fault ms ≡ None → LimitsTaken (receive_limits ms)
-unfolding receive_fault receive_limits
-limits_taken ms h =
-    let all = least_none _ h in
-    record {
-      path = text_taken is_request_path (codes "/api/v1/write") (get_member (codes "path") ms) refl all.1.0;
-      max_body_bytes = number_taken 1 67108864 16777216 (get_member (codes "max_body_bytes") ms) refl all.1.1.0;
-      max_labels = number_taken 1 64 64 (get_member (codes "max_labels") ms) refl all.1.1.1.0;
-      max_label_bytes = number_taken 1 16384 16384 (get_member (codes "max_label_bytes") ms) refl all.1.1.1.1.0;
-      busy_first = number_taken 0 1000000 0 (get_member (codes "busy_first") ms) refl all.1.1.1.1.1.0;
-    }
-
--- what was taken fits 64 signed bits
-fits : (low high n : ℕ) → high < 2 ^ 63 → IsIn low high n → n < 2 ^ 63
-fits low high n small h = grind (arith, nat_tests)
-
-pub send_fits : (send : ConfigFields) → SendTaken send → SendFits send
-send_fits send t = record {
-  shards = fits 1 1000 send.shards (omega arith) t.shards;
-  min_shards = fits 1 1000 send.min_shards (omega arith) t.min_shards;
-  max_shards = fits 1 1000 send.max_shards (omega arith) t.max_shards;
-  capacity = fits 1 1000000 send.capacity (omega arith) t.capacity;
-  batch = fits 1 10000 send.batch (omega arith) t.batch;
-  min_backoff_ms = fits 1 3600000 send.min_backoff_ms (omega arith) t.min_backoff_ms;
-  max_backoff_ms = fits 1 3600000 send.max_backoff_ms (omega arith) t.max_backoff_ms;
-  timeout_ms = fits 1 3600000 send.timeout_ms (omega arith) t.timeout_ms;
+unfolding order_fault send_fields
+send_taken ms rules h = record {
+  suits = (text_taken is_host_name (codes "localhost:9090") (get_member host.0 ms) refl, (text_taken is_request_path (codes "/api/v1/write") (get_member path.0 ms) refl, (number_row shards ms refl, (number_row min_shards ms refl, (number_row max_shards ms refl, (number_row capacity ms refl, (number_row batch ms refl, (number_row min_backoff_ms ms refl, (number_row max_backoff_ms ms refl, (number_row timeout_ms ms refl, (refl, tt)))))))))));
+  ordered = in_order _ (lesser_none (table_fault send_keys ms) (order_fault ms) h).1;
 }
 
-pub limits_fit : (limits : Limits) → LimitsTaken limits → LimitsFit limits
-limits_fit limits t = record {
-  max_body_bytes = fits 1 67108864 limits.max_body_bytes (omega arith) t.max_body_bytes;
-  max_labels = fits 1 64 limits.max_labels (omega arith) t.max_labels;
-  max_label_bytes = fits 1 16384 limits.max_label_bytes (omega arith) t.max_label_bytes;
-  busy_first = fits 0 1000000 limits.busy_first (omega arith) t.busy_first;
-}
+abbrev pub LimitsTaken : Limits → Type 0
+LimitsTaken limits = AllSuit (receive_values limits) receive_keys
+
+pub limits_taken : (ms : Members) → LimitsTaken (receive_limits ms)
+unfolding receive_limits
+limits_taken ms = (text_taken is_request_path (codes "/api/v1/write") (get_member path.0 ms) refl, (number_row max_body_bytes ms refl, (number_row max_labels ms refl, (number_row max_label_bytes ms refl, (number_row busy_first ms refl, (refl, tt))))))
+
+fit : (s : Setting) (kind : Kind) → Suits s kind → Fits s
+fit (of_number n) kind suits = suits.1
+fit (of_text t) kind suits = tt
+fit (of_texts ts) kind suits = tt
+
+pub all_fit : (settings : List Setting) (rows : List Row) → AllSuit settings rows → AllByRecursion Fits settings
+all_fit [] rows suit = tt
+all_fit (s ∷ settings) [] suit = absurd suit
+all_fit (s ∷ settings) (row ∷ rows) suit = (fit s row.1 suit.0, all_fit settings rows suit.1)
 
 -- the names that were written are read again
 names_read : (names : Names) → names_in (names_text names) ≡ Ok (Some names)
@@ -144,19 +118,25 @@ names_read Utf8 = refl
 
 pub send_same : (send : ConfigFields) → SendTaken send → send_fields (send_members send) send.rules ≡ send
 unfolding send_fields
-send_same send t = rw (t.host, t.path, t.shards, t.min_shards, t.max_shards, t.capacity, t.batch, t.min_backoff_ms, t.max_backoff_ms, t.timeout_ms, names_read send.names) refl
+send_same send t =
+    let (on, (at, (a, (b, (c, (d, (e, (f, (g, (h, more)))))))))) = t.suits in
+    rw (on, at, a.0, b.0, c.0, d.0, e.0, f.0, g.0, h.0, names_read send.names) refl
 
 pub send_judged : (send : ConfigFields) → SendTaken send → send_fault (send_members send) ≡ None
-unfolding send_fault order_fault send_fields least
-send_judged send t = rw (t.host, t.path, t.shards, t.min_shards, t.max_shards, t.capacity, t.batch, t.min_backoff_ms, t.max_backoff_ms, t.timeout_ms, names_read send.names, t.ordered) refl
+unfolding table_fault order_fault send_fields least
+send_judged send t =
+    let (on, (at, (a, (b, (c, (d, (e, (f, (g, (h, more)))))))))) = t.suits in
+    rw (on, at, a.0, b.0, c.0, d.0, e.0, f.0, g.0, h.0, names_read send.names, t.ordered) refl
 
 pub limits_same : (limits : Limits) → LimitsTaken limits → receive_limits (receive_members limits) ≡ limits
 unfolding receive_limits
-limits_same limits t = rw (t.path, t.max_body_bytes, t.max_labels, t.max_label_bytes, t.busy_first, names_read limits.names) refl
+limits_same limits (at, (a, (b, (c, (d, more))))) =
+    rw (at, a.0, b.0, c.0, d.0, names_read limits.names) refl
 
 pub limits_judged : (limits : Limits) → LimitsTaken limits → receive_fault (receive_members limits) ≡ None
-unfolding receive_fault least
-limits_judged limits t = rw (t.path, t.max_body_bytes, t.max_labels, t.max_label_bytes, t.busy_first, names_read limits.names) refl
+unfolding table_fault least
+limits_judged limits (at, (a, (b, (c, (d, more))))) =
+    rw (at, a.0, b.0, c.0, d.0, names_read limits.names) refl
 
 -- ---- rules
 
@@ -184,7 +164,7 @@ rule_same_as Drop labels separator pattern = rw (texts_of-items labels) refl
 
 rule_judged_as : (action : Action) (labels : List (List ℕ)) (separator pattern : List ℕ) → ¬ (labels ≡ [])
     → rule_table_fault (rule_members (record { action = action; source_labels = labels; separator = separator; pattern = pattern })) ≡ None
-unfolding rule_table_fault least
+unfolding table_fault least
 rule_judged_as Keep labels separator pattern some = rw (labels_judged labels some) refl
 rule_judged_as Drop labels separator pattern some = rw (labels_judged labels some) refl
 
@@ -220,7 +200,7 @@ labelled_source None h e = absurd cc
 labelled_source (Some d) h e = labelled_list (as_array d) h e
 
 labelled_rule : (o : Option Members) → rule_fault_of o ≡ None → HasLabels (rule_config (part_or no_members o))
-unfolding rule_table_fault rule_config
+unfolding table_fault rule_config
 labelled_rule None h e = absurd cc
 labelled_rule (Some ms) h e = labelled_source (get_member (codes "source_labels") ms) (least_none _ h).1.1.0 e
 

@@ -26,18 +26,18 @@ among_three f g h false true c p q r = refl
 among_three f g h false false true p q r = absurd (grind (arith, nat_tests))
 among_three f g h false false false p q r = rw (p, r) refl
 
-lesser-assoc : (f g h : Option SettingsFault) → lesser (lesser f g) h ≡ lesser f (lesser g h)
-lesser-assoc None g h = refl
-lesser-assoc (Some f) None h = refl
-lesser-assoc (Some f) (Some g) None = sym (lesser_of_none (lesser (Some f) (Some g)))
-lesser-assoc (Some f) (Some g) (Some h) =
+pub lesser_assoc : (f g h : Option SettingsFault) → lesser (lesser f g) h ≡ lesser f (lesser g h)
+lesser_assoc None g h = refl
+lesser_assoc (Some f) None h = refl
+lesser_assoc (Some f) (Some g) None = sym (lesser_of_none (lesser (Some f) (Some g)))
+lesser_assoc (Some f) (Some g) (Some h) =
     among_three f g h (nat_lt (fault_number g) (fault_number f)) (nat_lt (fault_number h) (fault_number g)) (nat_lt (fault_number h) (fault_number f)) refl refl refl
 
 -- the least of some, beginning with one
 pub least_from : (f : Option SettingsFault) (fs : List (Option SettingsFault)) → fold lesser f fs ≡ lesser f (least fs)
 unfolding least
 least_from f [] = lesser_of_none f
-least_from f (g ∷ fs) = least_from (lesser f g) fs ∙ lesser-assoc f g (fold lesser None fs) ∙ ap (lesser f) (sym (least_from g fs))
+least_from f (g ∷ fs) = least_from (lesser f g) fs ∙ lesser_assoc f g (fold lesser None fs) ∙ ap (lesser f) (sym (least_from g fs))
 
 noted_from : (f : Option SettingsFault) (notes : List SettingsNote) (n : SettingsNote) → fold with_note f (notes ++ n ∷ []) ≡ lesser (fold with_note f notes) (Some n.fault)
 noted_from f [] n = refl
@@ -52,12 +52,12 @@ noted_one_more notes n = noted_from None notes n
 pub rules_from : (f : Option SettingsFault) (ds : Items) → with_rules_fault f ds ≡ lesser f (with_rules_fault None ds)
 rules_from f no_items = lesser_of_none f
 rules_from f (item d ds) =
-    rules_from (lesser f (rule_fault_of (as_table d))) ds ∙ lesser-assoc f (rule_fault_of (as_table d)) (with_rules_fault None ds) ∙ ap (lesser f) (sym (rules_from (rule_fault_of (as_table d)) ds))
+    rules_from (lesser f (rule_fault_of (as_table d))) ds ∙ lesser_assoc f (rule_fault_of (as_table d)) (with_rules_fault None ds) ∙ ap (lesser f) (sym (rules_from (rule_fault_of (as_table d)) ds))
 
 -- an unknown key before others
 pub unknown_before : (f : Option SettingsFault) (known : Bool) → lesser (lesser f (Some UnknownKey)) (cond known None (Some UnknownKey)) ≡ lesser f (Some UnknownKey)
 unknown_before f true = sym (lesser_of_none (lesser f (Some UnknownKey)))
-unknown_before f false = lesser-assoc f (Some UnknownKey) (Some UnknownKey)
+unknown_before f false = lesser_assoc f (Some UnknownKey) (Some UnknownKey)
 
 -- the fault of what was judged
 pub judged_fault : (f : Option SettingsFault) (s : Settings) → result_err (unless_faulty f s) ≡ f
@@ -67,4 +67,4 @@ judged_fault (Some f) s = refl
 -- one more bad rule changes no more than the first
 pub bad_rule_again : (judged noted_before noted_after : Option SettingsFault) → IsNoted judged noted_before → noted_after ≡ lesser noted_before (Some BadRule) → IsNoted judged noted_after
 bad_rule_again judged before after (inl same) more = inr (more ∙ ap (λ f. lesser f (Some BadRule)) same)
-bad_rule_again judged before after (inr same) more = inr (more ∙ ap (λ f. lesser f (Some BadRule)) same ∙ lesser-assoc judged (Some BadRule) (Some BadRule))
+bad_rule_again judged before after (inr same) more = inr (more ∙ ap (λ f. lesser f (Some BadRule)) same ∙ lesser_assoc judged (Some BadRule) (Some BadRule))

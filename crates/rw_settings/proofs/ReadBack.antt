@@ -11,11 +11,12 @@ use Rattle.rw_relabel.specs.Rules.{RuleConfig}
 use Rattle.rw_shard_core.specs.declared.config.ConfigFields.{ConfigFields}
 use Rattle.rw_head.specs.declared.limits.Limits.{Limits}
 use Rattle.rw_settings.specs.Faults.{least}
-use Rattle.rw_settings.specs.Receiving.{receive_limits, receive_fault}
+use Rattle.rw_settings.specs.Receiving.{receive_values}
+use Rattle.rw_settings.specs.Keys.{document_keys, send_keys, receive_keys, keys_fault}
 use Rattle.rw_settings.specs.RuleTables.{with_rules_fault, rules_of}
-use Rattle.rw_settings.specs.Sending.{send_fields, send_fault}
-use Rattle.rw_settings.specs.Settings.{document_keys, document_fault, settings_of, settings_if, settings_in, unless_faulty}
-use Rattle.rw_settings.specs.Values.{keys_fault, section, list_at, part_fault, part_or}
+use Rattle.rw_settings.specs.Sending.{send_fields, send_fault, send_values}
+use Rattle.rw_settings.specs.Settings.{document_fault, settings_of, settings_if, settings_in, unless_faulty}
+use Rattle.rw_settings.specs.Values.{section, list_at, part_fault, part_or}
 use Rattle.rw_settings.specs.declared.fault.SettingsFault.{SettingsFault}
 use Rattle.rw_settings.specs.declared.settings.Settings.{Settings}
 use Rattle.rw_settings.proofs.DocumentLemmas.{least_none}
@@ -23,7 +24,7 @@ use Rattle.rw_settings.specs.SettingsText.{settings_text, send_text, receive_tex
 use Rattle.rw_settings.proofs.Written.{send_expressions, receive_expressions, rule_expressions, first_lines, lines_more, send_written, receive_written, rules_written}
 use Rattle.rw_settings.proofs.Defined.{send_members, with_rules, document_of, settings_expressions, settings_defined}
 use Rattle.rw_settings.proofs.Printed.{settings_printed}
-use Rattle.rw_settings.proofs.Judged.{SendTaken, LimitsTaken, HasLabels, send_taken, limits_taken, send_fits, limits_fit, send_same, send_judged, limits_same, limits_judged, rules_judged, rules_same, labelled_from}
+use Rattle.rw_settings.proofs.Judged.{SendTaken, LimitsTaken, HasLabels, send_taken, limits_taken, all_fit, send_same, send_judged, limits_same, limits_judged, rules_judged, rules_same, labelled_from}
 
 -- what settings have that were read
 record Taken (s : Settings) : Type 0 where
@@ -35,10 +36,6 @@ send_part : (o : Option Members) (rules : List RuleConfig) → part_fault send_f
 send_part None rules h = absurd cc
 send_part (Some ms) rules h = send_taken ms rules h
 
-limits_part : (o : Option Members) → part_fault receive_fault o ≡ None → LimitsTaken (receive_limits (part_or no_members o))
-limits_part None h = absurd cc
-limits_part (Some ms) h = limits_taken ms h
-
 rules_part : (o : Option Items) → part_fault (with_rules_fault None) o ≡ None → AllByRecursion HasLabels (rules_of (part_or no_items o))
 rules_part None h = absurd cc
 rules_part (Some ds) h = (labelled_from ds None h).1
@@ -49,7 +46,7 @@ settings_taken document h =
     let all = least_none _ h in
     record {
       send = send_part (section (get_member (codes "send") document)) _ all.1.0;
-      limits = limits_part (section (get_member (codes "receive") document)) all.1.1.0;
+      limits = limits_taken _;
       rules = rules_part (list_at (get_member (codes "rule") document)) all.1.1.1.0;
     }
 
@@ -97,9 +94,9 @@ settings_written : (s : Settings) → Taken s → IsLinesText false false (setti
 unfolding settings_text
 settings_written s taken =
     let more = flat_map rule_expressions s.config.rules in
-    let behind = lines_more (receive_expressions s.limits) more (receive_text s.limits) (flat_map rule_text s.config.rules) (receive_written s.limits (limits_fit s.limits taken.limits)) (rules_written s.config.rules) in
+    let behind = lines_more (receive_expressions s.limits) more (receive_text s.limits) (flat_map rule_text s.config.rules) (receive_written s.limits (all_fit (receive_values s.limits) receive_keys taken.limits)) (rules_written s.config.rules) in
     first_lines (send_expressions s.config) (receive_expressions s.limits ++ more) (send_text s.config) (receive_text s.limits ++ flat_map rule_text s.config.rules) refl
-    (send_written s.config (send_fits s.config taken.send)) behind
+    (send_written s.config (all_fit (send_values s.config) send_keys taken.send.suits)) behind
 
 no_mark : (s : Settings) → skip_bom (settings_text s) ≡ settings_text s
 unfolding skip_bom settings_text send_text

@@ -8,9 +8,9 @@ use Rattle.toml.specs.declared.value.Value.{Value}
 use Rattle.toml.proofs.Views.{items_view-drop}
 use Rattle.rw_relabel.specs.Patterns.{HasReadablePattern}
 use Rattle.rw_relabel.specs.Rules.{RuleConfig}
-use Rattle.rw_settings.specs.RuleTables.{labels_fault, are_texts, rule_config, rules_of}
+use Rattle.rw_settings.specs.RuleTables.{rule_config, rules_of}
 use Rattle.rw_settings.specs.Settings.{IsRefusedRule}
-use Rattle.rw_settings.specs.Values.{part_or}
+use Rattle.rw_settings.specs.Values.{are_texts, labels_fault, part_or}
 use Rattle.rw_settings.specs.declared.fault.SettingsFault.{SettingsFault}
 use Rattle.rw_settings.specs.declared.fault.SettingsFault.TheVariants.{OutOfMemory, WrongType, BadRule}
 

@@ -1,6 +1,6 @@
 -- The text of settings is what the crate of TOML writes for the expressions of its lines.
-use Rattle.std.proofs.Common.{◌≡◌, ℕ, ◌^◌, ◌<◌, pos, List, [], ◌∷◌, ◌++◌, flat_map, codes, decimal, Bool, true, false, refl, sym, ap, append_assoc, arith}
-use Rattle.std.specs.List.{concat}
+use Rattle.std.proofs.Common.{◌≡◌, ℕ, ◌^◌, ◌<◌, pos, List, [], ◌∷◌, ◌++◌, flat_map, codes, Bool, true, false, refl, sym, ap, append_assoc, arith}
+use Rattle.std.specs.List.{concat, AllByRecursion}
 use Rattle.toml_writer.specs.Text.{string_text, key_text}
 use Rattle.toml.specs.Data.{Data, string, integer, array, Items, no_items, item}
 use Rattle.toml.specs.Tables.{Expression, key_value, std_table, array_table}
@@ -8,55 +8,39 @@ use Rattle.toml.specs.Text.{breaks_lines, IsValueText, IsItemsText, IsLineText, 
 use Rattle.rw_relabel.specs.Rules.{RuleConfig}
 use Rattle.rw_shard_core.specs.declared.config.ConfigFields.{ConfigFields}
 use Rattle.rw_head.specs.declared.limits.Limits.{Limits}
-use Rattle.rw_settings.specs.SettingsText.{pair_line, list_text, send_lines, send_text, receive_lines, receive_text, names_text, action_text, rule_lines, rule_text}
+use Rattle.rw_settings.specs.Keys.{Row, send_keys, receive_keys, rule_keys}
+use Rattle.rw_settings.specs.Receiving.{receive_values}
+use Rattle.rw_settings.specs.RuleTables.{rule_values}
+use Rattle.rw_settings.specs.Sending.{send_values}
+use Rattle.rw_settings.specs.SettingsText.{value_text, pair_line, list_text, lines_of, send_lines, send_text, receive_lines, receive_text, rule_lines, rule_text}
+use Rattle.rw_settings.specs.Values.{Setting, of_number, of_text, of_texts}
 
 -- a line of a table
 abbrev pub pair : List ℕ → Data → Expression
 pair key content = (([], key), key_value content)
-
-abbrev pub number : ℕ → Data
-number n = integer (pos n)
 
 -- texts as items
 abbrev pub text_items : List (List ℕ) → Items
 text_items [] = no_items
 text_items (t ∷ ts) = item (string t) (text_items ts)
 
+abbrev pub data_of : Setting → Data
+data_of (of_number n) = integer (pos n)
+data_of (of_text t) = string t
+data_of (of_texts ts) = array (text_items ts)
+
+abbrev pub pairs_of : List Row → List Setting → List Expression
+pairs_of (row ∷ rows) (s ∷ settings) = pair row.0 (data_of s) ∷ pairs_of rows settings
+pairs_of _ _ = []
+
 abbrev pub send_expressions : ConfigFields → List Expression
-send_expressions send =
-    (([], codes "send"), std_table)
-    ∷ pair (codes "host") (string send.target.host)
-    ∷ pair (codes "path") (string send.target.path)
-    ∷ pair (codes "shards") (number send.shards)
-    ∷ pair (codes "min_shards") (number send.min_shards)
-    ∷ pair (codes "max_shards") (number send.max_shards)
-    ∷ pair (codes "capacity") (number send.capacity)
-    ∷ pair (codes "batch") (number send.batch)
-    ∷ pair (codes "min_backoff_ms") (number send.min_backoff_ms)
-    ∷ pair (codes "max_backoff_ms") (number send.max_backoff_ms)
-    ∷ pair (codes "timeout_ms") (number send.timeout_ms)
-    ∷ pair (codes "names") (string (names_text send.names))
-    ∷ []
+send_expressions send = (([], codes "send"), std_table) ∷ pairs_of send_keys (send_values send)
 
 abbrev pub receive_expressions : Limits → List Expression
-receive_expressions limits =
-    (([], codes "receive"), std_table)
-    ∷ pair (codes "path") (string limits.path)
-    ∷ pair (codes "max_body_bytes") (number limits.max_body_bytes)
-    ∷ pair (codes "max_labels") (number limits.max_labels)
-    ∷ pair (codes "max_label_bytes") (number limits.max_label_bytes)
-    ∷ pair (codes "busy_first") (number limits.busy_first)
-    ∷ pair (codes "names") (string (names_text limits.names))
-    ∷ []
+receive_expressions limits = (([], codes "receive"), std_table) ∷ pairs_of receive_keys (receive_values limits)
 
 abbrev pub rule_expressions : RuleConfig → List Expression
-rule_expressions rule =
-    (([], codes "rule"), array_table)
-    ∷ pair (codes "action") (string (action_text rule.action))
-    ∷ pair (codes "source_labels") (array (text_items rule.source_labels))
-    ∷ pair (codes "separator") (string rule.separator)
-    ∷ pair (codes "regex") (string rule.pattern)
-    ∷ []
+rule_expressions rule = (([], codes "rule"), array_table) ∷ pairs_of rule_keys (rule_values rule)
 
 -- each text is a line for its expression
 abbrev pub AreLines : Bool → List Expression → List (List ℕ) → Type 0
@@ -93,14 +77,7 @@ pair_written : (started : Bool) (key value : List ℕ) (content : Data) → key_
 unfolding pair_line
 pair_written started key value content bare written = (value, ap (λ k. k ++ (codes " = " ++ (value ++ codes "\n"))) (sym bare), written)
 
--- a number that fits
-number_written : (started : Bool) (key : List ℕ) (n : ℕ) → key_text key ≡ key → n < 2 ^ 63 → IsLineText false started ([], key) (key_value (number n)) (pair_line key (decimal n))
-number_written started key n bare fits = pair_written started key (decimal n) (number n) bare (refl, record { sfits = omega arith })
-
-text_written : (started : Bool) (key text : List ℕ) → key_text key ≡ key → IsLineText false started ([], key) (key_value (string text)) (pair_line key (string_text text))
-text_written started key text bare = pair_written started key (string_text text) (string text) bare refl
-
--- texts after the first
+-- texts behind the first
 abbrev more_texts : List (List ℕ) → List ℕ
 more_texts ts = flat_map (λ t. codes ", " ++ string_text t) ts
 
@@ -121,100 +98,45 @@ list_written (t ∷ ts) =
     let whole = ap (λ x. codes "[" ++ x) (append_assoc (string_text t) (more_texts ts) (codes "]")) in
     (string_text t ++ rest, whole, rw (on_one_line (text_items (t ∷ ts))) (string_text t, rest, refl, refl, items_written ts))
 
--- the numbers of the tables fit
-pub record SendFits (send : ConfigFields) : Type 0 where
-  pub shards : send.shards < 2 ^ 63
-  pub min_shards : send.min_shards < 2 ^ 63
-  pub max_shards : send.max_shards < 2 ^ 63
-  pub capacity : send.capacity < 2 ^ 63
-  pub batch : send.batch < 2 ^ 63
-  pub min_backoff_ms : send.min_backoff_ms < 2 ^ 63
-  pub max_backoff_ms : send.max_backoff_ms < 2 ^ 63
-  pub timeout_ms : send.timeout_ms < 2 ^ 63
+-- ---- the tables
 
-pub record LimitsFit (limits : Limits) : Type 0 where
-  pub max_body_bytes : limits.max_body_bytes < 2 ^ 63
-  pub max_labels : limits.max_labels < 2 ^ 63
-  pub max_label_bytes : limits.max_label_bytes < 2 ^ 63
-  pub busy_first : limits.busy_first < 2 ^ 63
+-- a number fits 64 signed bits
+abbrev pub Fits : Setting → Type 0
+Fits (of_number n) = n < 2 ^ 63
+Fits _ = Unit {0}
 
-pub send_written : (send : ConfigFields) → SendFits send → IsLinesText false false (send_expressions send) (send_text send)
+value_written : (s : Setting) → Fits s → IsValueText false (data_of s) (value_text s)
+value_written (of_number n) fits = (refl, record { sfits = omega arith })
+value_written (of_text t) fits = refl
+value_written (of_texts ts) fits = list_written ts
+
+-- a key needs no quotes
+abbrev IsBare : Row → Type 0
+IsBare row = key_text row.0 ≡ row.0
+
+pairs_written : (rows : List Row) (settings : List Setting) → AllByRecursion IsBare rows → AllByRecursion Fits settings → AreLines true (pairs_of rows settings) (lines_of rows settings)
+pairs_written [] settings bare fits = tt
+pairs_written (row ∷ rows) [] bare fits = tt
+pairs_written (row ∷ rows) (s ∷ settings) bare fits =
+    (pair_written true row.0 (value_text s) (data_of s) bare.0 (value_written s fits.0), pairs_written rows settings bare.1 fits.1)
+
+pub send_written : (send : ConfigFields) → AllByRecursion Fits (send_values send) → IsLinesText false false (send_expressions send) (send_text send)
 unfolding send_text key_text
-send_written send fits = lines_text false (send_expressions send) (send_lines send) (
-  refl,
-  (
-    text_written true (codes "host") send.target.host refl,
-    (
-      text_written true (codes "path") send.target.path refl,
-      (
-        number_written true (codes "shards") send.shards refl fits.shards,
-        (
-          number_written true (codes "min_shards") send.min_shards refl fits.min_shards,
-          (
-            number_written true (codes "max_shards") send.max_shards refl fits.max_shards,
-            (
-              number_written true (codes "capacity") send.capacity refl fits.capacity,
-              (
-                number_written true (codes "batch") send.batch refl fits.batch,
-                (
-                  number_written true (codes "min_backoff_ms") send.min_backoff_ms refl fits.min_backoff_ms,
-                  (
-                    number_written true (codes "max_backoff_ms") send.max_backoff_ms refl fits.max_backoff_ms,
-                    (
-                      number_written true (codes "timeout_ms") send.timeout_ms refl fits.timeout_ms,
-                      (text_written true (codes "names") (names_text send.names) refl, tt),
-                    ),
-                  ),
-                ),
-              ),
-            ),
-          ),
-        ),
-      ),
-    ),
-  ),
-)
+send_written send fits =
+    let bare : AllByRecursion IsBare send_keys = (refl, (refl, (refl, (refl, (refl, (refl, (refl, (refl, (refl, (refl, (refl, tt))))))))))) in
+    lines_text false (send_expressions send) (send_lines send) (refl, pairs_written send_keys (send_values send) bare fits)
 
-pub receive_written : (limits : Limits) → LimitsFit limits → IsLinesText false true (receive_expressions limits) (receive_text limits)
+pub receive_written : (limits : Limits) → AllByRecursion Fits (receive_values limits) → IsLinesText false true (receive_expressions limits) (receive_text limits)
 unfolding receive_text key_text
-receive_written limits fit = lines_text true (receive_expressions limits) (receive_lines limits) (
-  refl,
-  (
-    text_written true (codes "path") limits.path refl,
-    (
-      number_written true (codes "max_body_bytes") limits.max_body_bytes refl fit.max_body_bytes,
-      (
-        number_written true (codes "max_labels") limits.max_labels refl fit.max_labels,
-        (
-          number_written true (codes "max_label_bytes") limits.max_label_bytes refl fit.max_label_bytes,
-          (
-            number_written true (codes "busy_first") limits.busy_first refl fit.busy_first,
-            (text_written true (codes "names") (names_text limits.names) refl, tt),
-          ),
-        ),
-      ),
-    ),
-  ),
-)
+receive_written limits fits =
+    let bare : AllByRecursion IsBare receive_keys = (refl, (refl, (refl, (refl, (refl, (refl, tt)))))) in
+    lines_text true (receive_expressions limits) (receive_lines limits) (refl, pairs_written receive_keys (receive_values limits) bare fits)
 
 rule_written : (rule : RuleConfig) → IsLinesText false true (rule_expressions rule) (rule_text rule)
 unfolding rule_text key_text
-rule_written rule = lines_text true (rule_expressions rule) (rule_lines rule) (
-  refl,
-  (
-    text_written true (codes "action") (action_text rule.action) refl,
-    (
-      pair_written true (codes "source_labels") (list_text rule.source_labels) (array (text_items rule.source_labels)) refl (list_written rule.source_labels),
-      (
-        text_written true (codes "separator") rule.separator refl,
-        (
-          text_written true (codes "regex") rule.pattern refl,
-          tt,
-        ),
-      ),
-    ),
-  ),
-)
+rule_written rule =
+    let bare : AllByRecursion IsBare rule_keys = (refl, (refl, (refl, (refl, tt)))) in
+    lines_text true (rule_expressions rule) (rule_lines rule) (refl, pairs_written rule_keys (rule_values rule) bare (tt, (tt, (tt, (tt, tt)))))
 
 pub rules_written : (rules : List RuleConfig) → IsLinesText false true (flat_map rule_expressions rules) (flat_map rule_text rules)
 rules_written [] = refl

@@ -1,4 +1,5 @@
 pub mod Faults
+pub mod Keys
 pub mod Notes
 pub mod Receiving
 pub mod RuleTables

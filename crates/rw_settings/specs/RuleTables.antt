@@ -1,53 +1,20 @@
 -- The tables `[[rule]]`.
-use Rattle.std.specs.Prelude.{ℕ, List, [], ◌∷◌, Bool, true, ◌&&◌, ◌||◌, is_some, Option, Some, None, codes, map, string_bytes, if◌then◌else◌}
-use Rattle.std.specs.Result.{result_err}
+use Rattle.std.specs.Prelude.{ℕ, List, [], ◌∷◌, Option, Some, None, codes, map, string_bytes, if◌then◌else◌}
 use Rattle.std.specs.Str.{bytes_eq}
-use Rattle.toml.specs.Data.{Data, as_str, as_table, as_array, Members, no_members, get_member, Items, no_items, item}
+use Rattle.toml.specs.Data.{as_str, as_table, Members, no_members, get_member, Items, no_items, item}
 use Rattle.rw_relabel.specs.Rules.{RuleConfig}
 use Rattle.rw_relabel.specs.declared.rule.Action.{Action}
 use Rattle.rw_relabel.specs.declared.rule.Action.TheVariants.{Keep, Drop}
-use Rattle.rw_settings.specs.Faults.{lesser, least}
-use Rattle.rw_settings.specs.Values.{keys_fault, text_at, any_text, found_or, list_at, part_or}
+use Rattle.rw_settings.specs.Faults.{lesser}
+use Rattle.rw_settings.specs.Keys.{rule_keys, table_fault}
+use Rattle.rw_settings.specs.Values.{Setting, of_text, of_texts, text_at, any_text, found_or, list_at, part_or}
 use Rattle.rw_settings.specs.declared.fault.SettingsFault.{SettingsFault}
 use Rattle.rw_settings.specs.declared.rule_tables.RuleFields.{RuleFields}
-use Rattle.rw_settings.specs.declared.fault.SettingsFault.TheVariants.{WrongType, OutOfRange, BadRule}
-
-abbrev pub rule_keys : List (List ℕ)
-rule_keys = codes "action" ∷ codes "source_labels" ∷ codes "separator" ∷ codes "regex" ∷ []
-
--- an action is `keep` or `drop`, and is required
-abbrev pub action_text_fault : Option (List ℕ) → Option SettingsFault
-action_text_fault None = Some WrongType
-action_text_fault (Some text) = if bytes_eq text (codes "keep") || bytes_eq text (codes "drop") then None else Some BadRule
-
-abbrev pub action_fault : Option Data → Option SettingsFault
-action_fault None = Some BadRule
-action_fault (Some value) = action_text_fault (as_str value)
-
--- source labels are a list of texts that is not empty, and are required
-abbrev pub are_texts : Items → Bool
-are_texts no_items = true
-are_texts (item value rest) = is_some (as_str value) && are_texts rest
-
-abbrev pub labels_fault : Option Items → Option SettingsFault
-labels_fault None = Some WrongType
-labels_fault (Some no_items) = Some OutOfRange
-labels_fault (Some (item value rest)) = if are_texts (item value rest) then None else Some WrongType
-
-abbrev pub source_fault : Option Data → Option SettingsFault
-source_fault None = Some BadRule
-source_fault (Some value) = labels_fault (as_array value)
+use Rattle.rw_settings.specs.declared.fault.SettingsFault.TheVariants.{WrongType}
 
 -- what is wrong with a rule, except that its pattern is refused
-unfoldable pub rule_table_fault : Members → Option SettingsFault
-rule_table_fault table = least (
-    keys_fault rule_keys table
-    ∷ action_fault (get_member (codes "action") table)
-    ∷ source_fault (get_member (codes "source_labels") table)
-    ∷ result_err (text_at any_text (get_member (codes "separator") table))
-    ∷ result_err (text_at any_text (get_member (codes "regex") table))
-    ∷ []
-    )
+abbrev pub rule_table_fault : Members → Option SettingsFault
+rule_table_fault table = table_fault rule_keys table
 
 abbrev pub rule_fault_of : Option Members → Option SettingsFault
 rule_fault_of None = Some WrongType
@@ -88,3 +55,11 @@ written_rule r = record {
   separator = string_bytes r.separator;
   pattern = string_bytes r.pattern;
 }
+
+abbrev pub action_text : Action → List ℕ
+action_text Keep = codes "keep"
+action_text Drop = codes "drop"
+
+-- the values in the order of the keys
+abbrev pub rule_values : RuleConfig → List Setting
+rule_values rule = of_text (action_text rule.action) ∷ of_texts rule.source_labels ∷ of_text rule.separator ∷ of_text rule.pattern ∷ []

@@ -6,16 +6,14 @@ use Rattle.toml.specs.Parse.{parse_document}
 use Rattle.rw_relabel.specs.Patterns.{HasReadablePattern, IsRefusedPattern}
 use Rattle.rw_relabel.specs.Rules.{RuleConfig}
 use Rattle.rw_settings.specs.Faults.{least}
+use Rattle.rw_settings.specs.Keys.{document_keys, keys_fault}
 use Rattle.rw_settings.specs.Receiving.{receive_limits, receive_fault}
 use Rattle.rw_settings.specs.RuleTables.{with_rules_fault, rules_of}
 use Rattle.rw_settings.specs.Sending.{send_fields, send_fault}
-use Rattle.rw_settings.specs.Values.{keys_fault, section, list_at, part_fault, part_or}
+use Rattle.rw_settings.specs.Values.{section, list_at, part_fault, part_or}
 use Rattle.rw_settings.specs.declared.fault.SettingsFault.{SettingsFault}
 use Rattle.rw_settings.specs.declared.fault.SettingsFault.TheVariants.{OutOfMemory, NotToml, BadRule}
 use Rattle.rw_settings.specs.declared.settings.Settings.{Settings}
-
-abbrev pub document_keys : List (List ℕ)
-document_keys = codes "send" ∷ codes "receive" ∷ codes "rule" ∷ []
 
 -- the least fault of a document, except that a pattern is refused
 unfoldable pub document_fault : Members → Option SettingsFault

@@ -1,20 +1,11 @@
--- What is at a key: nothing, a value of its type and in its range, or a fault.
-use Rattle.std.specs.Prelude.{ℕ, ℤ, pos, negsuc, List, Bool, true, ◌&&◌, nat_le, Option, Some, None, Result, Ok, Err, codes, if◌then◌else◌}
-use Rattle.std.specs.List.{list_any}
+-- What stands at a key: nothing, a value of its type and in its range, or a fault.
+use Rattle.std.specs.Prelude.{ℕ, ℤ, pos, negsuc, List, Bool, true, ◌&&◌, ◌||◌, nat_le, is_some, Option, Some, None, Result, Ok, Err, codes, if◌then◌else◌}
 use Rattle.std.specs.Str.{bytes_eq}
-use Rattle.toml.specs.Data.{Data, as_integer, as_str, as_table, as_array, Members, no_members, member, Items, no_items}
+use Rattle.toml.specs.Data.{Data, as_integer, as_str, as_table, as_array, Members, no_members, Items, no_items, item}
 use Rattle.rw_types.specs.declared.names.Names.{Names}
 use Rattle.rw_types.specs.declared.names.Names.TheVariants.{Legacy, Utf8}
 use Rattle.rw_settings.specs.declared.fault.SettingsFault.{SettingsFault}
-use Rattle.rw_settings.specs.declared.fault.SettingsFault.TheVariants.{UnknownKey, WrongType, OutOfRange}
-
--- each key of a table is one of these
-abbrev pub has_only : List (List ℕ) → Members → Bool
-has_only known no_members = true
-has_only known (member key value rest) = list_any (bytes_eq key) known && has_only known rest
-
-abbrev pub keys_fault : List (List ℕ) → Members → Option SettingsFault
-keys_fault known table = if has_only known table then None else Some UnknownKey
+use Rattle.rw_settings.specs.declared.fault.SettingsFault.TheVariants.{WrongType, OutOfRange, BadRule}
 
 -- a whole number in a range
 abbrev pub number_in : ℕ → ℕ → ℤ → Result (Option ℕ) SettingsFault
@@ -49,6 +40,10 @@ names_in text =
     else if bytes_eq text (codes "utf8") then Ok (Some Utf8)
     else Err OutOfRange
 
+abbrev pub names_text : Names → List ℕ
+names_text Legacy = codes "legacy"
+names_text Utf8 = codes "utf8"
+
 abbrev pub names_if : Option (List ℕ) → Result (Option Names) SettingsFault
 names_if None = Err WrongType
 names_if (Some text) = names_in text
@@ -57,7 +52,30 @@ abbrev pub names_at : Option Data → Result (Option Names) SettingsFault
 names_at None = Ok None
 names_at (Some value) = names_if (as_str value)
 
--- what was found, or the default if there is nothing valid
+-- an action is `keep` or `drop`, and has to be there
+abbrev pub action_text_fault : Option (List ℕ) → Option SettingsFault
+action_text_fault None = Some WrongType
+action_text_fault (Some text) = if bytes_eq text (codes "keep") || bytes_eq text (codes "drop") then None else Some BadRule
+
+abbrev pub action_fault : Option Data → Option SettingsFault
+action_fault None = Some BadRule
+action_fault (Some value) = action_text_fault (as_str value)
+
+-- source labels are a list of texts that is not empty, and have to be there
+abbrev pub are_texts : Items → Bool
+are_texts no_items = true
+are_texts (item value rest) = is_some (as_str value) && are_texts rest
+
+abbrev pub labels_fault : Option Items → Option SettingsFault
+labels_fault None = Some WrongType
+labels_fault (Some no_items) = Some OutOfRange
+labels_fault (Some (item value rest)) = if are_texts (item value rest) then None else Some WrongType
+
+abbrev pub source_fault : Option Data → Option SettingsFault
+source_fault None = Some BadRule
+source_fault (Some value) = labels_fault (as_array value)
+
+-- what was found, or the default where there is nothing that can be taken
 abbrev pub found_or : {A : Type 0} → A → Result (Option A) SettingsFault → A
 found_or default (Ok (Some x)) = x
 found_or default _ = default
@@ -81,3 +99,9 @@ part_fault fault (Some part) = fault part
 abbrev pub part_or : {A : Type 0} → A → Option A → A
 part_or empty None = empty
 part_or empty (Some part) = part
+
+-- the value of a setting
+pub data Setting : Type 0 where
+  of_number : ℕ → Setting
+  of_text : List ℕ → Setting
+  of_texts : List (List ℕ) → Setting

@@ -5,134 +5,26 @@ ghost use Rattle.std.specs.Result.{result_err};
 ghost use Rattle.toml.specs.Data.{get_member, no_members, as_table};
 ghost use Rattle.toml.specs.Parse.{parse_document};
 ghost use Rattle.toml.specs.View.{view, items_view, table_view};
-ghost use Rattle.rw_types.specs.Requests.{is_host_name, is_request_path};
 ghost use Rattle.rw_settings.specs.Faults.{lesser};
 ghost use Rattle.rw_settings.specs.Notes.{noted, IsNoted};
 ghost use Rattle.rw_settings.specs.Receiving.{receive_fault};
-ghost use Rattle.rw_settings.specs.RuleTables.{action_fault, source_fault, rule_table_fault, rule_fault_of, with_rules_fault};
+ghost use Rattle.rw_settings.specs.RuleTables.{rule_fault_of, with_rules_fault};
 ghost use Rattle.rw_settings.specs.Sending.{order_fault, send_fault};
 ghost use Rattle.rw_settings.specs.Settings.{document_fault, settings_if, settings_in};
-ghost use Rattle.rw_settings.specs.Values.{number_at, text_at, any_text, names_at, part_fault, section, list_at};
+ghost use Rattle.rw_settings.specs.Values.{part_fault, section, list_at};
 ghost use Rattle.rw_settings.specs.declared.fault.SettingsFault.TheVariants.{NotToml, WrongType, BadRule};
 
 use crate::fault::SettingsFault;
-use crate::notes::{SettingsNote, note_keys, note_value, push_note};
+use crate::keys::{REGEX, document_keys, receive_keys, rule_keys, send_keys};
+use crate::notes::{SettingsNote, note_keys, note_table, push_note};
 use crate::read::text_in;
-use crate::rule_tables::{action_fault, source_fault};
 use crate::sending::order_fault;
-use crate::values::{
-    host_fault, list_at, list_or_none, names_fault, number_fault, path_fault, section, text_fault,
-    value_at,
-};
+use crate::values::{list_at, list_or_none, section, value_at};
 use regex::Regex;
 use std::alloc::{AllocError, Global};
 use toml::{Table, Value};
 
-/// Adds a note on the whole number at a key, if it has a fault.
-fn note_number<const LOW: u64, const HIGH: u64>(
-    alloc: Global,
-    notes: &mut Vec<SettingsNote>,
-    section: &str,
-    table: &Table,
-    key: &str,
-) -> Result<(), AllocError>
-    ensures { OnOk result (noted notes.new.items ≡ lesser (noted notes.old.items)
-        (result_err (number_at LOW HIGH (get_member key.now (table_view table.now))))) }
-{
-    let takes = format!(in alloc; "a whole number from {LOW} to {HIGH}")?;
-    let fault = number_fault::<LOW, HIGH>(table, key);
-    note_value(
-        alloc,
-        notes,
-        section,
-        key,
-        value_at(table, key),
-        fault,
-        takes.as_str(),
-    )
-}
-
-/// Adds a note on the path at a key, if it has a fault.
-fn note_path(
-    alloc: Global,
-    notes: &mut Vec<SettingsNote>,
-    section: &str,
-    table: &Table,
-    key: &str,
-) -> Result<(), AllocError>
-    ensures { OnOk result (noted notes.new.items ≡ lesser (noted notes.old.items)
-        (result_err (text_at is_request_path (get_member key.now (table_view table.now))))) }
-{
-    let takes = "'/' and then letters, digits and '/-._~%?=&', 255 bytes at most";
-    let fault = path_fault(table, key);
-    note_value(
-        alloc,
-        notes,
-        section,
-        key,
-        value_at(table, key),
-        fault,
-        takes,
-    )
-}
-
-/// Adds a note on the names at a key, if they have a fault.
-fn note_names(
-    alloc: Global,
-    notes: &mut Vec<SettingsNote>,
-    section: &str,
-    table: &Table,
-) -> Result<(), AllocError>
-    ensures { OnOk result (noted notes.new.items ≡ lesser (noted notes.old.items)
-        (result_err (names_at (get_member (codes "names") (table_view table.now))))) }
-{
-    let fault = names_fault(table, "names");
-    note_value(
-        alloc,
-        notes,
-        section,
-        "names",
-        value_at(table, "names"),
-        fault,
-        "'legacy' or 'utf8'",
-    )
-}
-
-/// Adds a note on the text at a key, if it has a fault.
-fn note_text(
-    alloc: Global,
-    notes: &mut Vec<SettingsNote>,
-    section: &str,
-    table: &Table,
-    key: &str,
-) -> Result<(), AllocError>
-    ensures { OnOk result (noted notes.new.items ≡ lesser (noted notes.old.items)
-        (result_err (text_at any_text (get_member key.now (table_view table.now))))) }
-{
-    let fault = text_fault(table, key);
-    note_value(
-        alloc,
-        notes,
-        section,
-        key,
-        value_at(table, key),
-        fault,
-        "a text",
-    )
-}
-
-/// Adds a note on the host of the table `send`, if it has a fault.
-fn note_host(alloc: Global, notes: &mut Vec<SettingsNote>, send: &Table) -> Result<(), AllocError>
-    ensures { OnOk result (noted notes.new.items ≡ lesser (noted notes.old.items)
-        (result_err (text_at is_host_name (get_member (codes "host") (table_view send.now))))) }
-{
-    let fault = host_fault(send, "host");
-    let value = value_at(send, "host");
-    let takes = "1 to 255 bytes, each '!' to '~'";
-    note_value(alloc, notes, "send.", "host", value, fault, takes)
-}
-
-/// Adds a note if shards or backoff are not between their bounds.
+/// Adds a note where shards or backoff are not between their bounds.
 #[tactic(auto, using(crate::proofs::NoteLemmas::lesser_of_none))]
 fn note_order(alloc: Global, notes: &mut Vec<SettingsNote>, send: &Table) -> Result<(), AllocError>
     ensures { OnOk result
@@ -151,122 +43,14 @@ fn note_order(alloc: Global, notes: &mut Vec<SettingsNote>, send: &Table) -> Res
 }
 
 /// Adds a note on each fault of the table `send`.
+#[tactic(auto, using(crate::proofs::NoteLemmas::lesser_assoc))]
 fn note_send(alloc: Global, notes: &mut Vec<SettingsNote>, send: &Table) -> Result<(), AllocError>
     ensures { OnOk result
         (noted notes.new.items
         ≡ lesser (noted notes.old.items) (send_fault (table_view send.now))) }
 {
-    let keys = [
-        "host",
-        "path",
-        "shards",
-        "min_shards",
-        "max_shards",
-        "capacity",
-        "batch",
-        "min_backoff_ms",
-        "max_backoff_ms",
-        "timeout_ms",
-        "names",
-    ];
-    note_keys(alloc, notes, "send.", send, &keys)?;
-    note_host(alloc, notes, send)?;
-    note_path(alloc, notes, "send.", send, "path")?;
-    note_number::<1, 1_000>(alloc, notes, "send.", send, "shards")?;
-    note_number::<1, 1_000>(alloc, notes, "send.", send, "min_shards")?;
-    note_number::<1, 1_000>(alloc, notes, "send.", send, "max_shards")?;
-    note_number::<1, 1_000_000>(alloc, notes, "send.", send, "capacity")?;
-    note_number::<1, 10_000>(alloc, notes, "send.", send, "batch")?;
-    note_number::<1, 3_600_000>(alloc, notes, "send.", send, "min_backoff_ms")?;
-    note_number::<1, 3_600_000>(alloc, notes, "send.", send, "max_backoff_ms")?;
-    note_number::<1, 3_600_000>(alloc, notes, "send.", send, "timeout_ms")?;
-    note_names(alloc, notes, "send.", send)?;
+    note_table(alloc, notes, "send.", send, send_keys())?;
     note_order(alloc, notes, send)?;
-    Ok(())
-}
-
-/// Adds a note on each fault of the table `receive`.
-fn note_receive(
-    alloc: Global,
-    notes: &mut Vec<SettingsNote>,
-    receive: &Table,
-) -> Result<(), AllocError>
-    ensures { OnOk result (noted notes.new.items
-        ≡ lesser (noted notes.old.items) (receive_fault (table_view receive.now))) }
-{
-    let keys = [
-        "path",
-        "max_body_bytes",
-        "max_labels",
-        "max_label_bytes",
-        "busy_first",
-        "names",
-    ];
-    note_keys(alloc, notes, "receive.", receive, &keys)?;
-    note_path(alloc, notes, "receive.", receive, "path")?;
-    note_number::<1, 67_108_864>(alloc, notes, "receive.", receive, "max_body_bytes")?;
-    note_number::<1, 64>(alloc, notes, "receive.", receive, "max_labels")?;
-    note_number::<1, 16_384>(alloc, notes, "receive.", receive, "max_label_bytes")?;
-    note_number::<0, 1_000_000>(alloc, notes, "receive.", receive, "busy_first")?;
-    note_names(alloc, notes, "receive.", receive)?;
-    Ok(())
-}
-
-/// Adds a note on the action of a rule, if it has a fault.
-fn note_action(
-    alloc: Global,
-    notes: &mut Vec<SettingsNote>,
-    section: &str,
-    rule: &Table,
-) -> Result<(), AllocError>
-    ensures { OnOk result (noted notes.new.items ≡ lesser (noted notes.old.items)
-        (action_fault (get_member (codes "action") (table_view rule.now)))) }
-{
-    let fault = action_fault(rule);
-    let value = value_at(rule, "action");
-    note_value(
-        alloc,
-        notes,
-        section,
-        "action",
-        value,
-        fault,
-        "keep or drop",
-    )
-}
-
-/// Adds a note on the source labels of a rule, if they have a fault.
-fn note_labels(
-    alloc: Global,
-    notes: &mut Vec<SettingsNote>,
-    section: &str,
-    rule: &Table,
-) -> Result<(), AllocError>
-    ensures { OnOk result (noted notes.new.items ≡ lesser (noted notes.old.items)
-        (source_fault (get_member (codes "source_labels") (table_view rule.now)))) }
-{
-    let fault = source_fault(rule);
-    let value = value_at(rule, "source_labels");
-    let takes = "a list of texts, at least one";
-    note_value(alloc, notes, section, "source_labels", value, fault, takes)
-}
-
-/// Adds a note on each fault of a rule's table, except that its pattern is refused.
-fn note_rule_table(
-    alloc: Global,
-    notes: &mut Vec<SettingsNote>,
-    section: &str,
-    rule: &Table,
-) -> Result<(), AllocError>
-    ensures { OnOk result (noted notes.new.items
-        ≡ lesser (noted notes.old.items) (rule_table_fault (table_view rule.now))) }
-{
-    let keys = ["action", "source_labels", "separator", "regex"];
-    note_keys(alloc, notes, section, rule, &keys)?;
-    note_action(alloc, notes, section, rule)?;
-    note_labels(alloc, notes, section, rule)?;
-    note_text(alloc, notes, section, rule, "separator")?;
-    note_text(alloc, notes, section, rule, "regex")?;
     Ok(())
 }
 
@@ -288,7 +72,7 @@ fn note_rule(
         }
         Some(table) => {
             let section = format!(in alloc; "rule {number}, ")?;
-            note_rule_table(alloc, notes, section.as_str(), table)
+            note_table(alloc, notes, section.as_str(), table, rule_keys())
         }
     }
 }
@@ -354,7 +138,7 @@ fn note_receive_part(
 {
     match section(document, "receive", empty) {
         None => note_part(alloc, notes, "receive", "a table, [receive]"),
-        Some(receive) => note_receive(alloc, notes, receive),
+        Some(receive) => note_table(alloc, notes, "receive.", receive, receive_keys()),
     }
 }
 
@@ -385,7 +169,7 @@ fn note_document(
     ensures { OnOk result (noted notes.new.items
         ≡ lesser (noted notes.old.items) (document_fault (table_view document.now))) }
 {
-    note_keys(alloc, notes, "", document, &["send", "receive", "rule"])?;
+    note_keys(alloc, notes, "", document, document_keys())?;
     note_send_part(alloc, notes, document, empty)?;
     note_receive_part(alloc, notes, document, empty)?;
     note_rules_part(alloc, notes, document)?;
@@ -417,7 +201,7 @@ fn refusal_as_used(alloc: Global, pattern: &str) -> Result<Option<&'static str>,
 fn pattern_of(rule: &Value) -> Option<&str> {
     match rule.as_table() {
         None => None,
-        Some(table) => match value_at(table, "regex") {
+        Some(table) => match value_at(table, REGEX.0) {
             None => None,
             Some(value) => value.as_str(),
         },

@@ -3,6 +3,8 @@
 
 mod explain;
 mod fault;
+mod judging;
+mod keys;
 mod notes;
 mod print;
 mod printed_values;
@@ -11,7 +13,6 @@ mod receiving;
 mod rule_tables;
 mod sending;
 mod settings;
-mod tables;
 mod values;
 
 pub use explain::explain_settings;

@@ -1,14 +1,16 @@
 //! Notes on what is wrong with settings, for those who wrote them.
 
-ghost use Rattle.std.specs.Prelude.{◌≡◌, Some, map, OnOk};
+ghost use Rattle.std.specs.Prelude.{◌≡◌, Some, map, fold, OnOk};
 ghost use Rattle.toml.specs.View.{table_view};
 ghost use Rattle.rw_settings.specs.Faults.{lesser};
 ghost use Rattle.rw_settings.specs.Notes.{noted};
-ghost use Rattle.rw_settings.specs.Values.{keys_fault};
+ghost use Rattle.rw_settings.specs.Keys.{row_of, keys_fault, fault_at, table_fault};
 ghost use Rattle.rw_settings.specs.declared.fault.SettingsFault.TheVariants.{UnknownKey};
 
 use crate::fault::SettingsFault;
-use crate::values::is_known;
+use crate::judging::{fault_at, is_known};
+use crate::keys::{Key, Kind};
+use crate::values::value_at;
 use std::alloc::{AllocError, Global};
 use strsim::levenshtein;
 use toml::{Table, Value};
@@ -54,38 +56,55 @@ fn wrong(alloc: Global, value: Option<&Value>, fault: SettingsFault) -> Result<S
     }
 }
 
+/// Adds what a key of this kind takes.
+fn push_takes(alloc: Global, text: &mut String, kind: &Kind) -> Result<(), AllocError> {
+    text.push_str("; it takes ")?;
+    text.push_str(match kind {
+        Kind::Host => "1 to 255 bytes, each '!' to '~'",
+        Kind::Path => "'/' and then letters, digits and '/-._~%?=&', 255 bytes at most",
+        Kind::Number(low, high, _) => {
+            let range = format!(in alloc; "a whole number from {low} to {high}")?;
+            return text.push_str(range.as_str());
+        }
+        Kind::Names => "'legacy' or 'utf8'",
+        Kind::Action => "keep or drop",
+        Kind::Labels => "a list of texts, at least one",
+        Kind::Text => "a text",
+        Kind::Part => "a table",
+    })
+}
+
 /// Adds a note on the value at a key, if it has a fault.
 #[tactic(auto, using(crate::proofs::NoteLemmas::lesser_of_none))]
-pub(crate) fn note_value(
+fn note_value(
     alloc: Global,
     notes: &mut Vec<SettingsNote>,
     section: &str,
-    key: &str,
-    value: Option<&Value>,
-    fault: Option<SettingsFault>,
-    takes: &str,
+    table: &Table,
+    key: &Key,
 ) -> Result<(), AllocError>
-    ensures { OnOk result (noted notes.new.items ≡ lesser (noted notes.old.items) fault) }
+    ensures { OnOk result (noted notes.new.items
+        ≡ lesser (noted notes.old.items) (fault_at (table_view table.now) (row_of key.now))) }
 {
-    let Some(fault) = fault else {
+    let Some(fault) = fault_at(table, key) else {
         return Ok(());
     };
-    let place = format!(in alloc; "{section}{key}")?;
-    let mut text = wrong(alloc, value, fault)?;
-    text.push_str("; it takes ")?;
-    text.push_str(takes)?;
+    let name = key.0;
+    let place = format!(in alloc; "{section}{name}")?;
+    let mut text = wrong(alloc, value_at(table, name), fault)?;
+    push_takes(alloc, &mut text, &key.1)?;
     push_note(notes, fault, place, text)
 }
 
-/// Returns the known key that is nearest to `key`, if one differs in at most two letters.
-fn nearest<'a>(alloc: Global, known: &[&'a str], key: &str) -> Result<Option<&'a str>, AllocError> {
+/// The known key that is nearest to `key`, where one differs in at most two letters.
+fn nearest(alloc: Global, known: &[Key], key: &str) -> Result<Option<&'static str>, AllocError> {
     let mut found = None;
     let mut least = 3;
-    for name in known {
-        let distance = levenshtein(alloc, name, key)?;
+    for known in known {
+        let distance = levenshtein(alloc, known.0, key)?;
         if distance < least {
             least = distance;
-            found = Some(*name);
+            found = Some(known.0);
         }
     }
     Ok(found)
@@ -96,7 +115,7 @@ fn note_key(
     alloc: Global,
     notes: &mut Vec<SettingsNote>,
     section: &str,
-    known: &[&str],
+    known: &[Key],
     key: &str,
 ) -> Result<(), AllocError>
     ensures { OnOk result
@@ -116,16 +135,49 @@ pub(crate) fn note_keys(
     notes: &mut Vec<SettingsNote>,
     section: &str,
     table: &Table,
-    known: &[&str],
+    known: &[Key],
 ) -> Result<(), AllocError>
     ensures { OnOk result (noted notes.new.items
         ≡ lesser (noted notes.old.items)
-        (keys_fault (map (λ k. k.now) known.now) (table_view table.now))) }
+        (keys_fault (map row_of known.now) (table_view table.now))) }
 {
     for key in table.keys() {
         if !is_known(known, key.as_str()) {
             note_key(alloc, notes, section, known, key.as_str())?;
         }
     }
+    Ok(())
+}
+
+/// Adds a note on each fault of the values at these keys.
+fn note_values(
+    alloc: Global,
+    notes: &mut Vec<SettingsNote>,
+    section: &str,
+    table: &Table,
+    keys: &[Key],
+) -> Result<(), AllocError>
+    ensures { OnOk result (noted notes.new.items ≡ fold lesser
+        (noted notes.old.items) (map (fault_at (table_view table.now)) (map row_of keys.now))) }
+{
+    for key in keys {
+        note_value(alloc, notes, section, table, key)?;
+    }
+    Ok(())
+}
+
+/// Adds a note on each fault of a table with these keys. `section` is written before each key.
+pub(crate) fn note_table(
+    alloc: Global,
+    notes: &mut Vec<SettingsNote>,
+    section: &str,
+    table: &Table,
+    keys: &[Key],
+) -> Result<(), AllocError>
+    ensures { OnOk result (noted notes.new.items ≡ lesser
+        (noted notes.old.items) (table_fault (map row_of keys.now) (table_view table.now))) }
+{
+    note_keys(alloc, notes, section, table, keys)?;
+    note_values(alloc, notes, section, table, keys)?;
     Ok(())
 }

@@ -1,17 +1,30 @@
 //! Lines of a table: keys and their values.
 
-ghost use Rattle.std.specs.Prelude.{◌≡◌, ◌++◌, map, string_bytes, IfOk, OnOk};
-ghost use Rattle.std.specs.List.{join_by};
-ghost use Rattle.std.specs.Prelude.{codes};
+ghost use Rattle.std.specs.Prelude.{◌≡◌, ◌++◌, ◌≤◌, length, map, codes, string_bytes, IfOk, OnOk};
+ghost use Rattle.std.specs.List.{concat, join_by};
 ghost use Rattle.toml_writer.specs.Text.{string_text};
-ghost use Rattle.rw_settings.specs.SettingsText.{pair_line, number_line, text_line, list_text};
+ghost use Rattle.rw_settings.specs.Keys.{row_of};
+ghost use Rattle.rw_settings.specs.Values.{names_text};
+ghost use Rattle.rw_settings.specs.SettingsText.{pair_line, value_text, setting_of, lines_of, list_text};
 
+use crate::keys::Key;
 use itoa::Buffer;
+use rw_types::Names;
 use std::alloc::{AllocError, Global};
 use std::fmt::Formatter;
 use toml_writer::write_string;
 
-/// Returns the text as a value, in the first form of TOML that needs no escape.
+/// The word of the names that are taken.
+pub(crate) fn names_text(names: Names) -> &'static str
+    ensures { result.now ≡ names_text names }
+{
+    match names {
+        Names::Legacy => "legacy",
+        Names::Utf8 => "utf8",
+    }
+}
+
+/// The text as a value, in the first form of TOML that needs no escape.
 fn quoted(alloc: Global, text: &str) -> Result<String, AllocError>
     ensures { IfOk result (λ t. string_bytes t ≡ string_text text.now) }
 {
@@ -33,29 +46,6 @@ fn push_pair(out: &mut String, key: &str, value: &str) -> Result<(), AllocError>
     out.push_str(value)?;
     out.push_str("\n")?;
     Ok(())
-}
-
-/// Adds a key with a whole number.
-pub(crate) fn push_number(out: &mut String, key: &str, number: u64) -> Result<(), AllocError>
-    ensures { OnOk result
-        (string_bytes out.new ≡ string_bytes out.old ++ number_line key.now number) }
-{
-    let mut buffer = Buffer::new();
-    push_pair(out, key, buffer.format(number))
-}
-
-/// Adds a key with a text.
-pub(crate) fn push_text(
-    alloc: Global,
-    out: &mut String,
-    key: &str,
-    text: &str,
-) -> Result<(), AllocError>
-    ensures { OnOk result
-        (string_bytes out.new ≡ string_bytes out.old ++ text_line key.now text.now) }
-{
-    let value = quoted(alloc, text)?;
-    push_pair(out, key, value.as_str())
 }
 
 /// Adds the text as a value.
@@ -91,16 +81,51 @@ fn list(alloc: Global, texts: &[String]) -> Result<String, AllocError>
     Ok(value)
 }
 
-/// Adds a key with a list of texts.
-pub(crate) fn push_list(
+/// A value as it is printed.
+#[derive(Clone, Copy)]
+pub(crate) enum Shown<'a> {
+    /// A whole number.
+    Number(u64),
+    /// A text.
+    Text(&'a str),
+    /// A list of texts.
+    Texts(&'a [String]),
+}
+
+/// Adds a key with its value.
+fn push_shown(
     alloc: Global,
     out: &mut String,
-    key: &str,
-    texts: &[String],
+    key: &Key,
+    value: &Shown<'_>,
 ) -> Result<(), AllocError>
     ensures { OnOk result (string_bytes out.new
-        ≡ string_bytes out.old ++ pair_line key.now (list_text (map string_bytes texts.now))) }
+        ≡ string_bytes out.old ++ pair_line key.now.0.now (value_text (setting_of value.now))) }
 {
-    let value = list(alloc, texts)?;
-    push_pair(out, key, value.as_str())
+    match value {
+        Shown::Number(number) => {
+            let mut buffer = Buffer::new();
+            push_pair(out, key.0, buffer.format(*number))
+        }
+        Shown::Text(text) => push_pair(out, key.0, quoted(alloc, text)?.as_str()),
+        Shown::Texts(texts) => push_pair(out, key.0, list(alloc, texts)?.as_str()),
+    }
+}
+
+/// Adds a line for each value, with its key.
+pub(crate) fn push_lines(
+    alloc: Global,
+    out: &mut String,
+    keys: &[Key],
+    values: &[Shown<'_>],
+) -> Result<(), AllocError>
+    requires { length values.now ≤ length (map row_of keys.now) }
+    ensures { OnOk result (string_bytes out.new ≡ string_bytes out.old
+        ++ concat (lines_of (map row_of keys.now) (map setting_of values.now))) }
+{
+    for (i, value) in values.iter().enumerate() {
+        let key = &keys[i];
+        push_shown(alloc, out, key, value)?;
+    }
+    Ok(())
 }

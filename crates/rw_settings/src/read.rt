@@ -12,11 +12,13 @@ ghost use Rattle.rw_settings.specs.Settings.{document_fault, settings_if, settin
 ghost use Rattle.rw_settings.specs.declared.fault.SettingsFault.TheVariants.{OutOfMemory, NotToml};
 
 use crate::fault::{SettingsFault, least};
-use crate::receiving::{receive_fault, receive_limits};
+use crate::judging::{keys_fault, table_fault};
+use crate::keys::{document_keys, receive_keys};
+use crate::receiving::receive_limits;
 use crate::rule_tables::{RuleFields, rules_fault, rules_of, written_rules};
 use crate::sending::{send_fault, send_fields};
 use crate::settings::Settings;
-use crate::values::{keys_fault, list_at, list_or_none, section, section_or};
+use crate::values::{list_at, list_or_none, section, section_or};
 use rw_relabel::Rules;
 use rw_shard_core::Config;
 use std::alloc::{AllocError, Global};
@@ -52,13 +54,13 @@ fn document_fault(document: &Table, empty: &Table) -> Option<SettingsFault>
     };
     let receive = match section(document, "receive", empty) {
         None => Some(SettingsFault::WrongType),
-        Some(receive) => receive_fault(receive),
+        Some(receive) => table_fault(receive, receive_keys()),
     };
     let rules = match list_at(document, "rule") {
         None => Some(SettingsFault::WrongType),
         Some(rules) => rules_fault(rules),
     };
-    let keys = keys_fault(document, &["send", "receive", "rule"]);
+    let keys = keys_fault(document, document_keys());
     least(&[keys, send, receive, rules])
 }
 

@@ -1,91 +1,30 @@
 //! The tables `[[rule]]`.
 
-ghost use Rattle.std.specs.Prelude.{◌≡◌, ◌⊎◌, All, Any, map, string_bytes, Some, None, codes, [], ◌∷◌, ◌++◌, IfOk, IfErr, OnOk};
-ghost use Rattle.toml.specs.Data.{get_member, no_members, as_table};
+ghost use Rattle.std.specs.Prelude.{◌≡◌, ◌⊎◌, All, Any, map, flat_map, string_bytes, None, [], ◌∷◌, ◌++◌, IfOk, IfErr, OnOk};
+ghost use Rattle.toml.specs.Data.{no_members, as_table};
 ghost use Rattle.toml.specs.View.{view, items_view, table_view};
 ghost use Rattle.rw_relabel.specs.Patterns.{HasReadablePattern};
-ghost use Rattle.rw_settings.specs.RuleTables.{action_fault, are_texts, labels_fault, source_fault, rule_table_fault, rule_fault_of, with_rules_fault, action_of, texts_of, rule_config, rules_of, written_rule};
+ghost use Rattle.rw_settings.specs.RuleTables.{rule_fault_of, with_rules_fault, action_of, texts_of, rule_config, rules_of, written_rule, action_text};
+ghost use Rattle.rw_settings.specs.SettingsText.{rule_text};
 ghost use Rattle.rw_settings.specs.Settings.{IsRefusedRule};
 ghost use Rattle.rw_settings.specs.declared.fault.SettingsFault.TheVariants.{OutOfMemory, BadRule};
 
-use crate::fault::{SettingsFault, least, lesser};
-use crate::values::{keys_fault, list_or_none, table_or, text_fault, text_or, value_at};
+use crate::fault::{SettingsFault, lesser};
+use crate::judging::table_fault;
+use crate::keys::{ACTION, REGEX, SEPARATOR, SOURCE_LABELS, rule_keys};
+use crate::printed_values::{Shown, push_lines};
+use crate::values::{list_or_none, table_or, text_or};
 use rw_relabel::{Action, DEFAULT_PATTERN, DEFAULT_SEPARATOR, Rule, RuleFault, Rules};
 use std::alloc::{AllocError, Global};
 use toml::{Table, Value};
 
-/// Returns what is wrong with the action of a rule.
-pub(crate) fn action_fault(rule: &Table) -> Option<SettingsFault>
-    ensures { result ≡ action_fault (get_member (codes "action") (table_view rule.now)) }
-{
-    match value_at(rule, "action") {
-        None => Some(SettingsFault::BadRule),
-        Some(value) => match value.as_str() {
-            None => Some(SettingsFault::WrongType),
-            Some(text) => {
-                if text == "keep" || text == "drop" {
-                    None
-                } else {
-                    Some(SettingsFault::BadRule)
-                }
-            }
-        },
-    }
-}
-
-/// Returns whether each of the values is a text.
-fn are_texts(values: &[Value]) -> bool
-    ensures { result ≡ are_texts (items_view values.now) }
-{
-    for value in values {
-        if !value.is_str() {
-            return false;
-        }
-    }
-    true
-}
-
-/// Returns what is wrong with the source labels of a rule.
-pub(crate) fn source_fault(rule: &Table) -> Option<SettingsFault>
-    ensures { result ≡ source_fault (get_member (codes "source_labels") (table_view rule.now)) }
-{
-    match value_at(rule, "source_labels") {
-        None => Some(SettingsFault::BadRule),
-        Some(value) => match value.as_array() {
-            None => Some(SettingsFault::WrongType),
-            Some(labels) => labels_fault(labels),
-        },
-    }
-}
-
-/// Returns what is wrong with a list of source labels.
-#[tactic(auto, using(crate::proofs::RuleLemmas::labels_judged))]
-fn labels_fault(labels: &[Value]) -> Option<SettingsFault>
-    ensures { result ≡ labels_fault (Some (items_view labels.now)) }
-{
-    if labels.is_empty() {
-        Some(SettingsFault::OutOfRange)
-    } else if are_texts(labels) {
-        None
-    } else {
-        Some(SettingsFault::WrongType)
-    }
-}
-
-/// Returns the least fault of a rule, except that its pattern is refused.
-#[tactic(auto, unfolding(crate::specs::RuleTables::rule_table_fault))]
+/// The least fault of a rule, except that its pattern is refused.
 fn rule_fault(rule: &Value) -> Option<SettingsFault>
     ensures { result ≡ rule_fault_of (as_table (view rule.now)) }
 {
     match rule.as_table() {
         None => Some(SettingsFault::WrongType),
-        Some(table) => least(&[
-            keys_fault(table, &["action", "source_labels", "separator", "regex"]),
-            action_fault(table),
-            source_fault(table),
-            text_fault(table, "separator"),
-            text_fault(table, "regex"),
-        ]),
+        Some(table) => table_fault(table, rule_keys()),
     }
 }
 
@@ -141,10 +80,10 @@ fn fields_of(alloc: Global, table: &Table) -> Result<RuleFields, AllocError>
     ensures { IfOk result (λ r. written_rule r ≡ rule_config (table_view table.now)) }
 {
     Ok(RuleFields {
-        action: action_of(text_or(table, "action", "")),
-        source_labels: texts_of(alloc, list_or_none(table, "source_labels"))?,
-        separator: String::from_str(alloc, text_or(table, "separator", DEFAULT_SEPARATOR))?,
-        pattern: String::from_str(alloc, text_or(table, "regex", DEFAULT_PATTERN))?,
+        action: action_of(text_or(table, ACTION.0, "")),
+        source_labels: texts_of(alloc, list_or_none(table, SOURCE_LABELS.0))?,
+        separator: String::from_str(alloc, text_or(table, SEPARATOR.0, DEFAULT_SEPARATOR))?,
+        pattern: String::from_str(alloc, text_or(table, REGEX.0, DEFAULT_PATTERN))?,
     })
 }
 
@@ -219,4 +158,46 @@ pub(crate) fn written_rules(
         push_fields(&mut written, fields_of(alloc, table_or(rule, empty))?)?;
     }
     Ok(written)
+}
+
+/// The word of an action.
+fn action_text(action: Action) -> &'static str
+    ensures { result.now ≡ action_text action }
+{
+    match action {
+        Action::Keep => "keep",
+        Action::Drop => "drop",
+    }
+}
+
+/// Adds the text of a rule.
+#[tactic(auto, unfolding(crate::specs::SettingsText::rule_text))]
+fn push_rule_text(alloc: Global, out: &mut String, rule: &RuleFields) -> Result<(), AllocError>
+    ensures { OnOk result
+        (string_bytes out.new ≡ string_bytes out.old ++ rule_text (written_rule rule.now)) }
+{
+    out.push_str("\n[[rule]]\n")?;
+    let values = [
+        Shown::Text(action_text(rule.action)),
+        Shown::Texts(rule.source_labels.as_slice()),
+        Shown::Text(rule.separator.as_str()),
+        Shown::Text(rule.pattern.as_str()),
+    ];
+    push_lines(alloc, out, rule_keys(), &values)?;
+    Ok(())
+}
+
+/// Adds the texts of all rules.
+pub(crate) fn push_rules(
+    alloc: Global,
+    out: &mut String,
+    rules: &[RuleFields],
+) -> Result<(), AllocError>
+    ensures { OnOk result (string_bytes out.new
+        ≡ string_bytes out.old ++ flat_map rule_text (map written_rule rules.now)) }
+{
+    for rule in rules {
+        push_rule_text(alloc, out, rule)?;
+    }
+    Ok(())
 }

@@ -1,22 +1,25 @@
 //! The table `send`.
 
-ghost use Rattle.std.specs.Prelude.{◌≡◌, IfOk};
+ghost use Rattle.std.specs.Prelude.{◌≡◌, ◌++◌, string_bytes, IfOk, OnOk};
 ghost use Rattle.toml.specs.View.{table_view};
 ghost use Rattle.rw_settings.specs.Sending.{send_fields, order_fault, send_fault};
+ghost use Rattle.rw_settings.specs.SettingsText.{send_text};
 
-use crate::fault::{SettingsFault, least};
-use crate::values::{
-    host_fault, host_or_default, keys_fault, names_fault, names_or_legacy, number_fault, number_or,
-    path_fault, path_or_default,
+use crate::fault::{SettingsFault, lesser};
+use crate::judging::table_fault;
+use crate::keys::{
+    BATCH, CAPACITY, MAX_BACKOFF_MS, MAX_SHARDS, MIN_BACKOFF_MS, MIN_SHARDS, SHARDS, TIMEOUT_MS,
+    send_keys,
 };
+use crate::printed_values::{Shown, names_text, push_lines};
+use crate::values::{bounded_of, host_of, names_of, number_of, path_of};
 use rw_relabel::Rules;
 use rw_shard_core::{ConfigFields, Target};
-use rw_types::Bounded;
 use std::alloc::{AllocError, Global};
 use toml::Table;
 
-/// Returns what the table sets, with the default of each key that it does not have. A value that
-/// cannot be taken counts as none.
+/// What the table sets, with the default of each key that it does not have. A value that cannot be
+/// taken counts as none.
 #[tactic(auto, unfolding(crate::specs::Sending::send_fields))]
 pub(crate) fn send_fields(
     alloc: Global,
@@ -27,18 +30,18 @@ pub(crate) fn send_fields(
 {
     Ok(ConfigFields {
         target: Target {
-            host: host_or_default(alloc, send, "host")?,
-            path: path_or_default(alloc, send, "path")?,
+            host: host_of(alloc, send)?,
+            path: path_of(alloc, send)?,
         },
-        shards: number_or(send, "shards", Bounded::new(1)),
-        min_shards: number_or(send, "min_shards", Bounded::new(1)),
-        max_shards: number_or(send, "max_shards", Bounded::new(50)),
-        capacity: number_or(send, "capacity", Bounded::new(10_000)),
-        batch: number_or(send, "batch", Bounded::new(2_000)),
-        min_backoff_ms: number_or(send, "min_backoff_ms", Bounded::new(30)),
-        max_backoff_ms: number_or(send, "max_backoff_ms", Bounded::new(5_000)),
-        timeout_ms: number_or(send, "timeout_ms", Bounded::new(30_000)),
-        names: names_or_legacy(send, "names"),
+        shards: bounded_of(send, &SHARDS),
+        min_shards: bounded_of(send, &MIN_SHARDS),
+        max_shards: bounded_of(send, &MAX_SHARDS),
+        capacity: bounded_of(send, &CAPACITY),
+        batch: bounded_of(send, &BATCH),
+        min_backoff_ms: bounded_of(send, &MIN_BACKOFF_MS),
+        max_backoff_ms: bounded_of(send, &MAX_BACKOFF_MS),
+        timeout_ms: bounded_of(send, &TIMEOUT_MS),
+        names: names_of(send),
         rules,
     })
 }
@@ -48,49 +51,47 @@ pub(crate) fn send_fields(
 pub(crate) fn order_fault(send: &Table) -> Option<SettingsFault>
     ensures { result ≡ order_fault (table_view send.now) }
 {
-    let shards = number_or::<1, 1_000>(send, "shards", Bounded::new(1)).get();
-    let min_shards = number_or::<1, 1_000>(send, "min_shards", Bounded::new(1)).get();
-    let max_shards = number_or::<1, 1_000>(send, "max_shards", Bounded::new(50)).get();
-    let min_backoff = number_or::<1, 3_600_000>(send, "min_backoff_ms", Bounded::new(30)).get();
-    let max_backoff = number_or::<1, 3_600_000>(send, "max_backoff_ms", Bounded::new(5_000)).get();
-    if min_shards <= shards && shards <= max_shards && min_backoff <= max_backoff {
+    let shards = number_of(send, &SHARDS);
+    let is_enough = number_of(send, &MIN_SHARDS) <= shards;
+    let is_not_too_many = shards <= number_of(send, &MAX_SHARDS);
+    let rises = number_of(send, &MIN_BACKOFF_MS) <= number_of(send, &MAX_BACKOFF_MS);
+    if is_enough && is_not_too_many && rises {
         None
     } else {
         Some(SettingsFault::OutOfRange)
     }
 }
 
-/// Returns the least fault of the table.
-#[tactic(auto, unfolding(crate::specs::Sending::send_fault))]
+/// The least fault of the table.
 pub(crate) fn send_fault(send: &Table) -> Option<SettingsFault>
     ensures { result ≡ send_fault (table_view send.now) }
 {
-    let keys = [
-        "host",
-        "path",
-        "shards",
-        "min_shards",
-        "max_shards",
-        "capacity",
-        "batch",
-        "min_backoff_ms",
-        "max_backoff_ms",
-        "timeout_ms",
-        "names",
+    lesser(table_fault(send, send_keys()), order_fault(send))
+}
+
+/// Adds the table `send`.
+#[tactic(auto, unfolding(crate::specs::SettingsText::send_text))]
+pub(crate) fn push_send(
+    alloc: Global,
+    out: &mut String,
+    send: &ConfigFields,
+) -> Result<(), AllocError>
+    ensures { OnOk result (string_bytes out.new ≡ string_bytes out.old ++ send_text send.now) }
+{
+    out.push_str("[send]\n")?;
+    let values = [
+        Shown::Text(send.target.host.as_str()),
+        Shown::Text(send.target.path.as_str()),
+        Shown::Number(send.shards.get()),
+        Shown::Number(send.min_shards.get()),
+        Shown::Number(send.max_shards.get()),
+        Shown::Number(send.capacity.get()),
+        Shown::Number(send.batch.get()),
+        Shown::Number(send.min_backoff_ms.get()),
+        Shown::Number(send.max_backoff_ms.get()),
+        Shown::Number(send.timeout_ms.get()),
+        Shown::Text(names_text(send.names)),
     ];
-    least(&[
-        keys_fault(send, &keys),
-        host_fault(send, "host"),
-        path_fault(send, "path"),
-        number_fault::<1, 1_000>(send, "shards"),
-        number_fault::<1, 1_000>(send, "min_shards"),
-        number_fault::<1, 1_000>(send, "max_shards"),
-        number_fault::<1, 1_000_000>(send, "capacity"),
-        number_fault::<1, 10_000>(send, "batch"),
-        number_fault::<1, 3_600_000>(send, "min_backoff_ms"),
-        number_fault::<1, 3_600_000>(send, "max_backoff_ms"),
-        number_fault::<1, 3_600_000>(send, "timeout_ms"),
-        names_fault(send, "names"),
-        order_fault(send),
-    ])
+    push_lines(alloc, out, send_keys(), &values)?;
+    Ok(())
 }

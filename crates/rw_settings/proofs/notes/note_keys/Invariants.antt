@@ -2,7 +2,7 @@ use Rattle.std.proofs.Common.{◌≡◌, map, cond, Some, None}
 use Rattle.toml.specs.View.{table_view}
 use Rattle.rw_settings.specs.Faults.{lesser}
 use Rattle.rw_settings.specs.Notes.{noted}
-use Rattle.rw_settings.specs.Values.{keys_fault}
+use Rattle.rw_settings.specs.Keys.{row_of, keys_fault}
 use Rattle.rw_settings.specs.declared.fault.SettingsFault.TheVariants.{UnknownKey}
 use Rattle.rw_settings.proofs.KeyLemmas.{all_known}
 use Rattle.rw_settings.proofs.notes.note_keys.Given as goal
@@ -11,5 +11,5 @@ abbrev pub invariant-loop-key : goal.invariant-loop-key
 invariant-loop-key l =
     (goal.iterator-loop-key).can_next l.key-iterator
     × (goal.iterator-loop-key).is_finite l.key-iterator
-    × (lesser (noted l.notes.items) (cond (all_known (map (λ k. k.now) l.known) l.key-iterator) None (Some UnknownKey))
-    ≡ lesser (noted l.initial.notes.items) (keys_fault (map (λ k. k.now) l.known) (table_view l.table)))
+    × (lesser (noted l.notes.items) (cond (all_known (map row_of l.known) l.key-iterator) None (Some UnknownKey))
+    ≡ lesser (noted l.initial.notes.items) (keys_fault (map row_of l.known) (table_view l.table)))

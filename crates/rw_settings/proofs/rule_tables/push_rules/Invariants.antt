@@ -1,7 +1,7 @@
 use Rattle.std.proofs.Common.{◌≡◌, ◌++◌, map, flat_map, drop, string_bytes}
 use Rattle.rw_settings.specs.RuleTables.{written_rule}
 use Rattle.rw_settings.specs.SettingsText.{rule_text}
-use Rattle.rw_settings.proofs.tables.push_rules.Given as goal
+use Rattle.rw_settings.proofs.rule_tables.push_rules.Given as goal
 
 abbrev pub invariant-loop-rule : goal.invariant-loop-rule
 invariant-loop-rule l =

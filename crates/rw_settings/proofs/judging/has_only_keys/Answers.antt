@@ -1,6 +1,6 @@
 use Rattle.std.proofs.Common.{◌∙◌, sym, ap}
 use Rattle.rw_settings.proofs.KeyLemmas.{all_known, has_only-entries}
-use Rattle.rw_settings.proofs.values.has_only_keys.Goals as goal
+use Rattle.rw_settings.proofs.judging.has_only_keys.Goals as goal
 
 pub loop-key-init : goal.loop-key-init
 loop-key-init c = (
