@@ -1,4 +1,5 @@
--- The settings: the keys of each table in the order in which they are printed, what each takes, and the defaults of numbers.
+-- The settings: the keys of each table in the order in which they are printed, what each takes, and
+-- the defaults of numbers.
 use Rattle.std.specs.Prelude.{ℕ, List, [], ◌∷◌, map, Bool, true, false, ◌&&◌, nat_eq, nat_le, Option, Some, None, codes, if◌then◌else◌}
 use Rattle.std.specs.List.{list_any}
 use Rattle.std.specs.Result.{result_err}

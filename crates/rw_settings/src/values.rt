@@ -141,7 +141,8 @@ pub(crate) fn names_of(table: &Table) -> Names
     }
 }
 
-/// The table at a key, or the empty one where no value stands there; `None` where a value of another type does.
+/// The table at a key, or the empty one where no value stands there; `None` where a value of
+/// another type does.
 pub(crate) fn section<'a>(document: &'a Table, key: &str, empty: &'a Table) -> Option<&'a Table>
     requires { table_view empty.now ≡ no_members }
     ensures { option_map (λ t. table_view t.now) result
