@@ -1,0 +1,232 @@
+-- What a log says of a head: as it goes on, as it is written, and after a crash.
+use Rattle.std.proofs.Common.{◌≡◌, ◌⊎◌, ℕ, ℤ, ◌+◌, List, [], ◌∷◌, ◌++◌, length, map, refl, sym, ap, ◌∙◌, subst, append_assoc, append-nil, length-append, lit<, inl, inr, ⊎_elim, arith, if◌then◌else◌}
+use Rattle.std.proofs.lemmas.List.{take-take}
+use Rattle.std.specs.List.{AllByRecursion}
+use Rattle.rw_types.specs.Beginnings.{Begins}
+use Rattle.rw_types.proofs.BeginningLemmas.{begins_itself}
+use Rattle.rw_types.specs.Labels.{Labels}
+use Rattle.rw_types.specs.LabelOrder.{labels_eq}
+use Rattle.rw_types.specs.declared.entry.Entry.{Entry}
+use Rattle.rw_wal_format.specs.Laws.{log_all, sample_entry}
+use Rattle.rw_wal_format.specs.Pieces.{page_size, reading}
+use Rattle.rw_wal_format.specs.Segments.{segment, item_at}
+use Rattle.rw_wal_format.specs.Series.{samples_after}
+use Rattle.rw_head.specs.Added.{Added, samples_of, AddsUp}
+use Rattle.rw_head.specs.Order.{Point}
+use Rattle.rw_head.specs.Store.{Store, list_of}
+use Rattle.rw_journal.specs.Journal.{Segments, with_more, IsBegun, LeavesOnly, Only}
+use Rattle.rw_journal.specs.Torn.{IsTornLog}
+use Rattle.rw_torn_log.specs.Logs.{entries_of, IsWhole}
+use Rattle.rw_torn_log.specs.Torn.{last_of, AllBefore}
+use Rattle.rw_torn_log.proofs.LeftLemmas.{left_between}
+use Rattle.rw_additions.specs.Additions.{without_position, samples_in, definition_entry}
+use Rattle.rw_additions.proofs.AdditionLemmas.{samples_in-append}
+use Rattle.rw_references.specs.References.{Named, AreDefined, AreOf, StandFor, points_of, undefined, only_defined}
+use Rattle.rw_wal_append.specs.Ends.{EndsAt}
+use Rattle.rw_kept_head.specs.Kept.{SaysWhat, LiesBetween, IsLeft, IsTornWrite, HasNoChance}
+use Rattle.rw_kept_head.specs.Inner.{GoesOn}
+
+-- ---- runs of calls
+
+module _ {D : Type 0} (moment : D → ℕ) (left_since : D → ℕ → Segments → Type 0) where
+  -- two runs, one after the other
+  pub then_runs : (old mid new : D) (P Q R : Segments → Type 0) → LeavesOnly moment left_since old mid P → LeavesOnly moment left_since mid new Q
+      → ((c : Segments) → P c → R c) → ((c : Segments) → Q c → R c) → LeavesOnly moment left_since old new R
+  then_runs old mid new P Q R a b f h = record {
+    later = omega (arith, a.later, b.later);
+    each = λ c left. ⊎_elim (λ past. f c (a.each c past)) (h c) (b.before (moment old) c a.later left);
+    before = λ t c le left.
+        ⊎_elim (λ past. ⊎_elim (λ p. inl p) (λ p. inr (f c p)) (a.before t c le past)) (λ q. inr (h c q)) (b.before t c (omega (arith, le, a.later)) left);
+  }
+
+-- ---- logs
+
+pub samples_begin : (es fs : List Entry) (l : Labels) → Begins es fs → Begins (samples_in es l) (samples_in fs l)
+samples_begin es fs l b = (map without_position (samples_after l es b.0), ap (λ (x : List Entry). samples_in x l) b.1 ∙ samples_in-append l es b.0)
+
+-- what `segments_add_up` says
+abbrev pub AddUp : Type 0
+AddUp =
+    (page : ℕ) (done : List (List ℕ)) (text last : List ℕ) → AllByRecursion (IsWhole page) done → IsWhole page text
+    → entries_of page (done ++ text ∷ last ∷ []) ≡ entries_of page (done ++ text ∷ []) ++ (segment page last).entries
+
+nothing_read : (page : ℕ) → (segment page []).entries ≡ []
+unfolding segment item_at
+nothing_read page = refl
+
+nothing_there : (page : ℕ) → entries_of page ([] ∷ []) ≡ entries_of page []
+unfolding reading segment item_at
+nothing_there page = refl
+
+record Ended (P : List ℕ → Type 0) (ss : Segments) : Type 0 where
+  done : Segments
+  text : List ℕ
+  is : ss ≡ done ++ text ∷ []
+  all : AllByRecursion P done
+  here : P text
+
+last_split : (P : List ℕ → Type 0) (s : List ℕ) (ss : Segments) → AllByRecursion P (s ∷ ss) → Ended P (s ∷ ss)
+last_split P s [] all = record { done = []; text = s; is = refl; all = tt; here = all.0 }
+last_split P s (t ∷ ss) all =
+    let r = last_split P t ss all.1 in
+    record { done = s ∷ r.done; text = r.text; is = ap (λ (x : Segments). s ∷ x) r.is; all = (all.0, r.all); here = r.here }
+
+-- an empty segment after whole ones
+pub next_same : AddUp → (page : ℕ) (ss : Segments) → AllByRecursion (IsWhole page) ss → entries_of page (ss ++ [] ∷ []) ≡ entries_of page ss
+next_same up page [] all = nothing_there page
+next_same up page (s ∷ ss) all =
+    let e = last_split (IsWhole page) s ss all in
+    ap (λ (x : Segments). entries_of page (x ++ [] ∷ [])) e.is
+    ∙ ap (entries_of page) (append_assoc e.done (e.text ∷ []) ([] ∷ []))
+    ∙ up page e.done e.text [] e.all e.here
+    ∙ ap (λ (es : List Entry). entries_of page (e.done ++ e.text ∷ []) ++ es) (nothing_read page)
+    ∙ append-nil (entries_of page (e.done ++ e.text ∷ []))
+    ∙ ap (entries_of page) (sym e.is)
+
+pub begun_same : AddUp → (page : ℕ) (old new : Segments) → AllByRecursion (IsWhole page) old → IsBegun old new → entries_of page new ≡ entries_of page old
+begun_same up page old new all (inl same) = ap (entries_of page) same
+begun_same up page old new all (inr more) = ap (entries_of page) more ∙ next_same up page old all
+
+pub all_of : (P : List ℕ → Type 0) (ss : Segments) (s : List ℕ) → AllBefore P (ss ++ s ∷ []) → AllByRecursion P ss
+all_of P [] s all = tt
+all_of P (a ∷ []) s all = (all.0, tt)
+all_of P (a ∷ b ∷ ss) s all = (all.0, all_of P (b ∷ ss) s all.1)
+
+-- a log that ends between two records consists of whole segments
+pub ends_whole : ((ss : Segments) (n : ℕ) → EndsAt ss n → EndsAt (ss ++ [] ∷ []) 0) → ((ss : Segments) (n : ℕ) → EndsAt ss n → AllBefore (IsWhole page_size) ss) → (segments : Segments) (offset : ℕ)
+    → EndsAt segments offset → AllByRecursion (IsWhole page_size) segments
+ends_whole next whole segments offset e = all_of (IsWhole page_size) segments [] (whole (segments ++ [] ∷ []) 0 (next segments offset e))
+
+before_of : (P : List ℕ → Type 0) (ss : Segments) → AllByRecursion P ss → AllBefore P ss
+before_of P [] all = tt
+before_of P (s ∷ []) all = tt
+before_of P (s ∷ t ∷ ss) all = (all.0, before_of P (t ∷ ss) all.1)
+
+before_next : (P : List ℕ → Type 0) (ss : Segments) → AllByRecursion P ss → AllBefore P (ss ++ [] ∷ [])
+before_next P [] all = tt
+before_next P (s ∷ []) all = (all.0, tt)
+before_next P (s ∷ t ∷ ss) all = (all.0, before_next P (t ∷ ss) all.1)
+
+begun_before : (P : List ℕ → Type 0) (old new : Segments) → AllByRecursion P old → IsBegun old new → AllBefore P new
+begun_before P old new all (inl same) = subst (AllBefore P) (sym same) (before_of P old all)
+begun_before P old new all (inr more) = subst (AllBefore P) (sym more) (before_next P old all)
+
+-- a next segment was begun
+pub goes_next : AddUp → (old new : Segments) (may_leave : Segments → Type 0) (offset : ℕ) → EndsAt (old ++ [] ∷ []) 0 → AllBefore (IsWhole page_size) (old ++ [] ∷ []) → new ≡ old ++ [] ∷ [] → offset ≡ 0
+    → Only new may_leave → GoesOn old new may_leave offset
+goes_next up old new may_leave offset ends whole begun zero synced = record {
+  begun = inr begun;
+  entries = ap (entries_of page_size) begun ∙ next_same up page_size old (all_of (IsWhole page_size) old [] whole);
+  ends = subst (λ (s : Segments). EndsAt s offset) (sym begun) (subst (EndsAt (old ++ [] ∷ [])) (sym zero) ends);
+  synced = synced;
+}
+
+-- ---- what a crash leaves
+
+module _ (up : AddUp) (tears : List ℕ → List ℕ → Type 0) (old new : Store) (segments left : Segments) (says : SaysWhat segments old) (whole : AllByRecursion (IsWhole page_size) segments)
+    (begins : (l : Labels) → Begins (list_of old l) (list_of new l)) where
+  between : (base : Segments) → IsBegun segments base → (is : (left ≡ base) ⊎ IsTornWrite tears new base left) → HasNoChance tears new base left is → LiesBetween old new left
+  between base begun (inl same) none = λ l.
+      let e : samples_in (entries_of page_size left) l ≡ list_of old l =
+      ap (λ (es : List Entry). samples_in es l) (ap (entries_of page_size) same ∙ begun_same up page_size segments base whole begun) ∙ sym (says l) in (
+        subst (Begins (list_of old l)) (sym e) (begins_itself (list_of old l)),
+        subst (λ (ps : List Point). Begins ps (list_of new l)) (sym e) (begins l),
+      )
+  between base begun (inr w) none = λ l.
+      let both = left_between tears page_size base w.written left (lit< tt) none (begun_before (IsWhole page_size) segments base whole begun) w.torn in
+      let e : list_of old l ≡ samples_in (entries_of page_size base) l = says l ∙ ap (λ (es : List Entry). samples_in es l) (sym (begun_same up page_size segments base whole begun)) in (
+        subst (λ (ps : List Point). Begins ps (samples_in (entries_of page_size left) l)) (sym e) (samples_begin (entries_of page_size base) (entries_of page_size left) l both.0),
+        subst (Begins (samples_in (entries_of page_size left) l)) (sym (w.will l)) (samples_begin (entries_of page_size left) (entries_of page_size (with_more base w.written)) l both.1),
+      )
+
+pub crash_leaves : AddUp → (tears : List ℕ → List ℕ → Type 0) (old new : Store) (segments left : Segments) → SaysWhat segments old → AllByRecursion (IsWhole page_size) segments
+    → ((l : Labels) → Begins (list_of old l) (list_of new l)) → (x : IsLeft tears new segments left) → HasNoChance tears new x.base left x.is → LiesBetween old new left
+crash_leaves up tears old new segments left says whole begins x none = between up tears old new segments left says whole begins x.base x.begun x.is none
+
+-- nothing was written
+pub is_unharmed : (tears : List ℕ → List ℕ → Type 0) (new : Store) (segments left : Segments) → left ≡ segments → IsLeft tears new segments left
+is_unharmed tears new segments left same = record { base = segments; begun = inl refl; is = inl same }
+
+-- a next segment was begun, or not
+pub is_begun : (tears : List ℕ → List ℕ → Type 0) (new : Store) (segments left : Segments) → IsBegun segments left → IsLeft tears new segments left
+is_begun tears new segments left begun = record { base = left; begun = begun; is = inl refl }
+
+-- ---- where a log ends
+
+last_push : (done : Segments) (text : List ℕ) → last_of (done ++ text ∷ []) ≡ text
+last_push [] text = refl
+last_push (s ∷ []) text = refl
+last_push (s ∷ t ∷ done) text = last_push (t ∷ done) text
+
+more_push : (done : Segments) (text more : List ℕ) → with_more (done ++ text ∷ []) more ≡ done ++ (text ++ more) ∷ []
+more_push [] text more = refl
+more_push (s ∷ []) text more = refl
+more_push (s ∷ t ∷ done) text more = ap (λ (ss : Segments). s ∷ ss) (more_push (t ∷ done) text more)
+
+pub offset_last : (segments : Segments) (offset : ℕ) → EndsAt segments offset → offset ≡ length (last_of segments)
+offset_last segments offset e = e.len ∙ ap length (sym (ap last_of e.folder ∙ last_push e.done (log_all page_size 0 e.records)))
+
+last_more : (segments : Segments) (offset : ℕ) (more : List ℕ) → EndsAt segments offset → last_of (with_more segments more) ≡ last_of segments ++ more
+last_more segments offset more e =
+    ap (λ (ss : Segments). last_of (with_more ss more)) e.folder
+    ∙ ap last_of (more_push e.done (log_all page_size 0 e.records) more)
+    ∙ last_push e.done (log_all page_size 0 e.records ++ more)
+    ∙ ap (λ (t : List ℕ). t ++ more) (sym (ap last_of e.folder ∙ last_push e.done (log_all page_size 0 e.records)))
+
+pub offset_more : (segments : Segments) (offset later : ℕ) (more : List ℕ) → EndsAt segments offset → EndsAt (with_more segments more) later → later ≡ offset + length more
+offset_more segments offset later more e f =
+    offset_last (with_more segments more) later f ∙ ap length (last_more segments offset more e) ∙ length-append (last_of segments) more
+    ∙ ap (λ (n : ℕ). n + length more) (sym (offset_last segments offset e))
+
+-- a torn part of bytes that make the log say what the store has
+pub is_torn : (tears : List ℕ → List ℕ → Type 0) (new : Store) (segments base : Segments) (offset : ℕ) (written : List ℕ) (left : Segments) → IsBegun segments base → EndsAt base offset
+    → SaysWhat (with_more base written) new → IsTornLog tears page_size offset base written left → IsLeft tears new segments left
+is_torn tears new segments base offset written left begun ends will torn = record {
+  base = base;
+  begun = begun;
+  is = inr (record { written = written; will = will; torn = subst (λ (n : ℕ). IsTornLog tears page_size n base written left) (offset_last base offset ends) torn });
+}
+
+-- ---- what is written
+
+abbrev pub Samples : Type 0
+Samples = List (ℕ × ℤ × ℕ)
+
+-- what `new_samples_are_read` says
+abbrev pub AreRead : Type 0
+AreRead =
+    (es : List Entry) (n : Named) (samples : List (ℕ × ℤ × ℕ)) (l : Labels) → AreDefined es n → AreOf n samples
+    → samples_in (es ++ map definition_entry (undefined n) ++ map sample_entry samples) l ≡ samples_in es l ++ points_of n l samples
+
+pub says_more : AreRead → (old new : Store) (base : Segments) (bytes : List ℕ) (n : Named) (samples : List (ℕ × ℤ × ℕ)) (added : List Added) → SaysWhat base old → AddsUp old new added
+    → AreDefined (entries_of page_size base) n → AreOf n samples → ((l : Labels) → points_of n l samples ≡ samples_of l added)
+    → entries_of page_size (with_more base bytes) ≡ entries_of page_size base ++ map definition_entry (undefined n) ++ map sample_entry samples → SaysWhat (with_more base bytes) new
+says_more law old new base bytes n samples added says up defined of points entries = λ l.
+    up.lists l
+    ∙ ap (λ (ps : List Point). ps ++ samples_of l added) (says l)
+    ∙ ap (λ (ps : List Point). samples_in (entries_of page_size base) l ++ ps) (sym (points l))
+    ∙ sym (law (entries_of page_size base) n samples l defined of)
+    ∙ ap (λ (es : List Entry). samples_in es l) (sym entries)
+
+-- the definitions that a log has are the same
+pub still_defined : (es fs : List Entry) (n later : Named) → fs ≡ es → only_defined later ≡ only_defined n → AreDefined es n → AreDefined fs later
+still_defined es fs n later same undone defined =
+    subst (λ (x : List Entry). AreDefined x later) (sym same) (subst (λ (m : Named). StandFor es m.first m.sets) (sym undone) defined)
+
+pub defined_after_abort : (es : List Entry) (n later : Named) → later ≡ only_defined n → AreDefined es n → AreDefined es later
+defined_after_abort es n later aborted defined =
+    subst (AreDefined es) (sym aborted) (subst (StandFor es n.first) (sym (take-take n.defined n.defined n.sets (omega arith))) defined)
+
+-- ---- what is collected
+
+pub collected_none : (n : Named) (l : Labels) (samples : List (ℕ × ℤ × ℕ)) (added rest : List Added) → samples ≡ [] → rest ≡ added → points_of n l samples ++ samples_of l rest ≡ samples_of l added
+collected_none n l samples added rest none same =
+    ap (λ (ss : List (ℕ × ℤ × ℕ)). points_of n l ss ++ samples_of l rest) none ∙ ap (samples_of l) same
+
+pub collected_more : (before later : List Point) (l : Labels) (a : Added) (old rest added : List Added) → later ≡ before ++ (if labels_eq a.labels l then a.samples else []) → old ≡ a ∷ rest
+    → before ++ samples_of l old ≡ samples_of l added → later ++ samples_of l rest ≡ samples_of l added
+collected_more before later l a old rest added e is all =
+    ap (λ (ps : List Point). ps ++ samples_of l rest) e
+    ∙ append_assoc before (if labels_eq a.labels l then a.samples else []) (samples_of l rest)
+    ∙ ap (λ (x : List Added). before ++ samples_of l x) (sym is)
+    ∙ all

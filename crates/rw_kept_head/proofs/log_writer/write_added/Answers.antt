@@ -1,0 +1,77 @@
+use Rattle.std.proofs.Common.{◌++◌, map, List, ℕ, ap, sym, subst, ◌∙◌, arith, length}
+use Rattle.rw_types.specs.declared.entry.Entry.{Entry}
+use Rattle.rw_journal.specs.Journal.{with_more, IsBegun}
+use Rattle.rw_journal.specs.Torn.{IsTornLog}
+use Rattle.rw_journal.proofs.Moments.{started}
+use Rattle.rw_wal_format.specs.Laws.{sample_entry}
+use Rattle.rw_wal_format.specs.Pieces.{page_size}
+use Rattle.rw_additions.specs.Additions.{definition_entry, samples_in}
+use Rattle.rw_references.specs.References.{undefined}
+use Rattle.rw_torn_log.specs.Logs.{entries_of}
+use Rattle.rw_kept_head.specs.Inner.{GoesOn}
+use Rattle.rw_kept_head.specs.Kept.{SaysWhat, IsLeft}
+use Rattle.rw_kept_head.proofs.KeptLemmas.{then_runs, is_unharmed, is_begun, is_torn, offset_more, says_more, still_defined}
+use Rattle.rw_kept_head.proofs.log_writer.write_added.Goals as goal
+
+pub returns-in_err-samples-clause-any_moment : goal.returns-in_err-samples-clause-any_moment
+returns-in_err-samples-clause-any_moment g c =
+    let new = c.args.staged.now.after.store in
+    let seen = g.J.Journal.seen c.args.journal.now in
+    started g.J.Journal.moment g.J.Journal.left_since c.args.journal.now (IsLeft g.J.Journal.tears new seen)
+    (λ x left. is_unharmed g.J.Journal.tears new seen x (c.requires.writable.synced x (g.met.J.Journal.only_now c.args.journal.now x left)))
+
+pub returns-in_err-definitions-clause-any_moment :
+    goal.returns-in_err-definitions-clause-any_moment
+returns-in_err-definitions-clause-any_moment g c =
+    let new = c.args.staged.now.after.store in
+    let seen = g.J.Journal.seen c.args.journal.now in
+    started g.J.Journal.moment g.J.Journal.left_since c.args.journal.now (IsLeft g.J.Journal.tears new seen)
+    (λ x left. is_unharmed g.J.Journal.tears new seen x (c.requires.writable.synced x (g.met.J.Journal.only_now c.args.journal.now x left)))
+
+pub write_in_pages-requires-clause-fits : goal.write_in_pages-requires-clause-fits
+write_in_pages-requires-clause-fits g c =
+    let grown = offset_more (g.J.Journal.seen c.spell.new.journal) c.spell.new.end.offset c.in_ok-bytes.after.offset c.in_ok-bytes.bytes.items c.in_ok-bytes.ensures.ok.ends c.in_ok-bytes.ensures.end in
+    omega (arith, grown, c.offset.ensures.offset, c.offset-within.ensures.offset, c.offset-within.ensures.bound, ap length c.deref-3.ensures.value)
+
+pub returns-in_err-write_in_pages-clause-any_moment :
+    goal.returns-in_err-write_in_pages-clause-any_moment
+returns-in_err-write_in_pages-clause-any_moment g c =
+    let old = c.args.staged.now.before.store in
+    let new = c.args.staged.now.after.store in
+    let seen = g.J.Journal.seen c.args.journal.now in
+    let base = g.J.Journal.seen c.spell.new.journal in
+    let on : GoesOn seen base (g.J.Journal.may_leave c.spell.new.journal) c.spell.new.end.offset = c.in_ok-bytes.ensures.ok in
+    let entries = c.in_ok-bytes.ensures.entries
+    ∙ ap (λ ds. entries_of page_size base ++ map definition_entry ds ++ map sample_entry c.deref-2.result.now) (c.deref.ensures.value ∙ c.in_ok-definitions.ensures)
+    ∙ ap (λ ss. entries_of page_size base ++ map definition_entry (undefined c.collect.new.references) ++ map sample_entry ss) c.deref-2.ensures.value in
+    let says : SaysWhat base old = λ l. c.requires.says l ∙ ap (λ (es : List Entry). samples_in es l) (sym on.entries) in
+    let defined = still_defined (entries_of page_size seen) (entries_of page_size base) c.args.references.now c.collect.new.references on.entries c.collect.ensures.undone c.requires.writable.defined in
+    let said = says_more c.new_samples_are_read.ensures.samples old new base c.in_ok-bytes.bytes.items c.collect.new.references c.in_ok-samples.samples.items c.args.staged.now.added says c.collect.ensures.adds defined
+    c.in_ok-samples.ensures.of c.in_ok-samples.ensures.points entries in
+    let will : SaysWhat (with_more base c.deref-3.result.now) new = subst (λ (b : List ℕ). SaysWhat (with_more base b) new) (sym c.deref-3.ensures.value) said in
+    then_runs g.J.Journal.moment g.J.Journal.left_since c.args.journal.now c.spell.new.journal c.write_in_pages.new.journal (IsBegun seen) (IsTornLog g.J.Journal.tears page_size c.offset.result base c.deref-3.result.now)
+    (IsLeft g.J.Journal.tears new seen) c.spell.ensures.any_moment c.write_in_pages.ensures.any_moment (λ x b. is_begun g.J.Journal.tears new seen x b)
+    (λ x torn.
+    is_torn g.J.Journal.tears new seen base c.spell.new.end.offset c.deref-3.result.now x on.begun on.ends will
+    (subst (λ (n : ℕ). IsTornLog g.J.Journal.tears page_size n base c.deref-3.result.now x) c.offset.ensures.offset torn))
+
+pub returns-clause-any_moment : goal.returns-clause-any_moment
+returns-clause-any_moment g c =
+    let old = c.args.staged.now.before.store in
+    let new = c.args.staged.now.after.store in
+    let seen = g.J.Journal.seen c.args.journal.now in
+    let base = g.J.Journal.seen c.spell.new.journal in
+    let on : GoesOn seen base (g.J.Journal.may_leave c.spell.new.journal) c.spell.new.end.offset = c.in_ok-bytes.ensures.ok in
+    let entries = c.in_ok-bytes.ensures.entries
+    ∙ ap (λ ds. entries_of page_size base ++ map definition_entry ds ++ map sample_entry c.deref-2.result.now) (c.deref.ensures.value ∙ c.in_ok-definitions.ensures)
+    ∙ ap (λ ss. entries_of page_size base ++ map definition_entry (undefined c.collect.new.references) ++ map sample_entry ss) c.deref-2.ensures.value in
+    let says : SaysWhat base old = λ l. c.requires.says l ∙ ap (λ (es : List Entry). samples_in es l) (sym on.entries) in
+    let defined = still_defined (entries_of page_size seen) (entries_of page_size base) c.args.references.now c.collect.new.references on.entries c.collect.ensures.undone c.requires.writable.defined in
+    let said = says_more c.new_samples_are_read.ensures.samples old new base c.in_ok-bytes.bytes.items c.collect.new.references c.in_ok-samples.samples.items c.args.staged.now.added says c.collect.ensures.adds defined
+    c.in_ok-samples.ensures.of c.in_ok-samples.ensures.points entries in
+    let will : SaysWhat (with_more base c.deref-3.result.now) new = subst (λ (b : List ℕ). SaysWhat (with_more base b) new) (sym c.deref-3.ensures.value) said in
+    then_runs g.J.Journal.moment g.J.Journal.left_since c.args.journal.now c.spell.new.journal c.write_in_pages.new.journal (IsBegun seen) (IsTornLog g.J.Journal.tears page_size c.offset.result base c.deref-3.result.now)
+    (IsLeft g.J.Journal.tears new seen) c.spell.ensures.any_moment c.write_in_pages.ensures.any_moment (λ x b. is_begun g.J.Journal.tears new seen x b)
+    (λ x torn.
+    is_torn g.J.Journal.tears new seen base c.spell.new.end.offset c.deref-3.result.now x on.begun on.ends will
+    (subst (λ (n : ℕ). IsTornLog g.J.Journal.tears page_size n base c.deref-3.result.now x) c.offset.ensures.offset torn))

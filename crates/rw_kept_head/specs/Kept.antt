@@ -1,0 +1,58 @@
+-- What the log in a journal says of what a head holds, and what it says after a crash.
+use Rattle.std.specs.Prelude.{◌≡◌, ◌⊎◌, ℕ, List, length, Option}
+use Rattle.std.specs.List.{AllByRecursion}
+use mathlib.Core.Logic.{inl, inr}
+use Rattle.rw_types.specs.Beginnings.{Begins}
+use Rattle.rw_types.specs.Labels.{Labels}
+use Rattle.rw_wal_format.specs.Pieces.{page_size}
+use Rattle.rw_head.specs.Head.{State}
+use Rattle.rw_head.specs.Store.{Store, list_of}
+use Rattle.rw_journal.specs.Journal.{Segments, Only, IsBegun, with_more}
+use Rattle.rw_journal.specs.Torn.{IsTornLog}
+use Rattle.rw_journal.specs.declared.journal.JournalError.{JournalError}
+use Rattle.rw_torn_log.specs.Logs.{entries_of, IsWhole}
+use Rattle.rw_torn_log.specs.Torn.{NoChance, last_of}
+use Rattle.rw_additions.specs.Additions.{samples_in}
+
+-- a head, the journal that has its log, and the fault after which every request is answered 503
+pub record Kept (J : Type 0) : Type 0 where
+  pub head : State
+  pub journal : J
+  pub fault : Option JournalError
+
+-- the log has of each label set the samples that the store has of it, in order
+abbrev pub SaysWhat : Segments → Store → Type 0
+SaysWhat segments store = (l : Labels) → list_of store l ≡ samples_in (entries_of page_size segments) l
+
+-- the log has of each label set all samples of the first store, and after them a prefix of those
+-- that the second one has more
+abbrev pub LiesBetween : Store → Store → Segments → Type 0
+LiesBetween old new left =
+    (l : Labels) → Begins (list_of old l) (samples_in (entries_of page_size left) l) × Begins (samples_in (entries_of page_size left) l) (list_of new l)
+
+-- bytes that were being written to the last segment of a log, so that it says what the store has:
+-- a crash left a torn part of them
+pub record IsTornWrite (tears : List ℕ → List ℕ → Type 0) (new : Store) (base left : Segments) : Type 0 where
+  pub written : List ℕ
+  pub will : SaysWhat (with_more base written) new
+  pub torn : IsTornLog tears page_size (length (last_of base)) base written left
+
+-- What a crash leaves of a log while a head is about to hold a store: the segments as they were, or
+-- with a next one, which is empty; and after them nothing, or a torn part of the bytes that make
+-- the log say what the store has.
+pub record IsLeft (tears : List ℕ → List ℕ → Type 0) (new : Store) (segments left : Segments) : Type 0 where
+  pub base : Segments
+  pub begun : IsBegun segments base
+  pub is : (left ≡ base) ⊎ IsTornWrite tears new base left
+
+-- The premise on CRC-32C, about one crash: no checksum is right by chance in what it left of a write.
+abbrev pub HasNoChance : (tears : List ℕ → List ℕ → Type 0) (new : Store) (base left : Segments) → (left ≡ base) ⊎ IsTornWrite tears new base left → Type 0
+HasNoChance tears new base left (inl same) = Unit {0}
+HasNoChance tears new base left (inr w) = NoChance page_size (last_of (with_more base w.written)) (last_of left)
+
+-- A log keeps what a store has: it says that, each of its segments ends between two records, and all
+-- of it is synced.
+pub record IsKept (may_leave : Segments → Type 0) (segments : Segments) (store : Store) : Type 0 where
+  pub says : SaysWhat segments store
+  pub whole : AllByRecursion (IsWhole page_size) segments
+  pub synced : Only segments may_leave

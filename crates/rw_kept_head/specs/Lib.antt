@@ -1,0 +1,4 @@
+pub mod Inner
+pub mod Kept
+pub mod Opening
+pub mod Restoring

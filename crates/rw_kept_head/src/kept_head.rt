@@ -1,0 +1,127 @@
+//! A head whose log is in a journal.
+
+ghost use Rattle.std.specs.Prelude.{◌≡◌, ◌≢◌, ◌<◌, ◌⊎◌, None, Some};
+ghost use Rattle.rw_types.specs.Beginnings.{Begins};
+ghost use Rattle.rw_types.specs.Labels.{Labels};
+ghost use Rattle.rw_journal.specs.Journal.{LeavesOnly};
+ghost use Rattle.rw_journal.specs.declared.journal.JournalError.{JournalError};
+ghost use Rattle.rw_journal.specs.declared.journal.JournalError.TheVariants.{Failed};
+ghost use Rattle.rw_head.specs.Head.{answer, IsStatus};
+ghost use Rattle.rw_head.specs.Store.{list_of};
+ghost use Rattle.rw_kept_head.specs.Kept.{IsKept, IsLeft};
+
+use crate::answering::answer_kept;
+use crate::log_writer::LogWriter;
+use rw_head::{Head, Limits};
+use rw_journal::{Journal, JournalError};
+use std::alloc::Global;
+use std::marker::Model;
+use std::mem;
+
+/// A head whose samples are in a journal, as a log. Contracts see the head, the journal, and the
+/// fault after which every request is answered 503.
+#[derive(Drop)]
+pub struct KeptHead<J: Journal> {
+    pub(crate) alloc: Global,
+    pub(crate) limits: Limits,
+    pub(crate) head: Head,
+    pub(crate) log: LogWriter<J>,
+}
+
+impl<J: Journal> Model for KeptHead<J> {
+    ghost use Rattle.std.specs.Prelude.{◌≡◌, None};
+    ghost use Rattle.std.specs.Coded.{codes};
+    ghost use Rattle.std.specs.FinMap as map;
+    ghost use Rattle.rw_kept_head.specs.Kept.{Kept, SaysWhat};
+
+    ghost Value = { Kept J };
+
+    ghost coded = { Prim.hlevel (codes, map.code) };
+
+    ghost view = { λ k. record { head = k.head; journal = k.log.journal; fault = k.log.fault } };
+
+    ghost invariant = { λ k. k.log.fault ≡ None → SaysWhat (J.seen k.log.journal) k.head.store };
+}
+
+impl<J: Journal> KeptHead<J> {
+    /// Answers the body of a request as `Head::answer` does, and 204 only once all samples that it
+    /// brings are in the journal and synced.
+    ///
+    /// 503 means that memory ran out or a call of the journal failed. What the head holds is then as
+    /// it was. After a failed call of the journal every request is answered 503, until the journal
+    /// is opened again.
+    pub fn answer(&mut self, body: &[u8]) -> u16
+        // The answer is that of a head without a journal, or 503.
+        ensures status { result ≢ 503 → result ≡ (answer self.old.head body.now).status }
+        ensures head { result ≢ 503 → self.new.head ≡ (answer self.old.head body.now).head }
+        ensures unchanged { result ≡ 503 → self.new.head ≡ self.old.head }
+        ensures statuses { IsStatus result }
+
+        // What is held is in the journal, and survives every crash from now on.
+        ensures acknowledged { result ≢ 503 → IsKept (J.may_leave self.new.journal)
+            (J.seen self.new.journal) self.new.head.store }
+        ensures kept { self.new.fault ≡ None → IsKept (J.may_leave self.new.journal)
+            (J.seen self.new.journal) self.new.head.store }
+
+        // A crash at any moment leaves what was held, and after it a torn part of what is to be held.
+        ensures any_moment { self.old.fault ≡ None
+            → LeavesOnly J.moment J.left_since self.old.journal self.new.journal
+            (IsLeft J.tears (answer self.old.head body.now).head.store (J.seen self.old.journal)) }
+        ensures begins { self.old.fault ≡ None → (l : Labels) → Begins
+            (list_of self.old.head.store l)
+            (list_of (answer self.old.head body.now).head.store l) }
+
+        // After a fault of the journal nothing changes any more, and there is none without a cause.
+        ensures closed { (e : JournalError) → self.old.fault ≡ Some e
+            → (result ≡ 503) × (self.new ≡ self.old) }
+        ensures failed { self.new.fault ≡ Some Failed → (self.old.fault ≡ Some Failed)
+            ⊎ (J.faults self.old.journal < J.faults self.new.journal) }
+    {
+        if self.log.fault.is_some() {
+            return 503;
+        }
+        let blank = Head::new(self.alloc, &self.limits);
+        let head = mem::replace(&mut self.head, blank);
+        let (head, status) = answer_kept(head, &mut self.log, body);
+        self.head = head;
+        let _kept = self.log.fault();
+        status
+    }
+
+    /// Returns the head.
+    pub fn head(&self) -> &Head
+        ensures { result.now ≡ self.now.head }
+    {
+        &self.head
+    }
+
+    /// Returns the journal, for a caller that opens it again.
+    pub fn into_journal(self) -> J
+        ensures { result ≡ self.journal }
+    {
+        let KeptHead {
+            alloc: _,
+            limits: _,
+            head: _,
+            log,
+        } = self;
+        let LogWriter {
+            alloc: _,
+            journal,
+            references: _,
+            end: _,
+            pages: _,
+            fault: _,
+        } = log;
+        journal
+    }
+
+    /// Returns the fault after which every request is answered 503, if there was one.
+    pub fn fault(&self) -> Option<JournalError>
+        ensures fault { result ≡ self.now.fault }
+        ensures kept { result ≡ None → IsKept (J.may_leave self.now.journal)
+            (J.seen self.now.journal) self.now.head.store }
+    {
+        self.log.fault()
+    }
+}

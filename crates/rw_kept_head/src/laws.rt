@@ -1,0 +1,35 @@
+//! Laws of a head that is kept in a journal. Each function does nothing: its contract is the law.
+
+ghost use Rattle.std.specs.Prelude.{List};
+ghost use Rattle.std.specs.List.{AllByRecursion};
+ghost use Rattle.rw_types.specs.Beginnings.{Begins};
+ghost use Rattle.rw_types.specs.Labels.{Labels};
+ghost use Rattle.rw_types.specs.declared.entry.Entry.{Entry};
+ghost use Rattle.rw_wal_format.specs.Pieces.{page_size};
+ghost use Rattle.rw_head.specs.Store.{Store, list_of};
+ghost use Rattle.rw_journal.specs.Journal.{Segments};
+ghost use Rattle.rw_torn_log.specs.Logs.{IsWhole};
+ghost use Rattle.rw_additions.specs.Additions.{samples_in};
+ghost use Rattle.rw_kept_head.specs.Kept.{SaysWhat, LiesBetween, IsLeft, HasNoChance};
+
+use rw_journal::Journal;
+use rw_torn_log::laws::segments_add_up;
+
+/// Law: as a log goes on, the samples of each label set go on.
+pub fn samples_go_on()
+    ensures { (es fs : List Entry) (l : Labels) → Begins es fs
+        → Begins (samples_in es l) (samples_in fs l) }
+{}
+
+/// Law: what a crash leaves while a request is answered is between what was held and what was about
+/// to be held: of each label set all samples that were held, and after them a prefix of the new
+/// ones. The premise is that no checksum is right by chance in what this crash left.
+pub fn what_is_left_lies_between<J: Journal>()
+    ensures { (old new : Store) (segments left : Segments)
+        → SaysWhat segments old → AllByRecursion (IsWhole page_size) segments
+        → ((l : Labels) → Begins (list_of old l) (list_of new l))
+        → (x : IsLeft J.tears new segments left) → HasNoChance J.tears new x.base left x.is
+        → LiesBetween old new left }
+{
+    segments_add_up();
+}

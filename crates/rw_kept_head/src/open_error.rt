@@ -1,0 +1,47 @@
+//! Why a head cannot be opened.
+
+ghost use Rattle.std.specs.Prelude.{◌≡◌};
+ghost use Rattle.rw_reopen.specs.Errors.{of_journal};
+ghost use Rattle.rw_kept_head.specs.declared.open_error.OpenError.TheVariants.{Log};
+
+use rw_journal::JournalError;
+use rw_reopen::ReopenError;
+use std::error::Error;
+use std::fmt;
+
+/// Why a head cannot be opened.
+#[derive(Clone, Copy, Debug, PartialEq, Eq)]
+pub enum OpenError {
+    /// The log cannot be opened.
+    Log(ReopenError),
+    /// The log has an entry that no head with these limits writes: labels that are refused, a sample
+    /// out of order or a repeat, or a reference from 2^63 on.
+    Foreign,
+}
+
+impl From<ReopenError> for OpenError {
+    ghost from_gives = { λ f e. e ≡ Log f };
+
+    fn from(error: ReopenError) -> Self {
+        OpenError::Log(error)
+    }
+}
+
+impl From<JournalError> for OpenError {
+    ghost from_gives = { λ f e. e ≡ Log (of_journal f) };
+
+    fn from(error: JournalError) -> Self {
+        OpenError::Log(ReopenError::from(error))
+    }
+}
+
+impl fmt::Display for OpenError {
+    fn fmt<W: fmt::Write>(&self, f: &mut fmt::Formatter<W>) -> fmt::Result {
+        match self {
+            OpenError::Log(error) => write!(f, "{error}"),
+            OpenError::Foreign => f.write_str("the log has an entry that this head does not take"),
+        }
+    }
+}
+
+impl Error for OpenError {}

@@ -1,0 +1,134 @@
+//! A head, opened from the log in a journal.
+
+ghost use Rattle.std.specs.Prelude.{◌≡◌, ◌<◌, ◌≤◌, ◌^◌, None, IfOk, IfErr, IsErrOf};
+ghost use Rattle.rw_journal.specs.Journal.{Only, LeavesOnly};
+ghost use Rattle.rw_wal_append.specs.Ends.{EndsAt};
+ghost use Rattle.rw_reopen.specs.declared.error.ReopenError.TheVariants.{Failed};
+ghost use Rattle.rw_kept_head.specs.Kept.{SaysWhat, IsKept};
+ghost use Rattle.rw_kept_head.specs.Opening.{HasSameEntries, IsRefusedRightly};
+ghost use Rattle.rw_kept_head.specs.declared.open_error.OpenError.TheVariants.{Log};
+
+use crate::kept_head::KeptHead;
+use crate::log_writer::LogWriter;
+use crate::open_error::OpenError;
+use crate::restoring::Restoring;
+use rw_head::{Head, Limits};
+use rw_journal::Journal;
+use rw_references::References;
+use rw_reopen::{ReopenError, read_log};
+use rw_torn_log::close_torn;
+use rw_types::RequestPath;
+use rw_wal_append::LogEnd;
+use rw_wal_append::laws::an_empty_segment_ends_at_0;
+use std::alloc::{AllocError, Global};
+
+/// The first reference that is not given: a log that has it is refused.
+const MAX_REFERENCE: u64 = 1 << 63;
+
+/// Reads a log, closes what a crash left of a write, and begins a next segment. Returns the head that
+/// the log says, and its first free reference.
+fn open_log<J: Journal>(
+    alloc: Global,
+    limits: &Limits,
+    journal: &mut J,
+) -> Result<(Head, u64), OpenError>
+    requires synced { Only (J.seen journal.old) (J.may_leave journal.old) }
+    ensures says { IfOk result (λ r. SaysWhat (J.seen journal.old) r.0.store) }
+    ensures says_still { IfOk result (λ r. SaysWhat (J.seen journal.new) r.0.store) }
+    ensures free { IfOk result (λ r. r.1 ≤ 2 ^ 63) }
+    ensures ends { IfOk result (λ r. EndsAt (J.seen journal.new) 0) }
+    ensures synced { IfOk result (λ r. Only (J.seen journal.new) (J.may_leave journal.new)) }
+    ensures any_moment { LeavesOnly J.moment J.left_since journal.old journal.new
+        (HasSameEntries (J.seen journal.old)) }
+    ensures refused { IfErr result (IsRefusedRightly (J.seen journal.old) (J.seen journal.new)) }
+    ensures failed { IsErrOf result (Log Failed) → J.faults journal.old < J.faults journal.new }
+{
+    an_empty_segment_ends_at_0();
+    let mut restoring = Restoring::new(alloc, limits);
+    let end = read_log(journal, alloc, &mut restoring)?;
+    let Some(head) = restoring.into_head() else {
+        return Err(OpenError::Foreign);
+    };
+    if end.greatest >= MAX_REFERENCE {
+        return Err(OpenError::Foreign);
+    }
+    close_torn(journal, end.whole)?;
+    Ok((head, end.greatest + 1))
+}
+
+/// Returns limits that make the same heads as these.
+fn limits_of(alloc: Global, limits: &Limits) -> Result<Limits, AllocError> {
+    Ok(Limits {
+        path: RequestPath::api_v1_write(alloc)?,
+        max_body_bytes: limits.max_body_bytes,
+        names: limits.names,
+        max_labels: limits.max_labels,
+        max_label_bytes: limits.max_label_bytes,
+        busy_first: limits.busy_first,
+    })
+}
+
+impl<J: Journal> KeptHead<J> {
+    /// Opens a journal with the log of a head: reads the log, makes the head that it says, cuts off
+    /// what a crash left of a write, and begins a next segment. A segment has at most `pages` pages
+    /// of 32 KiB; 4096 are 128 MiB.
+    ///
+    /// A log that is damaged, or that no head with these limits has written, is refused, and nothing
+    /// is changed.
+    pub fn open(
+        alloc: Global,
+        limits: &Limits,
+        journal: J,
+        pages: usize,
+    ) -> Result<KeptHead<J>, (OpenError, J)>
+        // After a restart, what is read is what is on the disk.
+        requires synced { Only (J.seen journal) (J.may_leave journal) }
+        requires some { 1 ≤ pages }
+        requires most { pages ≤ 4096 }
+
+        // The head has what the log had, and the log still has it.
+        ensures says { IfOk result (λ k. SaysWhat (J.seen journal) k.head.store) }
+        ensures kept { IfOk result (λ k. IsKept (J.may_leave k.journal) (J.seen k.journal)
+            k.head.store) }
+        ensures open { IfOk result (λ k. k.fault ≡ None) }
+
+        // A crash at any moment leaves a log with the same entries, also if it is not opened.
+        ensures any_moment { IfOk result (λ k. LeavesOnly J.moment J.left_since journal k.journal
+            (HasSameEntries (J.seen journal))) }
+        ensures any_moment_before_an_error { IfErr result (λ e. LeavesOnly J.moment J.left_since
+            journal e.1 (HasSameEntries (J.seen journal))) }
+
+        // A log that is refused is as it was, and a fault of the journal has a cause.
+        ensures refused { IfErr result
+            (λ e. IsRefusedRightly (J.seen journal) (J.seen e.1) e.0) }
+        ensures failed { IfErr result
+            (λ e. e.0 ≡ Log Failed → J.faults journal < J.faults e.1) }
+    {
+        let mut journal = journal;
+        let own = match limits_of(alloc, limits) {
+            Ok(own) => own,
+            Err(_) => return Err((OpenError::Log(ReopenError::OutOfMemory), journal)),
+        };
+        match open_log(alloc, limits, &mut journal) {
+            Ok((head, first)) => {
+                let log = LogWriter {
+                    alloc,
+                    journal,
+                    references: References::new(alloc, first),
+                    end: LogEnd::new(pages),
+                    pages,
+                    fault: None,
+                };
+                let kept = KeptHead {
+                    alloc,
+                    limits: own,
+                    head,
+                    log,
+                };
+                let _kept = kept.fault();
+                Ok(kept)
+            }
+            Err(error) => Err((error, journal)),
+        }
+    }
+}
