@@ -17,8 +17,8 @@ pub record Writing (J : Type 0) : Type 0 where
   pub end : End
   pub fault : Option JournalError
 
--- the log ends there between two records, it has the definitions that it is said to have, and all of
--- it is synced
+-- the log ends there between two records, it has the definitions that it is said to have, and all
+-- of it is synced
 pub record IsWritable (segments : Segments) (may_leave : Segments → Type 0) (references : Named) (offset : ℕ) : Type 0 where
   pub ends : EndsAt segments offset
   pub defined : AreDefined (entries_of page_size segments) references

@@ -45,13 +45,14 @@ pub record IsLeft (tears : List ℕ → List ℕ → Type 0) (new : Store) (segm
   pub begun : IsBegun segments base
   pub is : (left ≡ base) ⊎ IsTornWrite tears new base left
 
--- The premise on CRC-32C, about one crash: no checksum is right by chance in what it left of a write.
+-- The premise on CRC-32C, about one crash: no checksum is right by chance in what it left of a
+-- write.
 abbrev pub HasNoChance : (tears : List ℕ → List ℕ → Type 0) (new : Store) (base left : Segments) → (left ≡ base) ⊎ IsTornWrite tears new base left → Type 0
 HasNoChance tears new base left (inl same) = Unit {0}
 HasNoChance tears new base left (inr w) = NoChance page_size (last_of (with_more base w.written)) (last_of left)
 
--- A log keeps what a store has: it says that, each of its segments ends between two records, and all
--- of it is synced.
+-- A log keeps what a store has: it says that, each of its segments ends between two records, and
+-- all of it is synced.
 pub record IsKept (may_leave : Segments → Type 0) (segments : Segments) (store : Store) : Type 0 where
   pub says : SaysWhat segments store
   pub whole : AllByRecursion (IsWhole page_size) segments

@@ -20,8 +20,8 @@ abbrev pub labels_in : Option TimeSeries → Option (List (List ℕ × List ℕ)
 labels_in None = None
 labels_in (Some s) = Some s.labels
 
--- the references have the labels that the entries give them, and of each label set the store has the
--- samples that they have
+-- the references have the labels that the entries give them, and of each label set the store has
+-- the samples that they have
 pub record IsRestored (taken : List Entry) (lookup : ℕ → Option TimeSeries) (store : Store) : Type 0 where
   pub known : (r : ℕ) → labels_in (lookup r) ≡ labels_of taken r (length taken)
   pub says : (l : Labels) → list_of store l ≡ samples_in taken l

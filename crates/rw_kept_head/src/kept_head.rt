@@ -47,9 +47,9 @@ impl<J: Journal> KeptHead<J> {
     /// Answers the body of a request as `Head::answer` does, and 204 only once all samples that it
     /// brings are in the journal and synced.
     ///
-    /// 503 means that memory ran out or a call of the journal failed. What the head holds is then as
-    /// it was. After a failed call of the journal every request is answered 503, until the journal
-    /// is opened again.
+    /// 503 means that memory ran out or a call of the journal failed. What the head holds is then
+    /// as it was. After a failed call of the journal every request is answered 503, until the
+    /// journal is opened again.
     pub fn answer(&mut self, body: &[u8]) -> u16
         // The answer is that of a head without a journal, or 503.
         ensures status { result ≢ 503 → result ≡ (answer self.old.head body.now).status }
@@ -63,7 +63,8 @@ impl<J: Journal> KeptHead<J> {
         ensures kept { self.new.fault ≡ None → IsKept (J.may_leave self.new.journal)
             (J.seen self.new.journal) self.new.head.store }
 
-        // A crash at any moment leaves what was held, and after it a torn part of what is to be held.
+        // A crash at any moment leaves what was held, and after it a torn part of what is to be
+        // held.
         ensures any_moment { self.old.fault ≡ None
             → LeavesOnly J.moment J.left_since self.old.journal self.new.journal
             (IsLeft J.tears (answer self.old.head body.now).head.store (J.seen self.old.journal)) }

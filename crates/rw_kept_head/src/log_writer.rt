@@ -27,8 +27,8 @@ use rw_wal_format::PAGE_BYTES;
 use std::alloc::Global;
 use std::marker::Model;
 
-/// Returns the bytes that add definitions and samples to a log, and where it ends after them. Begins
-/// a next segment if the last one has no room for them.
+/// Returns the bytes that add definitions and samples to a log, and where it ends after them.
+/// Begins a next segment if the last one has no room for them.
 fn spell<J: Journal>(
     alloc: Global,
     journal: &mut J,

@@ -14,8 +14,8 @@ use std::fmt;
 pub enum OpenError {
     /// The log cannot be opened.
     Log(ReopenError),
-    /// The log has an entry that no head with these limits writes: labels that are refused, a sample
-    /// out of order or a repeat, or a reference from 2^63 on.
+    /// The log has an entry that no head with these limits writes: labels that are refused, a
+    /// sample out of order or a repeat, or a reference from 2^63 on.
     Foreign,
 }
 

@@ -25,8 +25,8 @@ use std::alloc::{AllocError, Global};
 /// The first reference that is not given: a log that has it is refused.
 const MAX_REFERENCE: u64 = 1 << 63;
 
-/// Reads a log, closes what a crash left of a write, and begins a next segment. Returns the head that
-/// the log says, and its first free reference.
+/// Reads a log, closes what a crash left of a write, and begins a next segment. Returns the head
+/// that the log says, and its first free reference.
 fn open_log<J: Journal>(
     alloc: Global,
     limits: &Limits,
@@ -73,8 +73,8 @@ impl<J: Journal> KeptHead<J> {
     /// what a crash left of a write, and begins a next segment. A segment has at most `pages` pages
     /// of 32 KiB; 4096 are 128 MiB.
     ///
-    /// A log that is damaged, or that no head with these limits has written, is refused, and nothing
-    /// is changed.
+    /// A log that is damaged, or that no head with these limits has written, is refused, and
+    /// nothing is changed.
     pub fn open(
         alloc: Global,
         limits: &Limits,

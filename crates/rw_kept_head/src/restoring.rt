@@ -139,8 +139,8 @@ fn take_entry(
     }
 }
 
-/// Makes the head that a log says, as its entries come. Contracts see the entries, and what the head
-/// holds.
+/// Makes the head that a log says, as its entries come. Contracts see the entries, and what the
+/// head holds.
 #[derive(Drop)]
 pub(crate) struct Restoring {
     alloc: Global,

@@ -77,7 +77,7 @@ pair_written : (started : Bool) (key value : List ℕ) (content : Data) → key_
 unfolding pair_line
 pair_written started key value content bare written = (value, ap (λ k. k ++ (codes " = " ++ (value ++ codes "\n"))) (sym bare), written)
 
--- texts behind the first
+-- texts after the first
 abbrev more_texts : List (List ℕ) → List ℕ
 more_texts ts = flat_map (λ t. codes ", " ++ string_text t) ts
 

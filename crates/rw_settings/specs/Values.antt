@@ -1,4 +1,4 @@
--- What stands at a key: nothing, a value of its type and in its range, or a fault.
+-- What is at a key: nothing, a value of its type and in its range, or a fault.
 use Rattle.std.specs.Prelude.{ℕ, ℤ, pos, negsuc, List, Bool, true, ◌&&◌, ◌||◌, nat_le, is_some, Option, Some, None, Result, Ok, Err, codes, if◌then◌else◌}
 use Rattle.std.specs.Str.{bytes_eq}
 use Rattle.toml.specs.Data.{Data, as_integer, as_str, as_table, as_array, Members, no_members, Items, no_items, item}

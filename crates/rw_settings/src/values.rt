@@ -81,7 +81,7 @@ pub(crate) fn bounded_of<const LOW: u64, const HIGH: u64>(
     Bounded::new(number_of(table, key))
 }
 
-/// The text at a key, or the default where none stands there.
+/// Returns the text at a key, or the default if the key is missing.
 pub(crate) fn text_or<'a>(table: &'a Table, key: &str, default: &'a str) -> &'a str
     ensures { result.now
         ≡ found_or default.now (text_at any_text (get_member key.now (table_view table.now))) }
@@ -141,8 +141,8 @@ pub(crate) fn names_of(table: &Table) -> Names
     }
 }
 
-/// The table at a key, or the empty one where no value stands there; `None` where a value of
-/// another type does.
+/// Returns the table at a key, or the empty one if the key is missing; `None` for a value of
+/// another type.
 pub(crate) fn section<'a>(document: &'a Table, key: &str, empty: &'a Table) -> Option<&'a Table>
     requires { table_view empty.now ≡ no_members }
     ensures { option_map (λ t. table_view t.now) result

@@ -21,7 +21,7 @@ pub(crate) fn texts_of(
     Ok(texts)
 }
 
-/// A journal with these segments, of whose last one a crash left so many bytes, and junk after them
+/// A journal with these segments, whose last one a crash cut to this length, and junk after them
 /// within the page.
 pub(crate) fn torn_at(
     alloc: Global,
