@@ -199,7 +199,7 @@ fn play(alloc: Global, seed: u64) -> Result<(), Wrong> {
 
 /// The first schedule that is wrong.
 fn first_wrong(alloc: Global) -> Option<(u64, Wrong)> {
-    for seed in 0..200 {
+    for seed in 0..20 {
         if let Err(wrong) = play(alloc, seed) {
             return Some((seed, wrong));
         }
