@@ -2,11 +2,8 @@
 
 use crate::files::names_in;
 use rw_metrics::SendCounters;
-use std::alloc::{AllocError, Global};
 use std::rt::Files;
-use std::sync::Arc;
 use std::thread;
-use std::thread::Threads;
 use std::time::{Clock, Duration};
 
 /// How many seconds pass between two looks.
@@ -21,27 +18,15 @@ fn look<R: Files + AllocGlobal + Copy>(rt: &R, dir: &str, counters: &SendCounter
     }
 }
 
-/// Looks for the newest segment every few seconds.
-fn watch<R: Files + AllocGlobal + Clock + Copy>(rt: &R, dir: &str, counters: &SendCounters) {
+/// Keeps the counters informed of the newest segment in a folder, which it looks for every few
+/// seconds. It does not return: call it in a thread that ends with the process.
+pub fn watch_newest_segment<R: Files + AllocGlobal + Clock + Copy>(
+    rt: &R,
+    dir: &str,
+    counters: &SendCounters,
+) {
     for _ in 0..u64::MAX {
         look(rt, dir, counters);
         thread::sleep(rt, Duration::from_secs(PAUSE_SECONDS));
-    }
-}
-
-/// Keeps the counters informed of the newest segment in a folder, also while the reading waits for
-/// room in a queue, in a thread that nobody joins: it ends with the process.
-pub fn watch_newest_segment<T: Threads, R: Files + AllocGlobal + Clock + Copy + Send + 'static>(
-    threads: &T,
-    rt: R,
-    dir: String,
-    counters: Arc<SendCounters, Global>,
-) -> Result<(), AllocError> {
-    match thread::spawn(threads, move || watch(&rt, dir.as_str(), &counters)) {
-        Ok(watcher) => {
-            drop(watcher);
-            Ok(())
-        }
-        Err(_) => Err(AllocError),
     }
 }

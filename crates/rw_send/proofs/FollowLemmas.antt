@@ -31,7 +31,7 @@ use Rattle.rw_send.specs.declared.follow_fault.FollowFault.{FollowFault}
 use Rattle.rw_send.specs.declared.follow_fault.FollowFault.TheVariants as fault
 use Rattle.rw_send.specs.declared.feed_error.FeedError.{FeedError}
 use Rattle.rw_send.specs.declared.feed_error.FeedError.TheVariants as error
-use Rattle.rw_send.specs.Following.{FailsWith, FollowAnswers, FollowStopsAtOnce, HaltsAt, HaltsFor, HasGivenMore, HasRead, IsCut, IsFollowPrinted, IsFollowPrintedPart, IsFollowed, IsUnread, follow_result, left_undone, meal_after, meal_of, no_meal, told}
+use Rattle.rw_send.specs.Following.{FailsWith, FollowAnswers, FollowStopsAtOnce, HaltsAt, HaltsFor, HasGivenMore, HasRead, IsCut, IsFollowPrinted, IsFollowPrintedPart, IsFollowed, IsUnread, follow_result, left_undone, meal_after, meal_of, no_meal, as_follow_result}
 use Rattle.rw_send.specs.ReportText.{IsTextOf, WritesPart}
 use Rattle.rw_send.specs.FeedErrors.{HasDamage, IsHalted, feed_error_of, segment_error_of}
 use Rattle.rw_send.specs.Sending.{Answers, StopsAtOnce, hard_fault}
@@ -124,9 +124,9 @@ damaged_by s now said unsure (Err (error.Missing n)) c = tt
 damaged_by s now said unsure (Err error.Aborted) c = tt
 
 -- a call failed, so its caller does
-pub on_err : {X P : Type 0} (r : Result X FeedError) (h : FeedError) → IsErrAnd r (λ y. y ≡ h) → OnOk r P
-on_err (Ok x) h is = absurd is
-on_err (Err y) h is = tt
+pub on_err : {X : Type 0} (P : Type 0) (r : Result X FeedError) (h : FeedError) → IsErrAnd r (λ y. y ≡ h) → OnOk r P
+on_err P (Ok x) h is = absurd is
+on_err P (Err y) h is = tt
 
 -- ---- how a following answers
 

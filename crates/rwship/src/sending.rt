@@ -22,7 +22,7 @@ use std::io::{Error, ErrorKind, IsTerminal};
 use std::net::SocketAddr;
 use std::process::ExitCode;
 use std::sync::{Arc, Wait};
-use std::thread::Threads;
+use std::thread::{self, Threads};
 use std::time::{Clock, Duration};
 
 /// The log that is shipped.
@@ -146,7 +146,12 @@ fn watch_folder<R: Threads>(
     }
     let path = String::from_str(rt.alloc(), sending.dir.path)?;
     let theirs = Arc::try_clone(counters)?;
-    watch_newest_segment(threads, *rt, path, theirs)
+    let host = *rt;
+    let watcher = thread::spawn(threads, move || {
+        watch_newest_segment(&host, &path, &theirs);
+    })?;
+    drop(watcher);
+    Ok(())
 }
 
 /// Returns new counters, which are reported from here on as far as that is asked for.

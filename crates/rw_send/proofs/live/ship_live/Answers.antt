@@ -14,10 +14,10 @@ returns-in_err-sharding g c =
       number = c.step.ensures.number;
       last = λ done. c.step.ensures.last (c.loop.invariant.resolved done);
       short = c.step.ensures.short c.loop.invariant.short;
-      live = on_err _ _ is_err;
+      live = on_err _ _ _ is_err;
       begins = begins_turn _ _ c.in_ok-turn.turn c.turn.new.buf _ _ c.in_ok-turn.ensures.given c.loop.invariant.given c.in_err-sharding.ensures.part;
-      whole = on_err _ _ is_err;
-      signed = on_err _ _ is_err;
+      whole = on_err _ _ _ is_err;
+      signed = on_err _ _ _ is_err;
       cut = err_so (IsCut c.step.new.shipper (g.S.Segments.now c.turn.new.segments) _ (g.S.Segments.is_sure c.args.segments.now ≡ true → ⊥)) _ _ is_err
           (cut_halted c.step.new.shipper _ _ _ _ c.in_err-sharding.ensures.halted (halts_for c.loop.shipper c.step.new.shipper _ _ _ _ _ c.in_err-sharding.ensures.halts c.in_ok-turn.ensures.given c.loop.invariant.given c.in_ok-turn.ensures.piece (λ n e. c.in_ok-turn.ensures.some n (ap Ok e))));
     }
