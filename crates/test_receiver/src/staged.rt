@@ -121,9 +121,14 @@ fn are_equal(alloc: Global, left: &Head, right: &Head) -> bool {
         if series.labels() != other.labels() {
             return false;
         }
-        match (series.samples(alloc), other.samples(alloc)) {
-            (Ok(samples), Ok(same)) if samples == same => {}
-            _ => return false,
+        let Ok(samples) = series.samples(alloc) else {
+            return false;
+        };
+        let Ok(same) = other.samples(alloc) else {
+            return false;
+        };
+        if samples != same {
+            return false;
         }
     }
     others.next().is_none() && left.total() == right.total() && left.places() == right.places()
