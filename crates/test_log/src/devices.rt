@@ -1,40 +1,11 @@
 //! Readers and writers that give few bytes, fail in mid-stream or have too little room.
 
 use crate::rows::holds;
-use rw_types::{Failed, ReadFault, Room, Sink, Source, Std, read_to_end, write_all};
+use rw_test_parts::Giving;
+use rw_types::{Failed, ReadFault, Room, Sink, Std, read_to_end, write_all};
 use std::alloc::Global;
+use std::cell::Cell;
 use std::io::{self, ErrorKind};
-
-/// Gives one byte at a time, and fails after the last one if it is to fail.
-#[derive(Drop)]
-struct ByteByByte<'a> {
-    left: &'a [u8],
-    fails: bool,
-    failed: bool,
-}
-
-impl Source for ByteByByte<'_> {
-    ghost use Rattle.std.specs.Prelude.{None, false};
-
-    ghost remaining = { λ _. None };
-
-    ghost has_failed = { λ s. s.failed };
-
-    ghost is_sure = { λ _. false };
-
-    fn read(&mut self, buf: &mut [u8]) -> Result<usize, Failed> {
-        if self.failed || (self.fails && self.left.is_empty()) {
-            self.failed = true;
-            return Err(Failed);
-        }
-        if buf.is_empty() || self.left.is_empty() {
-            return Ok(0);
-        }
-        buf[0] = self.left[0];
-        self.left = &self.left[1..];
-        Ok(1)
-    }
-}
 
 /// A reader and writer of std that is interrupted at every other call, and takes one byte a call,
 /// up to its room.
@@ -82,14 +53,6 @@ impl io::Write for Interrupting {
     }
 }
 
-fn byte_by_byte(left: &[u8], fails: bool) -> ByteByByte<'_> {
-    ByteByByte {
-        left,
-        fails,
-        failed: false,
-    }
-}
-
 fn with_room(room: usize) -> Std<Interrupting> {
     Std::new(Interrupting { room, turn: false })
 }
@@ -99,8 +62,14 @@ fn with_room(room: usize) -> Std<Interrupting> {
 fn read_in_turn(alloc: Global) -> bool {
     let mut out = Vec::new(alloc);
     let whole = read_to_end(alloc, &mut b"whole".as_slice(), &mut out);
-    let slow = read_to_end(alloc, &mut byte_by_byte(b" byte by byte", false), &mut out);
-    let mut reader = byte_by_byte(b" and broken", true);
+    let never = Cell::new(0);
+    let slow = read_to_end(
+        alloc,
+        &mut Giving::new(b" byte by byte", 1, &never),
+        &mut out,
+    );
+    let twelfth = Cell::new(12);
+    let mut reader = Giving::new(b" and broken", 1, &twelfth);
     let broken = read_to_end(alloc, &mut reader, &mut out);
     let still_broken = read_to_end(alloc, &mut reader, &mut out);
     let interrupted = read_to_end(alloc, &mut with_room(3), &mut out);

@@ -1,7 +1,8 @@
 //! Fragments of a log, and the records of one series.
 
 use rw_codes::crc32c;
-use rw_types::{RawLabels, Room};
+use rw_test_parts::raw_labels;
+use rw_types::Room;
 use rw_wal_write::{SegmentWriter, series_record};
 use std::alloc::{AllocError, Global};
 
@@ -15,11 +16,7 @@ pub(crate) fn put_fragment(out: &mut Vec<u8>, kind: u8, data: &[u8]) -> Result<(
 
 /// Returns the record of the reference 1 as `{__name__="up"}`.
 pub(crate) fn up_record(alloc: Global) -> Result<Vec<u8>, AllocError> {
-    let mut labels = RawLabels::new(alloc);
-    match labels.push(b"__name__", b"up") {
-        Ok(()) => series_record(alloc, 1, &labels),
-        Err(refused) => Err(refused),
-    }
+    series_record(alloc, 1, &raw_labels(alloc, &[("__name__", "up")])?)
 }
 
 /// Returns whether there is a record, and it is logged.

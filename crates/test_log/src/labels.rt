@@ -1,83 +1,94 @@
 //! Which labels are a label set, and the order of label sets.
 
 use crate::rows::{holds, none_is_wrong};
+use LabelFault::{BadName, EmptyName, EmptyValue, NotSorted};
 use Names::{Legacy, Utf8};
+use rw_test_parts::raw_labels;
 use rw_types::{LabelFault, LabelSet, MAX_LABEL_BYTES, MAX_LABELS, Names, RawLabels};
 use std::alloc::{AllocError, Global};
 
 type Labels<'a> = &'a [(&'a str, &'a str)];
 
-fn push_all(raw: &mut RawLabels, labels: Labels<'_>) -> Result<(), AllocError> {
-    for (name, value) in labels {
-        raw.push(name.as_bytes(), value.as_bytes())?;
-    }
-    Ok(())
-}
-
 /// The names that are accepted, labels, and the first fault of them, if there is one.
-static FAULTS: [(Names, Labels<'static>, Option<LabelFault>); 23] = [
-    (Legacy, &[("", "1")], Some(LabelFault::EmptyName)),
-    (Legacy, &[("9a", "1")], Some(LabelFault::BadName)),
-    (Legacy, &[("a:b", "1")], Some(LabelFault::BadName)),
-    (Legacy, &[("säge", "1")], Some(LabelFault::BadName)),
-    (Legacy, &[("__name__", "9up")], Some(LabelFault::BadName)),
+static FAULTS: [(&str, Names, Labels<'static>, Option<LabelFault>); 23] = [
+    ("no name", Legacy, &[("", "1")], Some(EmptyName)),
+    ("a digit first", Legacy, &[("9a", "1")], Some(BadName)),
+    ("a colon", Legacy, &[("a:b", "1")], Some(BadName)),
+    ("an umlaut", Legacy, &[("säge", "1")], Some(BadName)),
+    ("metric 9up", Legacy, &[("__name__", "9up")], Some(BadName)),
     (
+        "a metric with a dot",
         Legacy,
         &[("__name__", "http.rate")],
-        Some(LabelFault::BadName),
+        Some(BadName),
     ),
-    (Legacy, &[("a", "")], Some(LabelFault::EmptyValue)),
+    ("no value", Legacy, &[("a", "")], Some(EmptyValue)),
     (
+        "falling names",
         Legacy,
         &[("b", "1"), ("a", "1")],
-        Some(LabelFault::NotSorted),
+        Some(NotSorted),
     ),
     (
+        "a name twice",
         Legacy,
         &[("a", "1"), ("a", "2")],
-        Some(LabelFault::NotSorted),
+        Some(NotSorted),
     ),
-    // two faults at once
-    (Legacy, &[("", "1"), ("9", "")], Some(LabelFault::EmptyName)),
-    (Legacy, &[("__name__", "")], Some(LabelFault::BadName)),
     (
+        "two names",
+        Legacy,
+        &[("", "1"), ("9", "")],
+        Some(EmptyName),
+    ),
+    ("no metric", Legacy, &[("__name__", "")], Some(BadName)),
+    (
+        "no value first",
         Legacy,
         &[("b", ""), ("a", "1")],
-        Some(LabelFault::EmptyValue),
+        Some(EmptyValue),
     ),
-    // any name is accepted
-    (Utf8, &[("", "1")], Some(LabelFault::EmptyName)),
-    (Utf8, &[("9a", "1")], None),
-    (Utf8, &[("a:b", "1")], None),
-    (Utf8, &[("säge", "1")], None),
-    (Utf8, &[("\"\\\n", "1")], None),
-    (Utf8, &[("__name__", "http.rate")], None),
-    (Utf8, &[("__name__", "")], Some(LabelFault::EmptyValue)),
-    (Utf8, &[("a.b", "")], Some(LabelFault::EmptyValue)),
+    ("any, no name", Utf8, &[("", "1")], Some(EmptyName)),
+    ("any, a digit first", Utf8, &[("9a", "1")], None),
+    ("any, a colon", Utf8, &[("a:b", "1")], None),
+    ("any, an umlaut", Utf8, &[("säge", "1")], None),
+    ("any, three signs", Utf8, &[("\"\\\n", "1")], None),
+    ("any, a dot", Utf8, &[("__name__", "http.rate")], None),
+    ("any, metric", Utf8, &[("__name__", "")], Some(EmptyValue)),
+    ("any, no value", Utf8, &[("a.b", "")], Some(EmptyValue)),
     (
+        "any, falling names",
         Utf8,
         &[("b.", "1"), ("a.", "1")],
-        Some(LabelFault::NotSorted),
+        Some(NotSorted),
     ),
-    (Utf8, &[(".", "1"), (".", "2")], Some(LabelFault::NotSorted)),
-    (Utf8, &[("", "1"), ("9", "")], Some(LabelFault::EmptyName)),
+    (
+        "any, twice",
+        Utf8,
+        &[(".", "1"), (".", "2")],
+        Some(NotSorted),
+    ),
+    ("any, both", Utf8, &[("", "1"), ("9", "")], Some(EmptyName)),
 ];
 
-static SETS: [Labels<'static>; 4] = [
-    &[],
-    &[("Z_9", "säge\n")],
-    &[("__name__", "job:up:rate5m")],
-    &[("A", "1"), ("_", "2"), ("a", "3"), ("aa", "4")],
+static SETS: [(&str, Labels<'static>); 4] = [
+    ("no labels", &[]),
+    ("a value with a newline", &[("Z_9", "säge\n")]),
+    ("a metric with colons", &[("__name__", "job:up:rate5m")]),
+    (
+        "names in byte order",
+        &[("A", "1"), ("_", "2"), ("a", "3"), ("aa", "4")],
+    ),
 ];
 
 /// Label sets, each less than the next.
-static RISING: [Labels<'static>; 6] = [
-    &[],
-    &[("a", "1")],
-    &[("a", "1"), ("b", "1")],
-    &[("a", "10")],
-    &[("aa", "1")],
-    &[("b", "1")],
+static RISING: [(&str, Labels<'static>); 6] = [
+    ("none", &[]),
+    ("a", &[("a", "1")]),
+    ("a and b", &[("a", "1"), ("b", "1")]),
+    ("a longer value", &[("a", "10")]),
+    ("a longer name", &[("aa", "1")]),
+    ("b", &[("b", "1")]),
 ];
 
 fn fault(alloc: Global, labels: &RawLabels) -> Option<LabelFault> {
@@ -86,25 +97,24 @@ fn fault(alloc: Global, labels: &RawLabels) -> Option<LabelFault> {
 
 /// Returns the fault of labels if these names are accepted. Out of memory is one too.
 fn fault_as(alloc: Global, names: Names, labels: Labels<'_>) -> Option<LabelFault> {
-    let mut raw = RawLabels::new(alloc);
-    match push_all(&mut raw, labels) {
-        Ok(()) => LabelSet::check_as(alloc, names, &raw).err(),
+    match raw_labels(alloc, labels) {
+        Ok(raw) => LabelSet::check_as(alloc, names, &raw).err(),
         Err(_) => Some(LabelFault::OutOfMemory),
     }
 }
 
-fn wrong_fault(alloc: Global) -> Option<usize> {
-    for (i, (names, labels, first)) in FAULTS.iter().enumerate() {
+fn wrong_fault(alloc: Global) -> Option<&'static str> {
+    for (name, names, labels, first) in &FAULTS {
         if fault_as(alloc, *names, labels) != *first {
-            return Some(i);
+            return Some(name);
         }
     }
     None
 }
 
-/// Returns the fault of labels once these are added to them. Out of memory is one too.
-fn fault_with(alloc: Global, labels: &mut RawLabels, more: Labels<'_>) -> Option<LabelFault> {
-    match push_all(labels, more) {
+/// Returns the fault of labels once one of this name is added to them. Out of memory is one too.
+fn fault_with(alloc: Global, labels: &mut RawLabels, name: &[u8]) -> Option<LabelFault> {
+    match labels.push(name, b"1") {
         Ok(()) => fault(alloc, labels),
         Err(_) => Some(LabelFault::OutOfMemory),
     }
@@ -138,9 +148,7 @@ fn is_same(texts: &[(String, String)], labels: Labels<'_>) -> bool {
 }
 
 fn set_of(alloc: Global, labels: Labels<'_>) -> Result<LabelSet, LabelFault> {
-    let mut raw = RawLabels::new(alloc);
-    push_all(&mut raw, labels)?;
-    LabelSet::check(alloc, &raw)
+    LabelSet::check(alloc, &raw_labels(alloc, labels)?)
 }
 
 /// Returns whether these labels are a label set that holds them.
@@ -151,10 +159,10 @@ fn is_set(alloc: Global, labels: Labels<'_>) -> bool {
     }
 }
 
-fn wrong_set(alloc: Global) -> Option<usize> {
-    for (i, labels) in SETS.iter().enumerate() {
+fn wrong_set(alloc: Global) -> Option<&'static str> {
+    for (name, labels) in &SETS {
         if !is_set(alloc, labels) {
-            return Some(i);
+            return Some(name);
         }
     }
     None
@@ -182,8 +190,8 @@ fn judges_many(alloc: Global) -> bool {
     let mut labels = RawLabels::new(alloc);
     push_most(alloc, &mut labels).is_ok()
         && fault(alloc, &labels) == None
-        && fault_with(alloc, &mut labels, &[("m", "1")]) == TOO_MANY
-        && fault_with(alloc, &mut labels, &[("a", "1")]) == Some(LabelFault::NotSorted)
+        && fault_with(alloc, &mut labels, b"m") == TOO_MANY
+        && fault_with(alloc, &mut labels, b"a") == Some(NotSorted)
 }
 
 /// Returns whether a label of the most bytes has no fault, one more byte has one, and too many
@@ -192,7 +200,7 @@ fn judges_longest(alloc: Global, longest: &[u8]) -> bool {
     let mut labels = RawLabels::new(alloc);
     labels.push(b"a", longest).is_ok()
         && fault(alloc, &labels) == None
-        && fault_with(alloc, &mut labels, &[("b", "1")]) == Some(LabelFault::TooLong)
+        && fault_with(alloc, &mut labels, b"b") == Some(LabelFault::TooLong)
         && push_most(alloc, &mut labels).is_ok()
         && fault(alloc, &labels) == TOO_MANY
 }
@@ -208,10 +216,10 @@ fn judges_long(alloc: Global) -> bool {
 /// Faults by their numbers, and their texts.
 static TOLD: [(LabelFault, &str); 7] = [
     (LabelFault::NotUtf8, "label fault 1: "),
-    (LabelFault::EmptyName, "label fault 2: "),
-    (LabelFault::BadName, "label fault 3: "),
-    (LabelFault::EmptyValue, "label fault 4: "),
-    (LabelFault::NotSorted, "label fault 5: "),
+    (EmptyName, "label fault 2: "),
+    (BadName, "label fault 3: "),
+    (EmptyValue, "label fault 4: "),
+    (NotSorted, "label fault 5: "),
     (LabelFault::TooMany, "label fault 6: more than 64 "),
     (
         LabelFault::TooLong,
@@ -219,15 +227,15 @@ static TOLD: [(LabelFault, &str); 7] = [
     ),
 ];
 
-/// Returns the first fault with another text.
-fn wrong_text(alloc: Global) -> Option<usize> {
-    for (i, (fault, begins)) in TOLD.iter().enumerate() {
+/// Returns how the text of the first fault with another one should begin.
+fn wrong_text(alloc: Global) -> Option<&'static str> {
+    for (fault, begins) in &TOLD {
         let is_so = match format!(in alloc; "{fault}") {
             Ok(text) => text.as_str().starts_with(*begins),
             Err(_) => false,
         };
         if !is_so {
-            return Some(i);
+            return Some(begins);
         }
     }
     None
@@ -240,28 +248,22 @@ fn limits(rt: HostRuntime) {
     holds(&rt, judges_long(rt.alloc()));
 }
 
-/// Returns the first of the sets that is not ordered relative to this one as their indexes are.
-fn wrong_beside(alloc: Global, a: &LabelSet, i: usize) -> Option<usize> {
-    for (j, labels) in RISING.iter().enumerate() {
-        let is_so = match set_of(alloc, labels) {
-            Ok(b) => a.cmp(&b) == i.cmp(&j) && (*a == b) == (i == j),
-            Err(_) => false,
-        };
-        if !is_so {
-            return Some(j);
+/// Returns whether each of the sets is ordered relative to this one as their indexes are.
+fn is_ordered(alloc: Global, a: &LabelSet, i: usize) -> bool {
+    for (j, (_, labels)) in RISING.iter().enumerate() {
+        match set_of(alloc, labels) {
+            Ok(b) if a.cmp(&b) == i.cmp(&j) && (*a == b) == (i == j) => {}
+            _ => return false,
         }
     }
-    None
+    true
 }
 
-fn wrong_order(alloc: Global) -> Option<usize> {
-    for (i, labels) in RISING.iter().enumerate() {
-        let is_so = match set_of(alloc, labels) {
-            Ok(a) => wrong_beside(alloc, &a, i).is_none(),
-            Err(_) => false,
-        };
-        if !is_so {
-            return Some(i);
+fn wrong_order(alloc: Global) -> Option<&'static str> {
+    for (i, (name, labels)) in RISING.iter().enumerate() {
+        match set_of(alloc, labels) {
+            Ok(a) if is_ordered(alloc, &a, i) => {}
+            _ => return Some(name),
         }
     }
     None

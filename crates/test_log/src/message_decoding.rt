@@ -1,5 +1,6 @@
-use crate::message_rows::{ONE, WORD_OF_ONE, is_spelled};
-use crate::rows::{holds, none_is_wrong};
+use crate::message_rows::is_spelled;
+use crate::rows::{holds, no_number_is_wrong, none_is_wrong};
+use rw_test_parts::{UP_MESSAGE as ONE, WORD_OF_ONE};
 use rw_types::Word;
 use rw_write_request::{Message, Series, WireFault, decode};
 use std::alloc::Global;
@@ -48,35 +49,36 @@ fn a_message_is_read(rt: HostRuntime) {
 }
 
 /// Each text, and the canonical spelling of the message that it spells.
-static SPELLINGS: [(&[u8], &[u8]); 6] = [
-    // unknown fields of each wire type
+static SPELLINGS: [(&str, &[u8], &[u8]); 6] = [
     (
+        "unknown fields of each wire type",
         &[
             0x18, 0x96, 0x01, 0x19, 1, 2, 3, 4, 5, 6, 7, 8, 0x1d, 1, 2, 3, 4,
         ],
         &[],
     ),
-    // the value before the name
     (
+        "the value before the name",
         &[0x0a, 0x08, 0x0a, 0x06, 0x12, 0x01, 0x62, 0x0a, 0x01, 0x61],
         &[0x0a, 0x08, 0x0a, 0x06, 0x0a, 0x01, 0x61, 0x12, 0x01, 0x62],
     ),
-    // two names, of which the second counts
     (
+        "two names, of which the second counts",
         &[0x0a, 0x08, 0x0a, 0x06, 0x0a, 0x01, 0x61, 0x0a, 0x01, 0x62],
         &[0x0a, 0x05, 0x0a, 0x03, 0x0a, 0x01, 0x62],
     ),
-    // a name that becomes empty again
     (
+        "a name that becomes empty again",
         &[0x0a, 0x07, 0x0a, 0x05, 0x0a, 0x01, 0x61, 0x0a, 0x00],
         &[0x0a, 0x02, 0x0a, 0x00],
     ),
-    // two timestamps, of which the second counts, and a timestamp of 0 that is written
     (
+        "two timestamps, of which the second counts",
         &[0x0a, 0x06, 0x12, 0x04, 0x10, 0x05, 0x10, 0x07],
         &[0x0a, 0x04, 0x12, 0x02, 0x10, 0x07],
     ),
     (
+        "a timestamp of 0 that is written",
         &[0x0a, 0x04, 0x12, 0x02, 0x10, 0x00],
         &[0x0a, 0x02, 0x12, 0x00],
     ),
@@ -90,10 +92,10 @@ fn is_respelled(alloc: Global, text: &[u8], canonical: &[u8]) -> bool {
     }
 }
 
-fn wrong_spelling(alloc: Global) -> Option<usize> {
-    for (i, (text, canonical)) in SPELLINGS.iter().enumerate() {
+fn wrong_spelling(alloc: Global) -> Option<&'static str> {
+    for (name, text, canonical) in &SPELLINGS {
         if !is_respelled(alloc, text, canonical) {
-            return Some(i);
+            return Some(name);
         }
     }
     None
@@ -118,45 +120,52 @@ fn other_spellings_are_read(rt: HostRuntime) {
     none_is_wrong(&rt, wrong_spelling(rt.alloc()));
 }
 
-static FAULTS: [(&[u8], u8); 14] = [
-    (&[0x08, 0x01], 3),
-    (&[0x0b], 4),
-    (&[0x02, 0x00], 5),
-    // the number is judged before the wire type, and the wire type before the content
-    (&[0x07], 5),
-    (&[0x0d, 0x00], 3),
+/// Texts, and the numbers of their faults, or 0.
+static FAULTS: [(&str, &[u8], u8); 14] = [
+    ("another wire type", &[0x08, 0x01], 3),
+    ("an unknown wire type", &[0x0b], 4),
+    ("a field of number 0", &[0x02, 0x00], 5),
+    ("a number of 0 before the wire type", &[0x07], 5),
+    ("the wire type before the content", &[0x0d, 0x00], 3),
     (
+        "the greatest length",
         &[
             0x0a, 0xff, 0xff, 0xff, 0xff, 0xff, 0xff, 0xff, 0xff, 0xff, 0x01,
         ],
         1,
     ),
     (
+        "a length that is too great",
         &[
             0x0a, 0xff, 0xff, 0xff, 0xff, 0xff, 0xff, 0xff, 0xff, 0xff, 0x02,
         ],
         2,
     ),
-    // nine bytes of a tag that goes on, and ten
-    (&[0xff; 9], 1),
-    (&[0xff; 10], 2),
-    // a name that is not UTF-8: alone, before one that is, before a fault of the message, and one
-    // that is UTF-8
-    (&[0x0a, 0x05, 0x0a, 0x03, 0x0a, 0x01, 0xc3], 6),
+    ("nine bytes of a tag that goes on", &[0xff; 9], 1),
+    ("ten bytes of a tag that goes on", &[0xff; 10], 2),
+    ("not UTF-8", &[0x0a, 0x05, 0x0a, 0x03, 0x0a, 0x01, 0xc3], 6),
     (
+        "not UTF-8 before a name that is",
         &[0x0a, 0x08, 0x0a, 0x06, 0x0a, 0x01, 0xff, 0x0a, 0x01, 0x61],
         6,
     ),
-    (&[0x0a, 0x05, 0x0a, 0x03, 0x0a, 0x01, 0xff, 0x0b], 6),
-    (&[0x0a, 0x06, 0x0a, 0x04, 0x0a, 0x02, 0xc3, 0xa9], 0),
-    // a length that passes the end of its own message, though not of the whole
-    (&[0x0a, 0x03, 0x12, 0x02, 0x10, 0x01], 1),
+    (
+        "not UTF-8 before a fault of the message",
+        &[0x0a, 0x05, 0x0a, 0x03, 0x0a, 0x01, 0xff, 0x0b],
+        6,
+    ),
+    (
+        "UTF-8",
+        &[0x0a, 0x06, 0x0a, 0x04, 0x0a, 0x02, 0xc3, 0xa9],
+        0,
+    ),
+    ("past its end", &[0x0a, 0x03, 0x12, 0x02, 0x10, 0x01], 1),
 ];
 
-fn wrong_fault(alloc: Global) -> Option<usize> {
-    for (i, (bytes, expected)) in FAULTS.iter().enumerate() {
+fn wrong_fault(alloc: Global) -> Option<&'static str> {
+    for (name, bytes, expected) in &FAULTS {
         if answer(alloc, bytes) != *expected {
-            return Some(i);
+            return Some(name);
         }
     }
     None
@@ -178,7 +187,7 @@ fn whole_front(alloc: Global) -> Option<usize> {
 
 #[test]
 fn fronts_are_truncated(rt: HostRuntime) {
-    none_is_wrong(&rt, whole_front(rt.alloc()));
+    no_number_is_wrong(&rt, whole_front(rt.alloc()));
 }
 
 /// Counts the results for the texts that differ from `ONE` in the byte at this place.

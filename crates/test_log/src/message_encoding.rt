@@ -1,5 +1,6 @@
-use crate::message_rows::{ONE, WORD_OF_ONE, is_spelled};
+use crate::message_rows::is_spelled;
 use crate::rows::{holds, none_is_wrong};
+use rw_test_parts::{UP_MESSAGE as ONE, WORD_OF_ONE};
 use rw_types::{Word, bytes_field_len, label_field_len, put_label_field};
 use rw_write_request::{
     decode, encoded_len, put_sample_field, put_series_front, sample_field_is_short,
@@ -28,10 +29,11 @@ fn a_message_is_spelled(rt: HostRuntime) {
 }
 
 /// Neither a word of 0 nor a timestamp of 0 is written, and a negative timestamp takes ten bytes.
-static SAMPLES: [(u64, i64, &[u8]); 6] = [
-    (0, 0, &[0x12, 0x00]),
-    (0, 1, &[0x12, 0x02, 0x10, 0x01]),
+static SAMPLES: [(&str, u64, i64, &[u8]); 6] = [
+    ("0 at 0", 0, 0, &[0x12, 0x00]),
+    ("0 at 1", 0, 1, &[0x12, 0x02, 0x10, 0x01]),
     (
+        "0 at -1, of ten bytes",
         0,
         -1,
         &[
@@ -39,11 +41,13 @@ static SAMPLES: [(u64, i64, &[u8]); 6] = [
         ],
     ),
     (
+        "1 at 0",
         WORD_OF_ONE,
         0,
         &[0x12, 0x09, 0x09, 0, 0, 0, 0, 0, 0, 0xf0, 0x3f],
     ),
     (
+        "1 at 1000",
         WORD_OF_ONE,
         1000,
         &[
@@ -51,6 +55,7 @@ static SAMPLES: [(u64, i64, &[u8]); 6] = [
         ],
     ),
     (
+        "3 at the least timestamp",
         0x4008_0000_0000_0000,
         i64::MIN,
         &[
@@ -66,10 +71,10 @@ fn is_field_of(field: &mut Vec<u8>, word: u64, timestamp: i64, expected: &[u8]) 
     put_sample(field, word, timestamp).is_ok() && field.as_slice() == expected
 }
 
-fn wrong_sample(field: &mut Vec<u8>) -> Option<usize> {
-    for (i, (word, timestamp, expected)) in SAMPLES.iter().enumerate() {
+fn wrong_sample(field: &mut Vec<u8>) -> Option<&'static str> {
+    for (name, word, timestamp, expected) in &SAMPLES {
         if !is_field_of(field, *word, *timestamp, expected) {
-            return Some(i);
+            return Some(name);
         }
     }
     None

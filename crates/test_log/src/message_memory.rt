@@ -3,8 +3,9 @@
 //! nothing had happened. Bytes that are not a message are refused for their first fault whatever
 //! allocation fails.
 
-use crate::message_rows::{ONE, is_spelled};
+use crate::message_rows::is_spelled;
 use crate::rows::holds;
+use rw_test_parts::UP_MESSAGE as ONE;
 use rw_write_request::{Message, WireFault, check_message, decode};
 use std::alloc::Global;
 

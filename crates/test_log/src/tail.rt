@@ -2,20 +2,14 @@
 //! allocations.
 
 use crate::fragments::{is_logged, put_fragment, up_record};
-use crate::rows::{holds, none_is_wrong};
+use crate::rows::{holds, no_number_is_wrong, none_is_wrong};
 use End::{All, Place};
 use Piece::{Bytes, Next, Up};
+use rw_test_parts::UP_SEGMENT as UP;
 use rw_types::{Entry, Room, Word};
 use rw_wal_tail::{FaultPlace, SkippedType, Tail, TailFault};
 use rw_wal_write::{SegmentWriter, sample_record};
 use std::alloc::{AllocError, Global};
-
-/// The definition of reference 1 as `{__name__="up"}`, and a sample of it at 1000 with the value 1.
-pub(crate) const UP: [u8; 63] = [
-    1, 0, 22, 0x39, 0x19, 0x94, 0xf3, 1, 0, 0, 0, 0, 0, 0, 0, 1, 1, 8, 95, 95, 110, 97, 109, 101,
-    95, 95, 2, 117, 112, 1, 0, 27, 0x2c, 0x51, 0x4c, 0x07, 2, 0, 0, 0, 0, 0, 0, 0, 1, 0, 0, 0, 0,
-    0, 0, 0x03, 0xe8, 0, 0, 0x3f, 0xf0, 0, 0, 0, 0, 0, 0,
-];
 
 /// What a reader returned, and how it ended.
 #[derive(Clone, Copy, PartialEq, Eq)]
@@ -141,7 +135,7 @@ fn wrong_cut(alloc: Global) -> Option<usize> {
 
 #[test]
 fn cut_anywhere(rt: HostRuntime) {
-    none_is_wrong(&rt, wrong_cut(rt.alloc()));
+    no_number_is_wrong(&rt, wrong_cut(rt.alloc()));
 }
 
 /// Feeds pieces of `size` bytes, and reads after each of them.
@@ -240,7 +234,7 @@ fn wrong_change(alloc: Global) -> Option<usize> {
 
 #[test]
 fn each_byte_changed(rt: HostRuntime) {
-    none_is_wrong(&rt, wrong_change(rt.alloc()));
+    no_number_is_wrong(&rt, wrong_change(rt.alloc()));
 }
 
 /// Returns whether each of the next calls returns this fault, whatever is fed between them.
@@ -279,18 +273,19 @@ const BAD_RECORD: &[u8] = &[
 ];
 
 /// Texts, and the fault that their last byte shows.
-static FAULTS: [(&[u8], TailFault); 8] = [
-    (&[5], TailFault::BadType),
-    (&[1, 128, 0, 0, 0, 0, 0], TailFault::BadLength),
-    (&[1, 0, 1, 0, 0, 0, 0, 2], TailFault::BadCrc),
-    (&[8], TailFault::Compressed),
-    (&[0, 0, 1], TailFault::NonzeroPadding),
-    (&[3, 0, 0, 0, 0, 0, 0], TailFault::Sequence),
+static FAULTS: [(&str, &[u8], TailFault); 8] = [
+    ("an unknown type", &[5], TailFault::BadType),
+    ("a long one", &[1, 128, 0, 0, 0, 0, 0], TailFault::BadLength),
+    ("another CRC", &[1, 0, 1, 0, 0, 0, 0, 2], TailFault::BadCrc),
+    ("a compressed record", &[8], TailFault::Compressed),
+    ("bad padding", &[0, 0, 1], TailFault::NonzeroPadding),
+    ("a lone middle", &[3, 0, 0, 0, 0, 0, 0], TailFault::Sequence),
     (
+        "two beginnings",
         &[2, 0, 0, 0, 0, 0, 0, 2, 0, 0, 0, 0, 0, 0],
         TailFault::Sequence,
     ),
-    (BAD_RECORD, TailFault::BadRecord),
+    ("a malformed record", BAD_RECORD, TailFault::BadRecord),
 ];
 
 /// Feeds a text byte by byte, and returns whether anything is read before the last of them.
@@ -315,10 +310,10 @@ fn is_fault_at_once(alloc: Global, text: &[u8], fault: TailFault) -> bool {
     !is_early && is_at_end && seen == NOTHING.but(fault)
 }
 
-fn wrong_fault(alloc: Global) -> Option<usize> {
-    for (i, (text, fault)) in FAULTS.iter().enumerate() {
+fn wrong_fault(alloc: Global) -> Option<&'static str> {
+    for (name, text, fault) in &FAULTS {
         if !is_fault_at_once(alloc, text, *fault) {
-            return Some(i);
+            return Some(name);
         }
     }
     None
@@ -364,15 +359,32 @@ const TWICE: End = All(Seen {
 });
 
 /// Pieces, and what is seen of them.
-static ENDS: [(&[Piece], End); 11] = [
-    (&[Up(0, 34), Next], TORN),
-    (&[Up(0, 34), Next, Up(34, 63)], TORN),
-    (&[Up(0, 63), Next, Next, Up(0, 34), Up(34, 63), Next], TWICE),
-    (&[Next, Up(0, 63), Bytes(&[0, 0]), Next, Up(0, 63)], TWICE),
-    (&[Up(0, 63), OPENING], Place(None)),
-    (&[Up(0, 63), Bytes(&[5])], Place(Some((0, 63)))),
-    (&[Up(0, 63), Bytes(&[0, 0, 1])], Place(Some((0, 63)))),
+static ENDS: [(&str, &[Piece], End); 11] = [
+    ("torn", &[Up(0, 34), Next], TORN),
+    ("torn, and a rest", &[Up(0, 34), Next, Up(34, 63)], TORN),
     (
+        "three segments",
+        &[Up(0, 63), Next, Next, Up(0, 34), Up(34, 63), Next],
+        TWICE,
+    ),
+    (
+        "zeros at the end",
+        &[Next, Up(0, 63), Bytes(&[0, 0]), Next, Up(0, 63)],
+        TWICE,
+    ),
+    ("begun, and no end", &[Up(0, 63), OPENING], Place(None)),
+    (
+        "a bad type",
+        &[Up(0, 63), Bytes(&[5])],
+        Place(Some((0, 63))),
+    ),
+    (
+        "bad padding",
+        &[Up(0, 63), Bytes(&[0, 0, 1])],
+        Place(Some((0, 63))),
+    ),
+    (
+        "a bad record in the third segment",
         &[
             Up(0, 63),
             Next,
@@ -383,9 +395,21 @@ static ENDS: [(&[Piece], End); 11] = [
         ],
         Place(Some((2, 29))),
     ),
-    (&[Up(0, 29), Up(29, 63), Next, Bytes(&[4])], Place(None)),
-    (&[Up(0, 29), Up(29, 34), Next], Place(Some((0, 29)))),
-    (&[Up(0, 63), OPENING, Next, Up(0, 63)], Place(Some((0, 70)))),
+    (
+        "not read yet",
+        &[Up(0, 29), Up(29, 63), Next, Bytes(&[4])],
+        Place(None),
+    ),
+    (
+        "torn in the data",
+        &[Up(0, 29), Up(29, 34), Next],
+        Place(Some((0, 29))),
+    ),
+    (
+        "torn between parts",
+        &[Up(0, 63), OPENING, Next, Up(0, 63)],
+        Place(Some((0, 70))),
+    ),
 ];
 
 /// Feeds a piece. The answer is no if memory runs out.
@@ -438,10 +462,10 @@ fn is_seen(alloc: Global, pieces: &[Piece], end: &End) -> bool {
     }
 }
 
-fn wrong_end(alloc: Global) -> Option<usize> {
-    for (i, (pieces, end)) in ENDS.iter().enumerate() {
+fn wrong_end(alloc: Global) -> Option<&'static str> {
+    for (name, pieces, end) in &ENDS {
         if !is_seen(alloc, pieces, end) {
-            return Some(i);
+            return Some(name);
         }
     }
     None
@@ -454,12 +478,14 @@ fn ends_of_segments_and_places_of_faults(rt: HostRuntime) {
 
 /// A filler of this many bytes, and the end of its page. With seven bytes left there is a fragment
 /// without data, with six there are zeros.
-static PAGES: [(usize, &[u8]); 2] = [
+static PAGES: [(&str, usize, &[u8]); 2] = [
     (
+        "a fragment without data",
         32_754,
         &[2, 0, 0, 0, 0, 0, 0, 4, 0, 1, 0xb3, 0x46, 0x23, 0xa6, 2],
     ),
     (
+        "zeros",
         32_755,
         &[0, 0, 0, 0, 0, 0, 1, 0, 1, 0xb3, 0x46, 0x23, 0xa6, 2],
     ),
@@ -478,10 +504,10 @@ fn is_page_read(alloc: Global, filler: usize, end: &[u8]) -> bool {
     put_page(&mut text, filler, end).is_ok() && reads_all(alloc, &text, text.len(), BOTH, 2, 1)
 }
 
-fn wrong_page(alloc: Global) -> Option<usize> {
-    for (i, (filler, end)) in PAGES.iter().enumerate() {
+fn wrong_page(alloc: Global) -> Option<&'static str> {
+    for (name, filler, end) in &PAGES {
         if !is_page_read(alloc, *filler, end) {
-            return Some(i);
+            return Some(name);
         }
     }
     None
@@ -651,5 +677,5 @@ fn wrong_number() -> Option<usize> {
 
 #[test]
 fn types_of_records_have_their_bytes(rt: HostRuntime) {
-    none_is_wrong(&rt, wrong_number());
+    no_number_is_wrong(&rt, wrong_number());
 }

@@ -3,11 +3,12 @@
 ghost use Rattle.std.specs.Prelude.{◌<◌, ◌≤◌};
 
 use crate::fragments::{is_logged, put_fragment, up_record};
-use crate::rows::{holds, none_is_wrong};
-use crate::tail::UP;
-use rw_types::{Failed, Room, Sink, Word};
+use crate::rows::{holds, no_number_is_wrong, none_is_wrong};
+use rw_test_parts::{Taking, UP_SEGMENT as UP};
+use rw_types::{Room, Sink, Word};
 use rw_wal_write::{LogFault, SegmentWriter, sample_record};
 use std::alloc::{AllocError, Global};
+use std::cell::Cell;
 
 /// What is in a segment.
 enum Expected {
@@ -41,43 +42,6 @@ fn put_all_expected(
     Ok(())
 }
 
-/// The most bytes that a failing device takes at a write.
-const MOST: usize = 8_192;
-
-/// Takes a few bytes at each write, and fails at one of them and then permanently.
-#[derive(Drop)]
-struct FailingAt {
-    taken: Vec<u8>,
-    writes_left: usize,
-    failed: bool,
-}
-
-impl Sink for FailingAt {
-    ghost use Rattle.std.specs.Prelude.{None};
-
-    ghost contents = { λ _. None };
-
-    ghost has_failed = { λ s. s.failed };
-
-    ghost room = { λ _. 0 };
-
-    fn write(&mut self, bytes: &[u8]) -> Result<usize, Failed> {
-        if self.failed {
-            return Err(Failed);
-        }
-        let len = bytes.len().min(MOST);
-        if len == 0 {
-            return Ok(0);
-        }
-        self.failed = self.writes_left == 0 || self.taken.extend_from_slice(&bytes[..len]).is_err();
-        if self.failed {
-            return Err(Failed);
-        }
-        self.writes_left -= 1;
-        Ok(len)
-    }
-}
-
 /// Returns whether logging a record of `len` times this byte has this result.
 fn logs<W: Sink>(
     alloc: Global,
@@ -92,14 +56,18 @@ fn logs<W: Sink>(
     }
 }
 
-/// A run that is logged, the result, and where the writer then is.
-type Step = (u8, usize, Result<(), LogFault>, usize);
+/// A name, a run that is logged, the result, and where the writer then is.
+type Step = (&'static str, u8, usize, Result<(), LogFault>, usize);
 
 /// Returns the first step that differs.
-fn wrong_step(alloc: Global, writer: &mut SegmentWriter<Room>, steps: &[Step]) -> Option<usize> {
-    for (i, (byte, len, want, offset)) in steps.iter().enumerate() {
+fn wrong_step(
+    alloc: Global,
+    writer: &mut SegmentWriter<Room>,
+    steps: &[Step],
+) -> Option<&'static str> {
+    for (name, byte, len, want, offset) in steps {
         if !logs(alloc, writer, *byte, *len, *want) || writer.offset() != *offset {
-            return Some(i);
+            return Some(name);
         }
     }
     None
@@ -149,34 +117,55 @@ enum Row {
 
 use Row::{Ends, Whole};
 
-static SEGMENTS: [Row; 7] = [
-    Whole(&[(3, 32_761)], &[Fragment(1, 3, 32_761)]),
-    Whole(&[(3, 32_762)], &[Fragment(2, 3, 32_761), Fragment(4, 3, 1)]),
-    Whole(
-        &[(3, 70_000)],
-        &[
-            Fragment(2, 3, 32_761),
-            Fragment(3, 3, 32_761),
-            Fragment(4, 3, 4_478),
-        ],
+static SEGMENTS: [(&str, Row); 7] = [
+    (
+        "a record that fills a page",
+        Whole(&[(3, 32_761)], &[Fragment(1, 3, 32_761)]),
     ),
-    Whole(
-        &[(3, 32_754), (2, 1)],
-        &[Fragment(1, 3, 32_754), Fragment(2, 2, 0), Fragment(4, 2, 1)],
+    (
+        "a record of one byte more",
+        Whole(&[(3, 32_762)], &[Fragment(2, 3, 32_761), Fragment(4, 3, 1)]),
     ),
-    Whole(
-        &[(3, 32_755), (2, 1)],
-        &[Fragment(1, 3, 32_755), Zeros(6), Fragment(1, 2, 1)],
+    (
+        "a record of three pages",
+        Whole(
+            &[(3, 70_000)],
+            &[
+                Fragment(2, 3, 32_761),
+                Fragment(3, 3, 32_761),
+                Fragment(4, 3, 4_478),
+            ],
+        ),
     ),
-    Ends(
-        &[(3, 32_754), (2, 1)],
-        32_776,
-        b"\x02\0\0\0\0\0\0\x04\0\x01\xb3\x46\x23\xa6\x02",
+    (
+        "a fragment without data",
+        Whole(
+            &[(3, 32_754), (2, 1)],
+            &[Fragment(1, 3, 32_754), Fragment(2, 2, 0), Fragment(4, 2, 1)],
+        ),
     ),
-    Ends(
-        &[(3, 32_755), (2, 1)],
-        32_776,
-        b"\x03\0\0\0\0\0\0\x01\0\x01\xb3\x46\x23\xa6\x02",
+    (
+        "zeros at the end of a page",
+        Whole(
+            &[(3, 32_755), (2, 1)],
+            &[Fragment(1, 3, 32_755), Zeros(6), Fragment(1, 2, 1)],
+        ),
+    ),
+    (
+        "the bytes of a fragment without data",
+        Ends(
+            &[(3, 32_754), (2, 1)],
+            32_776,
+            b"\x02\0\0\0\0\0\0\x04\0\x01\xb3\x46\x23\xa6\x02",
+        ),
+    ),
+    (
+        "the bytes of zeros at the end of a page",
+        Ends(
+            &[(3, 32_755), (2, 1)],
+            32_776,
+            b"\x03\0\0\0\0\0\0\x01\0\x01\xb3\x46\x23\xa6\x02",
+        ),
     ),
 ];
 
@@ -193,10 +182,10 @@ fn is_so(alloc: Global, row: &Row) -> bool {
     }
 }
 
-fn wrong_segment(alloc: Global) -> Option<usize> {
-    for (i, row) in SEGMENTS.iter().enumerate() {
+fn wrong_segment(alloc: Global) -> Option<&'static str> {
+    for (name, row) in &SEGMENTS {
         if !is_so(alloc, row) {
-            return Some(i);
+            return Some(name);
         }
     }
     None
@@ -208,25 +197,25 @@ fn fills_and_ends_pages(rt: HostRuntime) {
 }
 
 static ONE_PAGE: [Step; 4] = [
-    (3, 32_762, Err(LogFault::SegmentFull), 0),
-    (3, 16_777_217, Err(LogFault::RecordTooLong), 0),
-    (3, 32_761, Ok(()), 32_768),
-    (2, 1, Err(LogFault::SegmentFull), 32_768),
+    ("above a page", 3, 32_762, Err(LogFault::SegmentFull), 0),
+    ("too long", 3, 16_777_217, Err(LogFault::RecordTooLong), 0),
+    ("a full page", 3, 32_761, Ok(()), 32_768),
+    ("a byte more", 2, 1, Err(LogFault::SegmentFull), 32_768),
 ];
 
 static TWO_PAGES: [Step; 2] = [
-    (3, 65_523, Err(LogFault::SegmentFull), 0),
-    (3, 65_522, Ok(()), 65_536),
+    ("above two pages", 3, 65_523, Err(LogFault::SegmentFull), 0),
+    ("two full pages", 3, 65_522, Ok(()), 65_536),
 ];
 
 /// Returns the first step that differs in a segment of this many pages, for which there is room.
-fn wrong_step_in(alloc: Global, room: usize, pages: usize, steps: &[Step]) -> Option<usize>
+fn wrong_step_in(alloc: Global, room: usize, pages: usize, steps: &[Step]) -> Option<&'static str>
     requires some { 0 < pages }
     requires most { pages ≤ 4096 }
 {
     match Room::new(alloc, room) {
         Ok(room) => wrong_step(alloc, &mut SegmentWriter::new(room, pages), steps),
-        Err(_) => Some(0),
+        Err(_) => Some("a room"),
     }
 }
 
@@ -288,20 +277,17 @@ fn writes_full_fragments(rt: HostRuntime) {
     holds(&rt, is_up_segment(rt.alloc()));
 }
 
-fn failing_writer(alloc: Global, writes_left: usize) -> SegmentWriter<FailingAt> {
-    let sink = FailingAt {
-        taken: Vec::new(alloc),
-        writes_left,
-        failed: false,
-    };
-    SegmentWriter::new(sink, 2)
+/// Returns a writer to a device that takes at most 8,192 bytes at a write.
+fn failing_writer(alloc: Global, writes: &Cell<usize>) -> SegmentWriter<Taking<'_>> {
+    SegmentWriter::new(Taking::new(alloc, 8_192, writes), 2)
 }
 
-/// Returns whether a device that fails after this many writes closes the segment, and has a prefix
-/// of the whole one.
-fn closes(alloc: Global, whole: &[u8], writes_left: usize) -> bool {
+/// Returns whether a device of which this write fails, counted from 1, closes the segment, and has
+/// a prefix of the whole one.
+fn closes(alloc: Global, whole: &[u8], failing: usize) -> bool {
     let failed = Err(LogFault::Device);
-    let mut writer = failing_writer(alloc, writes_left);
+    let writes = Cell::new(failing);
+    let mut writer = failing_writer(alloc, &writes);
     let is_so = logs(alloc, &mut writer, 3, 32_770, failed)
         && logs(alloc, &mut writer, 3, 1, failed)
         && logs(alloc, &mut writer, 3, 16_777_217, failed);
@@ -309,30 +295,31 @@ fn closes(alloc: Global, whole: &[u8], writes_left: usize) -> bool {
     is_so && taken.len() < whole.len() && whole.starts_with(taken.as_slice())
 }
 
-/// Returns whether a device that takes this many writes has the whole segment.
-fn takes_all(alloc: Global, whole: &[u8], writes_left: usize) -> bool {
-    let mut writer = failing_writer(alloc, writes_left);
+/// Returns whether a device whose eighth write would fail has the whole segment.
+fn takes_all(alloc: Global, whole: &[u8]) -> bool {
+    let writes = Cell::new(8);
+    let mut writer = failing_writer(alloc, &writes);
     let is_so = logs(alloc, &mut writer, 3, 32_770, Ok(()));
     is_so && writer.into_inner().taken.as_slice() == whole
 }
 
-/// Returns the number of writes after which a failing device behaves differently. A header, four
-/// times data, a header and data are seven writes.
+/// Returns the failing write with which a device behaves differently. A header, four times data, a
+/// header and data are seven writes.
 fn wrong_device(alloc: Global, whole: &[u8]) -> Option<usize> {
-    for writes_left in 0..7 {
-        if !closes(alloc, whole, writes_left) {
-            return Some(writes_left);
+    for failing in 1..8 {
+        if !closes(alloc, whole, failing) {
+            return Some(failing);
         }
     }
-    if takes_all(alloc, whole, 7) {
+    if takes_all(alloc, whole) {
         None
     } else {
-        Some(7)
+        Some(8)
     }
 }
 
 #[test]
 fn closes_where_the_device_fails(rt: HostRuntime) {
     let whole = segment_of(rt.alloc(), &[(3, 32_770)]);
-    none_is_wrong(&rt, wrong_device(rt.alloc(), &whole));
+    no_number_is_wrong(&rt, wrong_device(rt.alloc(), &whole));
 }
