@@ -3,7 +3,7 @@
 use crate::messages::{
     DOWN, Labels, Parts, Row, Samples, UP, are_same, asked, first_wrong, has_samples, narrow,
 };
-use crate::rows::{holds, none_is_wrong};
+use crate::rows::{holds, no_number_is_wrong};
 use rw_head::{Head, Verdict};
 use std::alloc::{AllocError, Global};
 
@@ -137,7 +137,7 @@ fn a_head_takes_more_than_a_million_samples(rt: HostRuntime) {
 
 #[test]
 fn a_series_is_blocks_whatever_the_requests(rt: HostRuntime) {
-    none_is_wrong(&rt, wrong_size(rt.alloc()));
+    no_number_is_wrong(&rt, wrong_size(rt.alloc()));
 }
 
 /// The samples 1 to 300, with repeats among them and after them.
@@ -220,11 +220,16 @@ const BAD: Parts<'static> = &[(DOWN, &[(10, 1)]), (UP, &[(5, 1)])];
 static LAST: [(Labels<'static>, Samples<'static>); 2] = [(UP, &[(10, 1)]), (DOWN, &[(10, 1)])];
 
 static ROWS: [Row; 5] = [
-    (&[(UP, &[(10, 1)])], Verdict::Stored(1), &[1, 0]),
-    (BAD, Verdict::OutOfOrder, &[1, 0]),
-    (BAD, Verdict::OutOfOrder, &[1, 0]),
-    (BAD, Verdict::OutOfOrder, &[1, 0]),
-    (&[(DOWN, &[(10, 1)])], Verdict::Stored(1), &[1, 1]),
+    ("a sample", &[(UP, &[(10, 1)])], Verdict::Stored(1), &[1, 0]),
+    ("a bad message", BAD, Verdict::OutOfOrder, &[1, 0]),
+    ("the same again", BAD, Verdict::OutOfOrder, &[1, 0]),
+    ("a third time", BAD, Verdict::OutOfOrder, &[1, 0]),
+    (
+        "a new one",
+        &[(DOWN, &[(10, 1)])],
+        Verdict::Stored(1),
+        &[1, 1],
+    ),
 ];
 
 /// Returns whether an empty head has a place for none of these label sets, and then for those that

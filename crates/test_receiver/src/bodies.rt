@@ -1,17 +1,12 @@
 //! Request bodies and the statuses that answer them.
 
 use crate::messages::{Samples, UP, has_samples, message, standard};
-use crate::rows::{holds, none_differs, none_is_wrong};
+use crate::rows::{holds, none_is_wrong};
 use rw_head::{Head, Limits};
+use rw_test_parts::{UP_MESSAGE as ONE, WORD_OF_ONE};
 use rw_types::Bounded;
 use rw_write_request::encode;
 use std::alloc::{AllocError, Global};
-
-/// One series `{__name__="up"}` with the sample 1 at 1000.
-pub(crate) const ONE: [u8; 32] = [
-    0x0a, 0x1e, 0x0a, 0x0e, 0x0a, 0x08, 0x5f, 0x5f, 0x6e, 0x61, 0x6d, 0x65, 0x5f, 0x5f, 0x12, 0x02,
-    0x75, 0x70, 0x12, 0x0c, 0x09, 0, 0, 0, 0, 0, 0, 0xf0, 0x3f, 0x10, 0xe8, 0x07,
-];
 
 /// One series `{__name__="down"}` and one `{__name__="up"}`, each with the sample 1 at 2000.
 pub(crate) const TWO: [u8; 66] = [
@@ -21,9 +16,6 @@ pub(crate) const TWO: [u8; 66] = [
     0x70, 0x12, 0x0c, 0x09, 0, 0, 0, 0, 0, 0, 0xf0, 0x3f, 0x10, 0xd0, 0x0f,
 ];
 
-/// The word of the value 1.
-pub(crate) const WORD_OF_ONE: u64 = 0x3ff0_0000_0000_0000;
-
 /// Returns a head that is busy for one request.
 fn busy(alloc: Global) -> Result<Head, AllocError> {
     let mut limits = Limits::standard(alloc)?;
@@ -31,29 +23,32 @@ fn busy(alloc: Global) -> Result<Head, AllocError> {
     Ok(Head::new(alloc, &limits))
 }
 
-/// Asks with bodies one after the other. Returns the first one with another status, or another
-/// number of samples after it.
-fn first_wrong(head: &mut Head, rows: &[(&[u8], u16, u64)]) -> Option<usize> {
-    for (i, (body, status, total)) in rows.iter().enumerate() {
+/// A name, a body, the status that answers it, and how many samples the head then holds.
+type Row<'a> = (&'static str, &'a [u8], u16, u64);
+
+/// Asks a head with bodies one after the other. Returns the first one with another status, or
+/// another number of samples after it.
+fn first_wrong(head: Result<Head, AllocError>, rows: &[Row<'_>]) -> Option<&'static str> {
+    let Ok(mut head) = head else {
+        return Some("a head");
+    };
+    for (name, body, status, total) in rows {
         if head.answer(body) != *status || head.total() != *total {
-            return Some(i);
+            return Some(name);
         }
     }
     None
 }
 
 /// Returns the first body that is answered wrongly by a head that is busy for this one.
-fn wrong_of_busy(alloc: Global, first: &[u8]) -> Option<usize> {
-    let rows = [
-        (first, 429, 0),
-        (&ONE[..31], 400, 0),
-        (&ONE, 204, 1),
-        (&ONE, 204, 1),
+fn wrong_of_busy(alloc: Global, first: &[u8]) -> Option<&'static str> {
+    let rows: [Row<'_>; 4] = [
+        ("the first body", first, 429, 0),
+        ("one series without the last byte", &ONE[..31], 400, 0),
+        ("one series", &ONE, 204, 1),
+        ("its repeat", &ONE, 204, 1),
     ];
-    match busy(alloc) {
-        Ok(mut head) => first_wrong(&mut head, &rows),
-        Err(_) => Some(0),
-    }
+    first_wrong(busy(alloc), &rows)
 }
 
 #[test]
@@ -93,24 +88,20 @@ const LABEL_BEHIND: [u8; 40] = [
     0x61, 0x12, 0x01, 0x31,
 ];
 
-/// Bodies one after the other, the statuses that answer them, and how many samples the head then
-/// holds.
-static BODIES: [(&[u8], u16, u64); 8] = [
-    (&[], 204, 0),
-    (&ONE, 204, 1),
-    (&OLDER, 400, 1),
-    (&UNSORTED, 400, 1),
-    (&ONE, 204, 1),
-    (&SPELLED_OTHERWISE, 204, 1),
-    (&UNKNOWN_FIELD, 204, 2),
-    (&LABEL_BEHIND, 204, 3),
+/// Bodies that come one after the other.
+static BODIES: [Row; 8] = [
+    ("no series", &[], 204, 0),
+    ("one series", &ONE, 204, 1),
+    ("an older sample", &OLDER, 400, 1),
+    ("falling names", &UNSORTED, 400, 1),
+    ("the same series again", &ONE, 204, 1),
+    ("another spelling", &SPELLED_OTHERWISE, 204, 1),
+    ("an unknown field", &UNKNOWN_FIELD, 204, 2),
+    ("a label after the sample", &LABEL_BEHIND, 204, 3),
 ];
 
-fn wrong_status(alloc: Global) -> Option<usize> {
-    match standard(alloc) {
-        Ok(mut head) => first_wrong(&mut head, &BODIES),
-        Err(_) => Some(0),
-    }
+fn wrong_status(alloc: Global) -> Option<&'static str> {
+    first_wrong(standard(alloc), &BODIES)
 }
 
 #[test]
@@ -212,8 +203,8 @@ fn wrong_in_turn(alloc: Global) -> Option<&'static str> {
 
 #[test]
 fn later_samples_are_appended_and_earlier_ones_refused(rt: HostRuntime) {
-    none_differs(&rt, wrong_by_itself(rt.alloc()));
-    none_differs(&rt, wrong_in_turn(rt.alloc()));
+    none_is_wrong(&rt, wrong_by_itself(rt.alloc()));
+    none_is_wrong(&rt, wrong_in_turn(rt.alloc()));
 }
 
 /// Returns the body of `count` samples of one series, with timestamps that are not short.
@@ -238,15 +229,16 @@ fn body_with_last(alloc: Global, last: i64) -> Result<Vec<u8>, AllocError> {
 
 /// Returns the first of these bodies that a new head answers wrongly: one whose last sample is too
 /// old, and one with a later one, twice.
-fn wrong_of_parts(alloc: Global) -> Option<usize> {
+fn wrong_of_parts(alloc: Global) -> Option<&'static str> {
     let (Ok(bad), Ok(good)) = (body_with_last(alloc, -1), body_with_last(alloc, 10_000)) else {
-        return Some(0);
+        return Some("the bodies");
     };
-    let rows: [(&[u8], u16, u64); 3] = [(&bad, 400, 0), (&good, 204, 10_001), (&good, 204, 10_001)];
-    match standard(alloc) {
-        Ok(mut head) => first_wrong(&mut head, &rows),
-        Err(_) => Some(0),
-    }
+    let rows: [Row<'_>; 3] = [
+        ("a last sample that is too old", &bad, 400, 0),
+        ("a later one", &good, 204, 10_001),
+        ("its repeat", &good, 204, 10_001),
+    ];
+    first_wrong(standard(alloc), &rows)
 }
 
 /// A series that is staged in parts is kept whole or not at all.
@@ -301,15 +293,15 @@ fn many_series(alloc: Global, is_falling: bool) -> Result<Vec<u8>, AllocError> {
 
 /// Returns the first of these bodies that a new head answers wrongly: many series, and the same
 /// ones from the last one on.
-fn wrong_of_many(alloc: Global) -> Option<usize> {
+fn wrong_of_many(alloc: Global) -> Option<&'static str> {
     let (Ok(rising), Ok(falling)) = (many_series(alloc, false), many_series(alloc, true)) else {
-        return Some(0);
+        return Some("the bodies");
     };
-    let rows: [(&[u8], u16, u64); 2] = [(&rising, 204, 200_000), (&falling, 204, 200_000)];
-    match standard(alloc) {
-        Ok(mut head) => first_wrong(&mut head, &rows),
-        Err(_) => Some(0),
-    }
+    let rows: [Row<'_>; 2] = [
+        ("the first series first", &rising, 204, 200_000),
+        ("the last series first", &falling, 204, 200_000),
+    ];
+    first_wrong(standard(alloc), &rows)
 }
 
 /// A head that looked at each label set that it has would take many minutes.

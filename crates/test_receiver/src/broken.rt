@@ -3,12 +3,13 @@
 
 ghost use Rattle.std.specs.Prelude.{⊤};
 
-use crate::devices::{Giving, Taking};
 use crate::rows::holds;
 use crate::store::{Store, is_served_by, served};
 use rw_endpoint::{Answer, ServeEnd};
+use rw_test_parts::{Giving, Taking};
 use rw_types::Room;
 use std::alloc::Global;
+use std::cell::Cell;
 
 const REQUESTS: &[u8] =
     b"POST /api/v1/write HTTP/1.1\r\nContent-Length: 5\r\n\r\nfirstPOST /api/v1/write HTTP/1.1\r\nConnection: close\r\nContent-Length: 6\r\n\r\nsecond";
@@ -21,17 +22,18 @@ const FIRST_REPLY: &[u8] = b"HTTP/1.1 204 No Content\r\n\r\n";
 /// More reads and writes than these connections take.
 const MANY: usize = 1000;
 
-/// Returns how the requests end with a reader and a writer that fail after this many calls. `None`
-/// if what was written is not a prefix of the replies, or the end does not say whether a device
-/// failed.
+/// Returns how the requests end with a reader and a writer of which these calls fail, counted from
+/// 1. `None` if what was written is not a prefix of the replies, or the end does not say whether a
+/// device failed.
 fn end_of_broken(
     alloc: Global,
     store: &mut Store,
     reads: usize,
     writes: usize,
 ) -> Option<ServeEnd> {
-    let mut reader = Giving::new(REQUESTS, 7, reads);
-    let mut writer = Taking::new(alloc, 5, writes);
+    let (reads, writes) = (Cell::new(reads), Cell::new(writes));
+    let mut reader = Giving::new(REQUESTS, 7, &reads);
+    let mut writer = Taking::new(alloc, 5, &writes);
     let end = served(alloc, &mut reader, &mut writer, store);
     let has_failed = reader.failed || writer.failed;
     if REPLIES.starts_with(&writer.taken) && has_failed == (end == ServeEnd::Device) {
@@ -68,14 +70,14 @@ enum Side {
 /// Returns whether the requests take more than ten calls of one side, and the result is right if
 /// one of them fails.
 fn may_fail(alloc: Global, side: Side) -> bool {
-    for n in 0..MANY {
+    for n in 1..MANY {
         let (reads, writes) = match side {
-            Side::Reader => (n, MANY),
-            Side::Writer => (MANY, n),
+            Side::Reader => (n, 0),
+            Side::Writer => (0, n),
         };
         match end_before_answered(alloc, reads, writes) {
             Some(ServeEnd::Device) => {}
-            Some(_) => return n > 10,
+            Some(_) => return n > 11,
             None => return false,
         }
     }

@@ -1,7 +1,7 @@
 //! Heads with a capacity: which requests find them full, and what they hold after each.
 
 use crate::messages::{DOWN, FALLING, Labels, Parts, UP, message, standard};
-use crate::rows::{holds, none_differs};
+use crate::rows::{holds, none_is_wrong};
 use rw_head::{Admission, Capacity, Head};
 use rw_write_request::encode;
 use std::alloc::Global;
@@ -219,7 +219,7 @@ fn wrong_row(alloc: Global) -> Option<&'static str> {
 
 #[test]
 fn a_head_holds_no_more_than_its_capacity(rt: HostRuntime) {
-    none_differs(&rt, wrong_row(rt.alloc()));
+    none_is_wrong(&rt, wrong_row(rt.alloc()));
 }
 
 /// Returns whether a head with a capacity of 0 answers bytes that are not a message with 400, and a

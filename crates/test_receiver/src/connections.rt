@@ -1,8 +1,8 @@
 //! A connection whose bodies a seat answers.
 
-use crate::bodies::WORD_OF_ONE;
 use crate::messages::{UP, has_samples, standard};
 use crate::seats::{Talk, answered, blank};
+use rw_test_parts::WORD_OF_ONE;
 use std::marker::Brand;
 use std::test::Fail;
 

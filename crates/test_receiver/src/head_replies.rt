@@ -1,15 +1,15 @@
 //! Requests to the endpoint of a head, each over its own connection: the replies, and what the head
 //! then holds. `|` stands for CR LF.
 
-use crate::bodies::WORD_OF_ONE;
-use crate::devices::Taking;
 use crate::messages::{Samples, UP, has_samples, standard};
 use crate::replies::{put_all_lines, put_lines};
-use crate::rows::{holds, none_differs};
+use crate::rows::{holds, none_is_wrong};
 use rw_endpoint::{ServeEnd, serve};
 use rw_head::{Head, Limits};
+use rw_test_parts::{Taking, WORD_OF_ONE};
 use rw_types::Room;
 use std::alloc::Global;
+use std::cell::Cell;
 
 /// The request of a batch of one sample, 1 at 1000 ms of the series `up`, and its body.
 const HEAD_OF_32: &[u8] = b"POST /api/v1/write HTTP/1.1|Content-Length: 32||";
@@ -162,12 +162,12 @@ fn first_wrong(alloc: Global, rows: &[Row], held: Samples<'_>) -> Option<&'stati
 
 #[test]
 fn a_head_replies_as_the_protocol_has_it(rt: HostRuntime) {
-    none_differs(&rt, first_wrong(rt.alloc(), rows(), HELD));
+    none_is_wrong(&rt, first_wrong(rt.alloc(), rows(), HELD));
 }
 
 #[test]
 fn a_repeat_is_204_and_changes_nothing(rt: HostRuntime) {
-    none_differs(&rt, first_wrong(rt.alloc(), sent_again(), HELD_OF_BATCH));
+    none_is_wrong(&rt, first_wrong(rt.alloc(), sent_again(), HELD_OF_BATCH));
 }
 
 /// Returns how the connection of a request ends whose writer fails before it takes a byte.
@@ -180,7 +180,8 @@ fn end_without_a_reply(alloc: Global, head: &mut Head, row: &Row) -> ServeEnd {
         return ServeEnd::OutOfMemory;
     }
     let mut reader = input.as_slice();
-    let mut writer = Taking::new(alloc, 5, 0);
+    let first = Cell::new(1);
+    let mut writer = Taking::new(alloc, 5, &first);
     serve(alloc, &mut reader, &mut writer, head, &limits)
 }
 

@@ -13,8 +13,6 @@ mod capacity;
 #[cfg(test)]
 mod connections;
 #[cfg(test)]
-mod devices;
-#[cfg(test)]
 mod head_replies;
 #[cfg(test)]
 mod limits;

@@ -19,25 +19,44 @@ const REFUSED: &[u8] =
 /// Texts, and how often each is repeated.
 type Texts = &'static [(&'static [u8], usize)];
 
-/// Requests, their bytes, and the replies to them.
-static REQUESTS: [(Texts, usize, &[u8]); 6] = [
-    // fields
-    (&[(START, 1), (FIELD, 62), (END, 1)], 441, TAKEN),
-    (&[(START, 1), (FIELD, 63), (END, 1)], 447, REFUSED),
-    // bytes
+/// Requests, their lengths, and the replies to them. Empty lines before a request also count.
+static REQUESTS: [(&str, Texts, usize, &[u8]); 6] = [
     (
+        "most fields",
+        &[(START, 1), (FIELD, 62), (END, 1)],
+        441,
+        TAKEN,
+    ),
+    (
+        "a field more",
+        &[(START, 1), (FIELD, 63), (END, 1)],
+        447,
+        REFUSED,
+    ),
+    (
+        "8,192 bytes",
         &[(START, 1), (b"A: ", 1), (b"b", 8118), (END, 2)],
         8192,
         TAKEN,
     ),
     (
+        "8,193 bytes",
         &[(START, 1), (b"A: ", 1), (b"b", 8119), (END, 2)],
         8193,
         REFUSED,
     ),
-    // empty lines before a request also count
-    (&[(b"\n", 8123), (START, 1), (END, 1)], 8192, TAKEN),
-    (&[(b"\n", 8124), (START, 1), (END, 1)], 8193, REFUSED),
+    (
+        "8,192 bytes with empty lines",
+        &[(b"\n", 8123), (START, 1), (END, 1)],
+        8192,
+        TAKEN,
+    ),
+    (
+        "8,193 bytes with empty lines",
+        &[(b"\n", 8124), (START, 1), (END, 1)],
+        8193,
+        REFUSED,
+    ),
 ];
 
 fn put_texts(request: &mut Vec<u8>, texts: &[(&[u8], usize)]) -> Result<(), AllocError> {
@@ -60,10 +79,10 @@ fn is_replied(alloc: Global, texts: &[(&[u8], usize)], len: usize, reply: &[u8])
 }
 
 /// Returns the first request that has another length or another reply.
-fn first_wrong(alloc: Global) -> Option<usize> {
-    for (i, (texts, len, reply)) in REQUESTS.iter().enumerate() {
+fn first_wrong(alloc: Global) -> Option<&'static str> {
+    for (name, texts, len, reply) in &REQUESTS {
         if !is_replied(alloc, texts, *len, reply) {
-            return Some(i);
+            return Some(name);
         }
     }
     None

@@ -2,10 +2,11 @@
 //! failed call answers 503 and leaves what the head holds, and the same body is then taken. A body
 //! that is not a message is bad, whatever allocation fails.
 
-use crate::bodies::{ONE, TWO};
+use crate::bodies::TWO;
 use crate::messages::narrow;
 use crate::rows::{holds, none_is_wrong};
 use rw_head::Head;
+use rw_test_parts::UP_MESSAGE as ONE;
 use std::alloc::Global;
 
 /// Returns how many samples and how many label sets a head holds.
@@ -25,32 +26,32 @@ pub(crate) fn status_at_last(head: &mut Head, body: &[u8], before: (u64, usize))
 }
 
 /// Bodies one after the other, with what a head holds before and after them.
-static BODIES: [(&[u8], (u64, usize), (u64, usize)); 2] = [
-    (&ONE, (0, 0), (1, 1)),
-    (&TWO, (1, 1), (3, 2)),
+static BODIES: [(&str, &[u8], (u64, usize), (u64, usize)); 2] = [
+    ("one series", &ONE, (0, 0), (1, 1)),
+    ("two series", &TWO, (1, 1), (3, 2)),
 ];
 
 /// Returns the first body that is not taken as it should be, after one whose last byte is missing.
-fn first_wrong(head: &mut Head) -> Option<usize> {
+fn first_wrong(head: &mut Head) -> Option<&'static str> {
     if head.answer(&TWO[..65]) != 400 || counts(head) != (0, 0) {
-        return Some(0);
+        return Some("two series without the last byte");
     }
-    for (i, (body, before, after)) in BODIES.iter().enumerate() {
+    for (name, body, before, after) in &BODIES {
         if status_at_last(head, body, *before) != 204 || counts(head) != *after {
-            return Some(i);
+            return Some(name);
         }
     }
     None
 }
 
-fn wrong_body(alloc: Global) -> Option<usize> {
+fn wrong_body(alloc: Global) -> Option<&'static str> {
     let head = match narrow(alloc) {
         Err(_) => narrow(alloc),
         head => head,
     };
     match head {
         Ok(mut head) => first_wrong(&mut head),
-        Err(_) => Some(0),
+        Err(_) => Some("a head"),
     }
 }
 

@@ -14,9 +14,9 @@ pub(crate) type Samples<'a> = &'a [(i64, u64)];
 /// Label sets with samples: the series of a message, or what a head holds.
 pub(crate) type Parts<'a> = &'a [(Labels<'a>, Samples<'a>)];
 
-/// A message, the verdict on it, and how many samples of each label set the head then has, of those
-/// that it holds at the end.
-pub(crate) type Row = (Parts<'static>, Verdict, &'static [usize]);
+/// A name, a message, the verdict on it, and how many samples of each label set the head then has,
+/// of those that it holds at the end.
+pub(crate) type Row = (&'static str, Parts<'static>, Verdict, &'static [usize]);
 
 pub(crate) const UP: Labels<'static> = &[("__name__", "up")];
 
@@ -131,10 +131,10 @@ pub(crate) fn first_wrong(
     head: &mut Head,
     rows: &[Row],
     last: Parts<'_>,
-) -> Option<usize> {
-    for (i, (parts, verdict, counts)) in rows.iter().enumerate() {
+) -> Option<&'static str> {
+    for (name, parts, verdict, counts) in rows {
         if asked(alloc, head, parts) != *verdict || !holds_first(alloc, head, last, counts) {
-            return Some(i);
+            return Some(name);
         }
     }
     None

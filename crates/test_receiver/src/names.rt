@@ -2,6 +2,7 @@
 
 use crate::messages::{FALLING, Labels, Row, Samples, UP, first_wrong};
 use crate::rows::none_is_wrong;
+use Verdict::{BadLabels, Stored};
 use rw_head::{Head, Limits, Verdict};
 use rw_types::Names;
 use std::alloc::{AllocError, Global};
@@ -25,31 +26,39 @@ static LAST: [(Labels<'static>, Samples<'static>); 3] = [
 /// Messages to a head that takes any name.
 static UTF8: [Row; 6] = [
     (
+        "a dot and a digit first",
         &[(RATE, &[(10, 1)]), (DIGIT, &[(10, 2)])],
-        Verdict::Stored(2),
+        Stored(2),
         &[0, 1, 1],
     ),
     (
+        "a repeat and a later sample",
         &[(DIGIT, &[(10, 2), (20, 3)])],
-        Verdict::Stored(1),
+        Stored(1),
         &[0, 1, 2],
     ),
-    (&[(UNNAMED, &[(20, 1)])], Verdict::BadLabels, &[0, 1, 2]),
-    (&[(NO_METRIC, &[(20, 1)])], Verdict::BadLabels, &[0, 1, 2]),
-    (&[(FALLING, &[(20, 1)])], Verdict::BadLabels, &[0, 1, 2]),
-    (&[(UP, &[(10, 1)])], Verdict::Stored(1), &[1, 1, 2]),
+    ("no name", &[(UNNAMED, &[(20, 1)])], BadLabels, &[0, 1, 2]),
+    (
+        "no metric",
+        &[(NO_METRIC, &[(20, 1)])],
+        BadLabels,
+        &[0, 1, 2],
+    ),
+    ("falling", &[(FALLING, &[(20, 1)])], BadLabels, &[0, 1, 2]),
+    ("a legacy name", &[(UP, &[(10, 1)])], Stored(1), &[1, 1, 2]),
 ];
 
 /// Messages to a head that takes legacy names.
 static LEGACY: [Row; 4] = [
-    (&[(RATE, &[(10, 1)])], Verdict::BadLabels, &[0, 0, 0]),
-    (&[(DIGIT, &[(10, 2)])], Verdict::BadLabels, &[0, 0, 0]),
+    ("a dot", &[(RATE, &[(10, 1)])], BadLabels, &[0, 0, 0]),
+    ("a digit", &[(DIGIT, &[(10, 2)])], BadLabels, &[0, 0, 0]),
     (
+        "a legacy name before another",
         &[(UP, &[(10, 1)]), (DIGIT, &[(10, 2)])],
-        Verdict::BadLabels,
+        BadLabels,
         &[0, 0, 0],
     ),
-    (&[(UP, &[(10, 1)])], Verdict::Stored(1), &[1, 0, 0]),
+    ("a legacy name", &[(UP, &[(10, 1)])], Stored(1), &[1, 0, 0]),
 ];
 
 /// Returns a head that accepts these names.
@@ -60,10 +69,10 @@ fn head_of(alloc: Global, names: Names) -> Result<Head, AllocError> {
 }
 
 /// Returns the first row that a head that accepts these names answers differently.
-fn wrong_message(alloc: Global, names: Names, rows: &[Row]) -> Option<usize> {
+fn wrong_message(alloc: Global, names: Names, rows: &[Row]) -> Option<&'static str> {
     match head_of(alloc, names) {
         Ok(mut head) => first_wrong(alloc, &mut head, rows, &LAST),
-        Err(_) => Some(0),
+        Err(_) => Some("a head"),
     }
 }
 

@@ -5,6 +5,7 @@ use crate::messages::{
     standard,
 };
 use crate::rows::{holds, none_is_wrong};
+use Verdict::{BadLabels, OutOfOrder, OverLimit, Stored};
 use rw_head::{Head, HeldSeries, Verdict};
 use rw_types::LabelSet;
 use std::alloc::Global;
@@ -18,69 +19,83 @@ static LAST: [(Labels<'static>, Samples<'static>); 2] = [
 /// Messages one after the other, each with its verdict and how many samples of `up` and `down` the
 /// head holds after it.
 static ROWS: [Row; 16] = [
-    // the first two samples, and the empty message
-    (&[(UP, &[(10, 1), (20, 2)])], Verdict::Stored(2), &[2, 0]),
-    (&[], Verdict::Stored(0), &[2, 0]),
-    // a repeat and a later sample
-    (&[(UP, &[(20, 2), (30, 3)])], Verdict::Stored(1), &[3, 0]),
-    // a later sample and one out of order: nothing is stored
-    (&[(UP, &[(40, 4), (25, 1)])], Verdict::OutOfOrder, &[3, 0]),
-    // the same timestamp with another word
-    (&[(UP, &[(30, 5)])], Verdict::OutOfOrder, &[3, 0]),
-    // repeats that are older than the last
+    ("new ones", &[(UP, &[(10, 1), (20, 2)])], Stored(2), &[2, 0]),
+    ("no series", &[], Stored(0), &[2, 0]),
     (
+        "a later one",
+        &[(UP, &[(20, 2), (30, 3)])],
+        Stored(1),
+        &[3, 0],
+    ),
+    (
+        "a late one",
+        &[(UP, &[(40, 4), (25, 1)])],
+        OutOfOrder,
+        &[3, 0],
+    ),
+    ("another value", &[(UP, &[(30, 5)])], OutOfOrder, &[3, 0]),
+    (
+        "repeats before the last",
         &[(UP, &[(10, 1), (20, 2), (10, 1)])],
-        Verdict::Stored(0),
+        Stored(0),
         &[3, 0],
     ),
-    // a bad series after a good one, by each of its faults
     (
+        "a good series, and one out of order",
         &[(UP, &[(40, 4)]), (DOWN, &[(20, 1), (10, 1)])],
-        Verdict::OutOfOrder,
+        OutOfOrder,
         &[3, 0],
     ),
     (
+        "a good series, and bad labels",
         &[(UP, &[(40, 4)]), (FALLING, &[(10, 1)])],
-        Verdict::BadLabels,
+        BadLabels,
         &[3, 0],
     ),
     (
+        "a good series, and a label more",
         &[(UP, &[(40, 4)]), (WIDE, &[(10, 1)])],
-        Verdict::OverLimit,
+        OverLimit,
         &[3, 0],
     ),
-    // the first fault in message order decides; a series is judged by its labels first
     (
+        "the first fault decides",
         &[(UP, &[(25, 1)]), (FALLING, &[(10, 1)])],
-        Verdict::OutOfOrder,
+        OutOfOrder,
         &[3, 0],
     ),
     (
+        "labels first",
         &[(FALLING, &[(20, 1), (10, 1)])],
-        Verdict::BadLabels,
+        BadLabels,
         &[3, 0],
     ),
-    (&[(WIDE, &[(20, 1), (10, 1)])], Verdict::OverLimit, &[3, 0]),
-    // a series without samples is judged too
-    (&[(FALLING, &[])], Verdict::BadLabels, &[3, 0]),
-    (&[(DOWN, &[])], Verdict::Stored(0), &[3, 0]),
-    // one label set in two series of one message, out of order and in order
     (
+        "wide first",
+        &[(WIDE, &[(20, 1), (10, 1)])],
+        OverLimit,
+        &[3, 0],
+    ),
+    ("bad labels alone", &[(FALLING, &[])], BadLabels, &[3, 0]),
+    ("no samples", &[(DOWN, &[])], Stored(0), &[3, 0]),
+    (
+        "a series twice, out of order",
         &[(UP, &[(50, 5)]), (DOWN, &[(1, 1)]), (UP, &[(40, 4)])],
-        Verdict::OutOfOrder,
+        OutOfOrder,
         &[3, 0],
     ),
     (
+        "a series twice, in order",
         &[(UP, &[(40, 4)]), (UP, &[(40, 4), (50, 5)])],
-        Verdict::Stored(2),
+        Stored(2),
         &[5, 0],
     ),
 ];
 
-fn wrong_message(alloc: Global) -> Option<usize> {
+fn wrong_message(alloc: Global) -> Option<&'static str> {
     match narrow(alloc) {
         Ok(mut head) => first_wrong(alloc, &mut head, &ROWS, &LAST),
-        Err(_) => Some(0),
+        Err(_) => Some("a head"),
     }
 }
 

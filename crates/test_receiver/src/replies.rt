@@ -1,12 +1,12 @@
 //! Inputs with the replies to them, byte for byte. `|` stands for CR LF.
 
-use crate::devices::Giving;
-use crate::rows::{holds, none_is_wrong};
+use crate::rows::{holds, no_number_is_wrong, none_is_wrong};
 use crate::store::{Store, is_served, served};
 use crate::waiting::{Hearing, Waiting};
 use Row::{Fields, Input};
 use ServeEnd::{Closed, Eof, Torn};
 use rw_endpoint::ServeEnd;
+use rw_test_parts::Giving;
 use std::alloc::{AllocError, Global};
 use std::cell::Cell;
 
@@ -54,7 +54,8 @@ fn is_served_at_once(alloc: Global, input: &[u8], replies: &[u8]) -> bool {
 /// byte by byte, and for a client that waits.
 fn is_served_however_it_comes(alloc: Global, input: &[u8], replies: &[u8], how: ServeEnd) -> bool {
     let mut whole = input;
-    let mut slow = Giving::new(input, 1, usize::MAX);
+    let never = Cell::new(0);
+    let mut slow = Giving::new(input, 1, &never);
     is_served(alloc, &mut whole, replies, how)
         && is_served(alloc, &mut slow, replies, how)
         && is_served_at_once(alloc, input, replies)
@@ -94,184 +95,184 @@ const NO_CONTENT: &[u8] = b"HTTP/1.1 204 No Content|Connection: close||";
 /// What a row says.
 enum Row {
     /// What follows the first line of a request, and the reply.
-    Fields(&'static [u8], &'static [u8]),
+    Fields(&'static str, &'static [u8]),
     /// An input, the replies, and the end.
-    Input(&'static [u8], &'static [u8], ServeEnd),
+    Input(&'static str, &'static [u8], ServeEnd),
 }
 
 static ROWS: [Row; 44] = [
     // no length, or a transfer encoding
-    Fields(b"|", LENGTH_REQUIRED),
-    Fields(b"Transfer-Encoding: chunked||0||", LENGTH_REQUIRED),
+    Fields("|", LENGTH_REQUIRED),
+    Fields("Transfer-Encoding: chunked||0||", LENGTH_REQUIRED),
     Fields(
-        b"Content-Length: 3|transfer-encoding: identity||abc",
+        "Content-Length: 3|transfer-encoding: identity||abc",
         LENGTH_REQUIRED,
     ),
     // values that are not a length
-    Fields(b"Content-Length: ||", BAD_REQUEST),
-    Fields(b"Content-Length: +3||abc", BAD_REQUEST),
-    Fields(b"Content-Length: 3, 3||abc", BAD_REQUEST),
-    Fields(b"Content-Length: 00000000000000000003||abc", BAD_REQUEST),
-    Fields(b"Content-Length: 3|Content-Length: 4||abcd", BAD_REQUEST),
+    Fields("Content-Length: ||", BAD_REQUEST),
+    Fields("Content-Length: +3||abc", BAD_REQUEST),
+    Fields("Content-Length: 3, 3||abc", BAD_REQUEST),
+    Fields("Content-Length: 00000000000000000003||abc", BAD_REQUEST),
+    Fields("Content-Length: 3|Content-Length: 4||abcd", BAD_REQUEST),
     // 19 digits, and one length written twice
     Fields(
-        b"Content-Length: 0000000000000000003|CONTENT-LENGTH: 03||abc",
+        "Content-Length: 0000000000000000003|CONTENT-LENGTH: 03||abc",
         NO_CONTENT_KEPT,
     ),
     // at the limit and over it, however far
     Fields(
-        b"Content-Length: 32||12345678901234567890123456789012",
+        "Content-Length: 32||12345678901234567890123456789012",
         NO_CONTENT_KEPT,
     ),
-    Fields(b"Content-Length: 33||", CONTENT_TOO_LARGE),
-    Fields(b"Content-Length: 9999999999999999999||", CONTENT_TOO_LARGE),
+    Fields("Content-Length: 33||", CONTENT_TOO_LARGE),
+    Fields("Content-Length: 9999999999999999999||", CONTENT_TOO_LARGE),
     // the length is judged before the encoding
     Fields(
-        b"Content-Length: 33|Content-Encoding: snappy||",
+        "Content-Length: 33|Content-Encoding: snappy||",
         CONTENT_TOO_LARGE,
     ),
     // encodings
     Fields(
-        b"Content-Encoding: snappy|Content-Length: 3||abc",
+        "Content-Encoding: snappy|Content-Length: 3||abc",
         UNSUPPORTED_MEDIA_TYPE,
     ),
     Fields(
-        b"Content-Encoding:|Content-Length: 3||abc",
+        "Content-Encoding:|Content-Length: 3||abc",
         UNSUPPORTED_MEDIA_TYPE,
     ),
     Fields(
-        b"Content-Encoding: Identity|Content-Length: 3||abc",
+        "Content-Encoding: Identity|Content-Length: 3||abc",
         NO_CONTENT_KEPT,
     ),
     Fields(
-        b"Content-Encoding: identity|Content-Encoding: gzip|Content-Length: 3||abc",
+        "Content-Encoding: identity|Content-Encoding: gzip|Content-Length: 3||abc",
         UNSUPPORTED_MEDIA_TYPE,
     ),
     // media types
     Fields(
-        b"Content-Type: application/x-protobuf|Content-Length: 3||abc",
+        "Content-Type: application/x-protobuf|Content-Length: 3||abc",
         NO_CONTENT_KEPT,
     ),
     Fields(
-        b"Content-Type: APPLICATION/X-Protobuf \t;\t Proto=Prometheus.WRITERequest|Content-Length: 3||abc",
+        "Content-Type: APPLICATION/X-Protobuf \t;\t Proto=Prometheus.WRITERequest|Content-Length: 3||abc",
         NO_CONTENT_KEPT,
     ),
     Fields(
-        b"Content-Type: application/x-protobuf;|Content-Length: 3||abc",
+        "Content-Type: application/x-protobuf;|Content-Length: 3||abc",
         UNSUPPORTED_MEDIA_TYPE,
     ),
     Fields(
-        b"Content-Type: application/x-protobuf; proto=prometheus.WriteRequest2|Content-Length: 3||abc",
+        "Content-Type: application/x-protobuf; proto=prometheus.WriteRequest2|Content-Length: 3||abc",
         UNSUPPORTED_MEDIA_TYPE,
     ),
     Fields(
-        b"Content-Type: application/x-protobuf; proto = prometheus.WriteRequest|Content-Length: 3||abc",
+        "Content-Type: application/x-protobuf; proto = prometheus.WriteRequest|Content-Length: 3||abc",
         UNSUPPORTED_MEDIA_TYPE,
     ),
     Fields(
-        b"Content-Type: application/x-protobuf proto=prometheus.WriteRequest|Content-Length: 3||abc",
+        "Content-Type: application/x-protobuf proto=prometheus.WriteRequest|Content-Length: 3||abc",
         UNSUPPORTED_MEDIA_TYPE,
     ),
     Fields(
-        b"Content-Type: text/plain|Content-Length: 3||abc",
+        "Content-Type: text/plain|Content-Length: 3||abc",
         UNSUPPORTED_MEDIA_TYPE,
     ),
     Fields(
-        b"Content-Type: |Content-Length: 3||abc",
+        "Content-Type: |Content-Length: 3||abc",
         UNSUPPORTED_MEDIA_TYPE,
     ),
     // what the body is answered
-    Fields(b"Content-Length: 3||bad", BAD_REQUEST_KEPT),
+    Fields("Content-Length: 3||bad", BAD_REQUEST_KEPT),
     Fields(
-        b"Content-Length: 4|Connection: CLOSE||busy",
+        "Content-Length: 4|Connection: CLOSE||busy",
         TOO_MANY_REQUESTS,
     ),
     Fields(
-        b"Content-Length: 4|Connection: keep-alive||full",
+        "Content-Length: 4|Connection: keep-alive||full",
         SERVICE_UNAVAILABLE_KEPT,
     ),
     // two requests that keep the connection
     Input(
-        b"POST /api/v1/write HTTP/1.1|Content-Length: 0||POST /api/v1/write HTTP/1.1|Content-Length: 0||",
+        "POST /api/v1/write HTTP/1.1|Content-Length: 0||POST /api/v1/write HTTP/1.1|Content-Length: 0||",
         b"HTTP/1.1 204 No Content||HTTP/1.1 204 No Content||",
         Eof,
     ),
     // nothing
-    Input(b"", b"", Eof),
+    Input("", b"", Eof),
     // another method
     Input(
-        b"GET /api/v1/write HTTP/1.1||",
+        "GET /api/v1/write HTTP/1.1||",
         b"HTTP/1.1 405 Method Not Allowed|Allow: POST|Content-Length: 0|Connection: close||",
         Closed,
     ),
     Input(
-        b"post /api/v1/write HTTP/1.1|Content-Length: 0||",
+        "post /api/v1/write HTTP/1.1|Content-Length: 0||",
         b"HTTP/1.1 405 Method Not Allowed|Allow: POST|Content-Length: 0|Connection: close||",
         Closed,
     ),
     // another target, which is judged before the method
     Input(
-        b"POST /other HTTP/1.1|Content-Length: 0||",
+        "POST /other HTTP/1.1|Content-Length: 0||",
         b"HTTP/1.1 404 Not Found|Content-Length: 0|Connection: close||",
         Closed,
     ),
     Input(
-        b"GET /other HTTP/1.1||",
+        "GET /other HTTP/1.1||",
         b"HTTP/1.1 404 Not Found|Content-Length: 0|Connection: close||",
         Closed,
     ),
     Input(
-        b"POST /api/v1/Write HTTP/1.1|Content-Length: 0||",
+        "POST /api/v1/Write HTTP/1.1|Content-Length: 0||",
         b"HTTP/1.1 404 Not Found|Content-Length: 0|Connection: close||",
         Closed,
     ),
     // an older version closes
     Input(
-        b"POST /api/v1/write HTTP/1.0|Content-Length: 3||abc",
+        "POST /api/v1/write HTTP/1.0|Content-Length: 3||abc",
         b"HTTP/1.1 204 No Content|Connection: close||",
         Closed,
     ),
     // nothing is answered after a reply that closes
     Input(
-        b"POST /api/v1/write HTTP/1.1|Content-Length: 3||abcPOST /api/v1/write HTTP/1.1|Connection: close|Content-Length: 3||defPOST /api/v1/write HTTP/1.1|Content-Length: 0||",
+        "POST /api/v1/write HTTP/1.1|Content-Length: 3||abcPOST /api/v1/write HTTP/1.1|Connection: close|Content-Length: 3||defPOST /api/v1/write HTTP/1.1|Content-Length: 0||",
         b"HTTP/1.1 204 No Content||HTTP/1.1 204 No Content|Connection: close||",
         Closed,
     ),
     Input(
-        b"GET /api/v1/write HTTP/1.1||POST /api/v1/write HTTP/1.1|Content-Length: 0||",
+        "GET /api/v1/write HTTP/1.1||POST /api/v1/write HTTP/1.1|Content-Length: 0||",
         b"HTTP/1.1 405 Method Not Allowed|Allow: POST|Content-Length: 0|Connection: close||",
         Closed,
     ),
     // empty lines before a request, and line feeds alone
     Input(
-        b"|\nPOST /api/v1/write HTTP/1.1\nContent-Length: 3\n\nabc",
+        "|\nPOST /api/v1/write HTTP/1.1\nContent-Length: 3\n\nabc",
         b"HTTP/1.1 204 No Content||",
         Eof,
     ),
     // no heads
     Input(
-        b"HELLO WORLD||",
+        "HELLO WORLD||",
         b"HTTP/1.1 400 Bad Request|Content-Length: 0|Connection: close||",
         Closed,
     ),
     Input(
-        b"POST /api/v1/write HTTP/2.0|",
+        "POST /api/v1/write HTTP/2.0|",
         b"HTTP/1.1 400 Bad Request|Content-Length: 0|Connection: close||",
         Closed,
     ),
     Input(
-        b"POST /api/v1/write HTTP/1.1|Content Length: 3||abc",
+        "POST /api/v1/write HTTP/1.1|Content Length: 3||abc",
         b"HTTP/1.1 400 Bad Request|Content-Length: 0|Connection: close||",
         Closed,
     ),
     // after a reply the input ends inside a request
     Input(
-        b"POST /api/v1/write HTTP/1.1|Content-Length: 3||abcPOST /api/v1/write HTTP/1.1|",
+        "POST /api/v1/write HTTP/1.1|Content-Length: 3||abcPOST /api/v1/write HTTP/1.1|",
         b"HTTP/1.1 204 No Content||",
         Torn,
     ),
     Input(
-        b"POST /api/v1/write HTTP/1.1|Content-Length: 4||abc",
+        "POST /api/v1/write HTTP/1.1|Content-Length: 4||abc",
         b"",
         Torn,
     ),
@@ -282,17 +283,18 @@ fn is_so(alloc: Global, row: &Row) -> bool {
         Fields(fields, reply) => {
             let closes = reply.ends_with(b"Connection: close||");
             let how = if closes { Closed } else { Eof };
-            are_served(alloc, &[LINE, *fields], reply, how)
+            are_served(alloc, &[LINE, fields.as_bytes()], reply, how)
         }
-        Input(input, replies, how) => are_served(alloc, &[*input], replies, *how),
+        Input(input, replies, how) => are_served(alloc, &[input.as_bytes()], replies, *how),
     }
 }
 
-/// Returns the first row with other replies or another end.
-fn wrong_row(alloc: Global) -> Option<usize> {
-    for (i, row) in ROWS.iter().enumerate() {
+/// Returns the text of the first row with other replies or another end.
+fn wrong_row(alloc: Global) -> Option<&'static str> {
+    for row in &ROWS {
         if !is_so(alloc, row) {
-            return Some(i);
+            let (Fields(text, ..) | Input(text, ..)) = row;
+            return Some(text);
         }
     }
     None
@@ -331,5 +333,5 @@ fn cut_requests_have_no_reply(rt: HostRuntime) {
         &rt,
         are_served(rt.alloc(), &[HEAD, MESSAGE], NO_CONTENT, Closed),
     );
-    none_is_wrong(&rt, wrong_cut(rt.alloc()));
+    no_number_is_wrong(&rt, wrong_cut(rt.alloc()));
 }

@@ -3,7 +3,7 @@
 ghost use Rattle.std.specs.Prelude.{◌≡◌, ◌+◌, IfOk};
 ghost use Rattle.rw_head.specs.Store.{total};
 
-use crate::bodies::{ONE, TWO, WORD_OF_ONE};
+use crate::bodies::TWO;
 use crate::memory::status_at_last;
 use crate::messages::{Samples, UP, has_samples, standard};
 use crate::store::is_served_by;
@@ -11,6 +11,7 @@ use rw_endpoint::{Answer, ServeEnd};
 use rw_head::{Capacity, Head};
 use rw_recv_head::{Asked, Blank, Naming, Seat, SharedHead};
 use rw_recv_http::Asking;
+use rw_test_parts::{UP_MESSAGE as ONE, WORD_OF_ONE};
 use std::alloc::{AllocError, Global};
 use std::marker::Brand;
 use std::sync::Wait;

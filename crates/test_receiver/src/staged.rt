@@ -4,7 +4,7 @@
 use crate::messages::{
     DOWN, FALLING, Labels, Parts, Samples, UP, are_same, label_set, message, standard,
 };
-use crate::rows::none_differs;
+use crate::rows::none_is_wrong;
 use rw_head::{AddedSeries, Head, StagedHead};
 use rw_types::Word;
 use rw_write_request::encode;
@@ -187,7 +187,7 @@ fn wrong_row(alloc: Global) -> Option<&'static str> {
 
 #[test]
 fn staged_bodies_are_committed_or_aborted(rt: HostRuntime) {
-    none_differs(&rt, wrong_row(rt.alloc()));
+    none_is_wrong(&rt, wrong_row(rt.alloc()));
 }
 
 /// A name, how many samples of one series are committed first, and the number of the last sample
@@ -249,5 +249,5 @@ fn wrong_series(alloc: Global) -> Option<&'static str> {
 
 #[test]
 fn new_samples_of_long_series_are_added(rt: HostRuntime) {
-    none_differs(&rt, wrong_series(rt.alloc()));
+    none_is_wrong(&rt, wrong_series(rt.alloc()));
 }
