@@ -64,16 +64,18 @@ fn built(alloc: Global, batch: usize, rows: &[Row]) -> Result<Builder, AllocErro
     Ok(builder)
 }
 
-/// Samples, and the body of their batch.
-type Body = (&'static [Row], &'static [u8]);
+/// A name, samples, and the body of their batch.
+type Body = (&'static str, &'static [Row], &'static [u8]);
 
 static BODIES: [Body; 2] = [
     (
+        "two series",
         &[("a", 0, 1), ("b", 0, 2), ("a", 0, 3)],
         b"\x0a\x17\x0a\x0d\x0a\x08__name__\x12\x01a\x12\x02\x10\x01\x12\x02\x10\x03\
           \x0a\x13\x0a\x0d\x0a\x08__name__\x12\x01b\x12\x02\x10\x02",
     ),
     (
+        "one series",
         &[("up", 0x3ff0_0000_0000_0000, 1000)],
         b"\x0a\x1e\x0a\x0e\x0a\x08__name__\x12\x02up\x12\x0c\x09\0\0\0\0\0\0\xf0\x3f\x10\xe8\x07",
     ),
@@ -164,10 +166,10 @@ fn bodies() -> &'static [Body] {
     &BODIES
 }
 
-fn wrong_body(alloc: Global, rows: &[Body]) -> Option<usize> {
-    for (i, (samples, body)) in rows.iter().enumerate() {
+fn wrong_body(alloc: Global, rows: &[Body]) -> Option<&'static str> {
+    for (name, samples, body) in rows {
         if !make_body(alloc, samples, body) {
-            return Some(i);
+            return Some(name);
         }
     }
     None
@@ -182,15 +184,15 @@ const TWO: &[Row] = &[("a", 0, 1), ("b", 0, 2)];
 
 const THREE: &[Row] = &[("a", 0, 1), ("b", 0, 2), ("b", 0, 3)];
 
-/// Samples that a builder of three took, a sample with its number, and whether that can be taken
-/// next.
-type Next = (&'static [Row], u64, Row, bool);
+/// A name, samples that a builder of three took, a sample with its number, and whether that can be
+/// taken next.
+type Next = (&'static str, &'static [Row], u64, Row, bool);
 
 static NEXT: [Next; 4] = [
-    (TWO, 8, ("a", 0, 3), false),
-    (TWO, 9, ("a", 0, 3), true),
-    (TWO, 10, ("a", 0, 3), false),
-    (THREE, 10, ("a", 0, 4), false),
+    ("the last one again", TWO, 8, ("a", 0, 3), false),
+    ("the next one", TWO, 9, ("a", 0, 3), true),
+    ("a later one", TWO, 10, ("a", 0, 3), false),
+    ("one too many", THREE, 10, ("a", 0, 4), false),
 ];
 
 /// Returns whether a builder of three has this many samples, is full or not, and takes no mark.
@@ -221,10 +223,10 @@ fn nexts() -> &'static [Next] {
     &NEXT
 }
 
-fn wrong_next(alloc: Global, rows: &[Next]) -> Option<usize> {
-    for (i, (samples, seq, row, can)) in rows.iter().enumerate() {
+fn wrong_next(alloc: Global, rows: &[Next]) -> Option<&'static str> {
+    for (name, samples, seq, row, can) in rows {
         if !takes_row(alloc, samples, *seq, *row, *can) {
-            return Some(i);
+            return Some(name);
         }
     }
     None

@@ -83,21 +83,21 @@ fn does(queue: &mut PlainQueue, step: Step) -> bool {
     }
 }
 
-/// Returns the first of these steps that differs.
-fn wrong_step(queue: &mut PlainQueue, steps: &[Step]) -> Option<usize> {
-    for (i, step) in steps.iter().enumerate() {
+/// Returns whether each of these steps goes as it says.
+fn does_all(queue: &mut PlainQueue, steps: &[Step]) -> bool {
+    for step in steps {
         if !does(queue, *step) {
-            return Some(i);
+            return false;
         }
     }
-    None
+    true
 }
 
 /// Returns the same with a new queue of this capacity.
-fn wrong_step_of(alloc: Global, capacity: usize, steps: &[Step]) -> Option<usize> {
+fn goes(alloc: Global, capacity: usize, steps: &[Step]) -> bool {
     match queue_of(alloc, capacity) {
-        Ok(mut queue) => wrong_step(&mut queue, steps),
-        Err(_) => Some(0),
+        Ok(mut queue) => does_all(&mut queue, steps),
+        Err(_) => false,
     }
 }
 
@@ -139,24 +139,24 @@ const KILLED_WITH_A_FLUSH: &[Step] = &[
     Step::Put(Kind::Orderly, 2),
 ];
 
-/// The capacity of a queue, and what is done with it.
-type Schedule = (usize, &'static [Step]);
+/// A name, the capacity of a queue, and what is done with it.
+type Schedule = (&'static str, usize, &'static [Step]);
 
 static SCHEDULES: [Schedule; 4] = [
-    (2, IN_ORDER),
-    (1, CLOSED),
-    (0, KILLED_EMPTY),
-    (3, KILLED_WITH_A_FLUSH),
+    ("items in order", 2, IN_ORDER),
+    ("a closed queue", 1, CLOSED),
+    ("a kill without items", 0, KILLED_EMPTY),
+    ("a kill with a flush", 3, KILLED_WITH_A_FLUSH),
 ];
 
 fn schedules() -> &'static [Schedule] {
     &SCHEDULES
 }
 
-fn wrong_schedule(alloc: Global, schedules: &[Schedule]) -> Option<usize> {
-    for (i, (capacity, steps)) in schedules.iter().enumerate() {
-        if wrong_step_of(alloc, *capacity, steps).is_some() {
-            return Some(i);
+fn wrong_schedule(alloc: Global, schedules: &[Schedule]) -> Option<&'static str> {
+    for (name, capacity, steps) in schedules {
+        if !goes(alloc, *capacity, steps) {
+            return Some(name);
         }
     }
     None

@@ -1,6 +1,7 @@
 //! What the bytes of replies say.
 
 use crate::rows::{holds, none_is_wrong};
+use ReplyRead::{Bad, Partial, Status};
 use Row::{Begun, Headed, Parts};
 use rw_shard_core::{MAX_FIELDS, MAX_HEAD_BYTES, ReplyRead, read_reply};
 use std::alloc::{AllocError, Global};
@@ -37,60 +38,61 @@ const AROUND_VALUE: usize = 21;
 /// The most bytes of such a value.
 const MOST: usize = MAX_HEAD_BYTES - AROUND_VALUE;
 
-/// What a row says.
+/// A name, and what a row says.
 enum Row {
     /// Two parts of a reply, one after the other, and what they say.
-    Parts(&'static [u8], &'static [u8], ReplyRead),
+    Parts(&'static str, &'static [u8], &'static [u8], ReplyRead),
     /// A head, what follows it, and what both say.
-    Headed(Head, &'static [u8], ReplyRead),
+    Headed(&'static str, Head, &'static [u8], ReplyRead),
     /// A head, its last bytes, and what it says without them.
-    Begun(Head, &'static [u8], ReplyRead),
+    Begun(&'static str, Head, &'static [u8], ReplyRead),
 }
 
 static ROWS: [Row; 24] = [
-    Parts(NO_CONTENT, b"", ReplyRead::Status(204)),
+    Parts("a status", NO_CONTENT, b"", Status(204)),
     Parts(
+        "a status and more",
         NO_CONTENT,
         b"HTTP/1.1 500 X\r\n\r\n",
-        ReplyRead::Status(204),
+        Status(204),
     ),
-    Parts(CONTINUE, b"", ReplyRead::Partial),
-    Parts(CONTINUE, NO_CONTENT, ReplyRead::Status(204)),
-    Parts(CONTINUE, CONTINUE, ReplyRead::Partial),
+    Parts("a hint", CONTINUE, b"", Partial),
+    Parts("a hint and a status", CONTINUE, NO_CONTENT, Status(204)),
+    Parts("two hints", CONTINUE, CONTINUE, Partial),
     Parts(
+        "three heads",
         CONTINUE,
         b"HTTP/1.1 103 Hints\r\n\r\nHTTP/1.1 429 X\r\n\r\n",
-        ReplyRead::Status(429),
+        Status(429),
     ),
-    Parts(CONTINUE, b"no head", ReplyRead::Bad),
-    Parts(b"HTTP/1.1 199 X\r\n\r\n", b"", ReplyRead::Partial),
-    Parts(b"HTTP/1.1 200 X\r\n\r\n", b"", ReplyRead::Status(200)),
-    Parts(b"HTTP/1.1 099 X\r\n\r\n", b"", ReplyRead::Bad),
-    Parts(b"HTTP/1.1 999 X\r\n\r\n", b"", ReplyRead::Status(999)),
-    Parts(b"\r\nHTTP/1.0 503\n\n", b"", ReplyRead::Status(503)),
-    Parts(b"HTTP/2 200 OK\r\n\r\n", b"", ReplyRead::Bad),
-    Parts(b"HTTP/1.1 2000 OK\r\n\r\n", b"", ReplyRead::Bad),
-    // heads at their limits
-    Headed((b"204 ", MAX_FIELDS, 1), b"", ReplyRead::Status(204)),
-    Headed((b"204 ", MAX_FIELDS + 1, 1), b"", ReplyRead::Bad),
-    Headed((b"204 ", 1, MOST), b"", ReplyRead::Status(204)),
-    Headed((b"204 ", 1, MOST + 1), b"", ReplyRead::Bad),
+    Parts("a hint and no head", CONTINUE, b"no head", Bad),
+    Parts("199", b"HTTP/1.1 199 X\r\n\r\n", b"", Partial),
+    Parts("200", b"HTTP/1.1 200 X\r\n\r\n", b"", Status(200)),
+    Parts("099", b"HTTP/1.1 099 X\r\n\r\n", b"", Bad),
+    Parts("999", b"HTTP/1.1 999 X\r\n\r\n", b"", Status(999)),
+    Parts("line feeds", b"\r\nHTTP/1.0 503\n\n", b"", Status(503)),
+    Parts("HTTP/2", b"HTTP/2 200 OK\r\n\r\n", b"", Bad),
+    Parts("2000", b"HTTP/1.1 2000 OK\r\n\r\n", b"", Bad),
+    Headed("most fields", (b"204 ", MAX_FIELDS, 1), b"", Status(204)),
+    Headed("a field more", (b"204 ", MAX_FIELDS + 1, 1), b"", Bad),
+    Headed("most bytes", (b"204 ", 1, MOST), b"", Status(204)),
+    Headed("a byte more", (b"204 ", 1, MOST + 1), b"", Bad),
     Headed(
+        "most bytes after a hint",
         (b"100 ", 1, MOST - NO_CONTENT.len()),
         NO_CONTENT,
-        ReplyRead::Status(204),
+        Status(204),
     ),
     Headed(
+        "a byte more after a hint",
         (b"100 ", 1, MOST - NO_CONTENT.len() + 1),
         NO_CONTENT,
-        ReplyRead::Bad,
+        Bad,
     ),
-    // a head that is a byte too long
-    Begun((b"204 ", 1, MOST + 1), b"\r\n", ReplyRead::Partial),
-    Begun((b"204 ", 1, MOST + 1), b"\n", ReplyRead::Bad),
-    // a field too many is found before its head ends
-    Begun((b"204 ", MAX_FIELDS, 1), b"\r\n", ReplyRead::Partial),
-    Begun((b"204 ", MAX_FIELDS + 1, 1), b"\r\n", ReplyRead::Bad),
+    Begun("without CR LF", (b"204 ", 1, MOST + 1), b"\r\n", Partial),
+    Begun("without LF", (b"204 ", 1, MOST + 1), b"\n", Bad),
+    Begun("most, begun", (b"204 ", MAX_FIELDS, 1), b"\r\n", Partial),
+    Begun("more, begun", (b"204 ", MAX_FIELDS + 1, 1), b"\r\n", Bad),
 ];
 
 fn says_of_parts(alloc: Global, front: &[u8], rest: &[u8], read: ReplyRead) -> bool {
@@ -120,9 +122,9 @@ fn says_begun(alloc: Global, head: Head, end: &[u8], read: ReplyRead) -> bool {
 
 fn is_so(alloc: Global, row: &Row) -> bool {
     match row {
-        Parts(front, rest, read) => says_of_parts(alloc, front, rest, *read),
-        Headed(head, rest, read) => says(alloc, *head, rest, *read),
-        Begun(head, end, read) => says_begun(alloc, *head, end, *read),
+        Parts(_, front, rest, read) => says_of_parts(alloc, front, rest, *read),
+        Headed(_, head, rest, read) => says(alloc, *head, rest, *read),
+        Begun(_, head, end, read) => says_begun(alloc, *head, end, *read),
     }
 }
 
@@ -131,10 +133,11 @@ fn rows() -> &'static [Row] {
 }
 
 /// Returns the first row that is read differently.
-fn wrong_row(alloc: Global, rows: &[Row]) -> Option<usize> {
-    for (i, row) in rows.iter().enumerate() {
+fn wrong_row(alloc: Global, rows: &[Row]) -> Option<&'static str> {
+    for row in rows {
         if !is_so(alloc, row) {
-            return Some(i);
+            let (Parts(name, ..) | Headed(name, ..) | Begun(name, ..)) = row;
+            return Some(name);
         }
     }
     None
@@ -143,7 +146,7 @@ fn wrong_row(alloc: Global, rows: &[Row]) -> Option<usize> {
 /// Returns how much of a text has to come until it says something.
 fn decisive(text: &[u8]) -> usize {
     for len in 0..text.len() {
-        if read_reply(&text[..len]) != ReplyRead::Partial {
+        if read_reply(&text[..len]) != Partial {
             return len;
         }
     }

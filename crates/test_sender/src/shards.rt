@@ -229,18 +229,18 @@ fn does(alloc: Global, shard: &mut Shard, step: Step) -> bool {
     }
 }
 
-/// Returns the first of these steps that differs.
-fn wrong_step(alloc: Global, shard: &mut Shard, steps: &[Step]) -> Option<usize> {
-    for (i, step) in steps.iter().enumerate() {
+/// Returns whether each of these steps goes as it says.
+fn does_all(alloc: Global, shard: &mut Shard, steps: &[Step]) -> bool {
+    for step in steps {
         if !does(alloc, shard, *step) {
-            return Some(i);
+            return false;
         }
     }
-    None
+    true
 }
 
 /// Returns the same with a new shard.
-fn wrong_step_of(alloc: Global, steps: &[Step]) -> Option<usize> {
+fn goes(alloc: Global, steps: &[Step]) -> bool {
     match core_of(alloc) {
         Ok(core) => {
             let mut shard = Shard {
@@ -249,9 +249,9 @@ fn wrong_step_of(alloc: Global, steps: &[Step]) -> Option<usize> {
                 seq: 0,
                 last: None,
             };
-            wrong_step(alloc, &mut shard, steps)
+            does_all(alloc, &mut shard, steps)
         }
-        Err(_) => Some(0),
+        Err(_) => false,
     }
 }
 
@@ -346,16 +346,25 @@ const ONE_SAMPLE: &[Step] = &[
     Step::NotTaken(2),
 ];
 
-static SCHEDULES: [&[Step]; 5] = [TRIED_TWICE, REFUSED_TWICE, MARKED_EMPTY, KILLED, ONE_SAMPLE];
+/// A name, and the steps of a shard.
+type Schedule = (&'static str, &'static [Step]);
 
-fn schedules() -> &'static [&'static [Step]] {
+static SCHEDULES: [Schedule; 5] = [
+    ("a batch that is tried twice", TRIED_TWICE),
+    ("two batches that are refused", REFUSED_TWICE),
+    ("marks without samples", MARKED_EMPTY),
+    ("a kill", KILLED),
+    ("one sample", ONE_SAMPLE),
+];
+
+fn schedules() -> &'static [Schedule] {
     &SCHEDULES
 }
 
-fn wrong_schedule(alloc: Global, schedules: &[&[Step]]) -> Option<usize> {
-    for (i, steps) in schedules.iter().enumerate() {
-        if wrong_step_of(alloc, steps).is_some() {
-            return Some(i);
+fn wrong_schedule(alloc: Global, schedules: &[Schedule]) -> Option<&'static str> {
+    for (name, steps) in schedules {
+        if !goes(alloc, steps) {
+            return Some(name);
         }
     }
     None
