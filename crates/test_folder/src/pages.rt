@@ -256,11 +256,11 @@ fn has_part(text: &[u8], part: &[u8]) -> bool {
 }
 
 /// Returns the first of the lines that the page of such a sender for Prometheus lacks.
-fn lacking(alloc: Global) -> Result<Option<usize>, AllocError> {
+fn lacking(alloc: Global) -> Result<Option<&'static str>, AllocError> {
     let page = send_page(alloc, &counted(alloc)?)?;
-    for (i, line) in LINES.iter().enumerate() {
+    for line in &LINES {
         if !has_part(&page, line.as_bytes()) {
-            return Ok(Some(i));
+            return Ok(Some(line));
         }
     }
     Ok(None)

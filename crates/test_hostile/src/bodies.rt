@@ -3,15 +3,13 @@
 
 use crate::changed::{Reader, wrong_byte};
 use crate::plain_body::plain_spelling;
-use crate::rows::none_is_wrong;
+use crate::rows::no_byte_is_wrong;
+use rw_test_parts::UP_MESSAGE;
 use rw_write_request::{WireFault, check_message, decode, encode};
 use std::alloc::Global;
 
 /// `up` with the value 1 at 1000 ms.
-static ONE: [u8; 32] = [
-    0x0a, 0x1e, 0x0a, 0x0e, 0x0a, 0x08, 0x5f, 0x5f, 0x6e, 0x61, 0x6d, 0x65, 0x5f, 0x5f, 0x12, 0x02,
-    0x75, 0x70, 0x12, 0x0c, 0x09, 0x00, 0x00, 0x00, 0x00, 0x00, 0x00, 0xf0, 0x3f, 0x10, 0xe8, 0x07,
-];
+static ONE: [u8; 32] = UP_MESSAGE;
 
 /// Returns the canonical spelling of what a body is read as, or its fault.
 fn spelling(alloc: Global, body: &[u8]) -> Result<Vec<u8>, WireFault> {
@@ -47,5 +45,5 @@ pub(crate) fn one() -> &'static [u8; 32] {
 
 #[test]
 fn each_byte_changed_and_cut(rt: HostRuntime) {
-    none_is_wrong(&rt, wrong_byte(Reader::Bodies, rt.alloc(), one()));
+    no_byte_is_wrong(&rt, wrong_byte(Reader::Bodies, rt.alloc(), one()));
 }

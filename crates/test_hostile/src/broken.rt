@@ -8,7 +8,8 @@ use crate::line::{Line, Quick};
 use rw_head::Limits;
 use rw_shard_core::Config;
 use rw_shard_queue::{Feed, Item, Kind, Open, open};
-use rw_types::{LabelFault, LabelSet, Place, RawLabels, Word};
+use rw_test_parts::raw_labels;
+use rw_types::{LabelFault, LabelSet, Place, Word};
 use rw_worker::{StopFlag, Worker, WorkerReport};
 use std::alloc::Global;
 use std::cell::Cell;
@@ -29,9 +30,7 @@ struct Shown {
 }
 
 fn up(alloc: Global) -> Result<Arc<LabelSet>, LabelFault> {
-    let mut raw = RawLabels::new(alloc);
-    raw.push(b"__name__", b"up")?;
-    let labels = LabelSet::check(alloc, &raw)?;
+    let labels = LabelSet::check(alloc, &raw_labels(alloc, &[("__name__", "up")])?)?;
     match Arc::new(alloc, labels) {
         Ok(labels) => Ok(labels),
         Err(_) => Err(LabelFault::OutOfMemory),

@@ -9,8 +9,6 @@ mod broken;
 #[cfg(test)]
 mod changed;
 #[cfg(test)]
-mod devices;
-#[cfg(test)]
 mod line;
 #[cfg(test)]
 mod plain_body;

@@ -1,13 +1,16 @@
 //! A transport to a head in memory, over devices of which one call fails.
 
-use crate::devices::{Giving, Taking};
 use rw_endpoint::serve;
 use rw_head::{Head, Limits};
 use rw_tcp::ask;
+use rw_test_parts::{Giving, Taking};
 use rw_types::{Room, write_all};
 use rw_worker::{Lost, Pause, Reply, Transport};
 use std::alloc::Global;
 use std::cell::Cell;
+
+/// How many bytes one call gives or takes at most.
+const MOST: usize = 40;
 
 /// Carries each request and its reply over new readers and writers.
 #[derive(Drop)]
@@ -40,10 +43,10 @@ impl<'a> Line<'a> {
 
     /// Delivers a request to the head, and its reply to the sender, as far as no call fails.
     fn carry(&mut self, request: &[u8]) -> Result<Reply, Lost> {
-        let mut out = Taking::new(self.alloc, self.calls);
+        let mut out = Taking::new(self.alloc, MOST, self.calls);
         let is_sent = write_all(&mut out, request).is_ok();
-        let mut input = Giving::new(&out.taken, self.calls);
-        let mut replies = Taking::new(self.alloc, self.calls);
+        let mut input = Giving::new(&out.taken, MOST, self.calls);
+        let mut replies = Taking::new(self.alloc, MOST, self.calls);
         serve(
             self.alloc,
             &mut input,
@@ -57,7 +60,7 @@ impl<'a> Line<'a> {
         let Ok(mut sent) = Room::new(self.alloc, request.len()) else {
             return Err(Lost);
         };
-        let mut reader = Giving::new(&replies.taken, self.calls);
+        let mut reader = Giving::new(&replies.taken, MOST, self.calls);
         match ask(self.alloc, &mut reader, &mut sent, request) {
             Ok(reply) => Ok(reply),
             Err(_) => Err(Lost),

@@ -1,7 +1,6 @@
 //! The machine's program if memory runs out. A call for which memory runs out is repeated, so the
 //! test holds whichever allocation fails; `tools/refuse-each` lets each of them fail in turn.
 
-use crate::rows::none_is_wrong;
 use rw_head::Limits;
 use rw_machine::Event;
 use rw_replay::{Command, read_script};
@@ -14,6 +13,7 @@ use std::alloc::{AllocError, Global};
 /// How many shards there are and how many labels the receiver accepts, a schedule of which the
 /// first line is its log, the state after an orderly shutdown, and the bytes of the first requests.
 struct Row<'a> {
+    name: &'a str,
     shards: u64,
     labels: u64,
     script: &'a str,
@@ -26,8 +26,8 @@ const REQUEST: &[u8] =
     b"POST /api/v1/write HTTP/1.1\r\nHost: localhost:9090\r\nUser-Agent: rwship/1.0\r\nContent-Type: application/x-protobuf\r\nX-Prometheus-Remote-Write-Version: 0.1.0\r\nConnection: close\r\nContent-Length: 44\r\n\r\n\x0a\x2a\x0a\x0e\x0a\x08__name__\x12\x02up\x12\x0b\x09\x00\x00\x00\x00\x00\x00\xf0\x3f\x10\x0a\x12\x0b\x09\x00\x00\x00\x00\x00\x00\x00\x40\x10\x14";
 
 static ROWS: [Row<'static>; 5] = [
-    // Four series, the last two of one label set. A new epoch waits for the old shards.
     Row {
+        name: "a new epoch waits for the old shards, and two of four series are one",
         shards: 2,
         labels: 64,
         script: "feed 01001565cc629301000000000000000101085f5f6e616d655f5f016101001527ead9c801000000000000000201085f5f6e616d655f5f0162010015e55362ae01000000000000000301085f5f6e616d655f5f0163010015776dcb9501000000000000000401085f5f6e616d655f5f016301001b0c84b936020000000000000003000000000000000a00003ff000000000000001001ba46361f4020000000000000004000000000000001400004000000000000000
@@ -57,8 +57,8 @@ report complete 6
 "#,
         requests: &[],
     },
-    // Two series, of which the second has samples.
     Row {
+        name: "two series, of which the second has samples",
         shards: 2,
         labels: 64,
         script: "feed 01001565cc629301000000000000000101085f5f6e616d655f5f016101001527ead9c801000000000000000201085f5f6e616d655f5f016201001bb5bff5d1020000000000000002000000000000000a00003ff000000000000001001b3ccc50b5020000000000000002000000000000001400004000000000000000
@@ -86,8 +86,8 @@ report complete 4
 "#,
         requests: &[],
     },
-    // A lost reply.
     Row {
+        name: "a lost reply",
         shards: 1,
         labels: 64,
         script: "feed 010016391994f301000000000000000101085f5f6e616d655f5f02757001001b7b1e5609020000000000000001000000000000000a00003ff000000000000001001bf26df36d020000000000000001000000000000001400004000000000000000
@@ -110,8 +110,8 @@ report complete 3
 "#,
         requests: &[],
     },
-    // A batch that is refused for the labels of one of its samples.
     Row {
+        name: "a batch that is refused for the labels of one of its samples",
         shards: 1,
         labels: 1,
         script: "feed 01001565cc629301000000000000000101085f5f6e616d655f5f016101001beae7f10701000000000000000202085f5f6e616d655f5f0161036a6f62017801001b7b1e5609020000000000000001000000000000000a00003ff000000000000001001bb5bff5d1020000000000000002000000000000000a00003ff000000000000001001bf26df36d02000000000000000100000000000000140000400000000000000001001b3b71f281020000000000000001000000000000001e00004008000000000000
@@ -137,8 +137,8 @@ report complete 6
 "#,
         requests: &[],
     },
-    // Everything is left to the shutdown.
     Row {
+        name: "everything is left to the shutdown",
         shards: 1,
         labels: 64,
         script: "feed 010016391994f301000000000000000101085f5f6e616d655f5f02757001001b7b1e5609020000000000000001000000000000000a00003ff000000000000001001bf26df36d020000000000000001000000000000001400004000000000000000
@@ -154,6 +154,7 @@ report complete 3
 /// A late reply to an earlier batch whose reply was lost and whose request was sent again, and a
 /// kill: the shutdown then changes nothing.
 static SENT: Row<'static> = Row {
+    name: "a late reply and a kill",
     shards: 1,
     labels: 64,
     script: "feed 010016391994f301000000000000000101085f5f6e616d655f5f02757001001b7b1e5609020000000000000001000000000000000a00003ff000000000000001001bf26df36d02000000000000000100000000000000140000400000000000000001001b3b71f281020000000000000001000000000000001e00004008000000000000
@@ -331,10 +332,10 @@ fn rows() -> &'static [Row<'static>] {
 }
 
 /// Returns the first schedule that leads to another state.
-fn wrong_row(alloc: Global, rows: &[Row<'_>]) -> Option<usize> {
-    for (i, row) in rows.iter().enumerate() {
+fn wrong_row(alloc: Global, rows: &[Row<'static>]) -> Option<&'static str> {
+    for row in rows {
         if !is_gone_through(alloc, row) {
-            return Some(i);
+            return Some(row.name);
         }
     }
     None
@@ -342,7 +343,7 @@ fn wrong_row(alloc: Global, rows: &[Row<'_>]) -> Option<usize> {
 
 #[test]
 fn worlds_go_on(rt: HostRuntime) {
-    none_is_wrong(&rt, wrong_row(rt.alloc(), rows()));
+    assert_eq!(rt; wrong_row(rt.alloc(), rows()), None);
 }
 
 fn sent() -> &'static Row<'static> {

@@ -3,7 +3,7 @@
 
 use crate::changed::{Reader, wrong_byte};
 use crate::plain_reply::plain_reply;
-use crate::rows::none_is_wrong;
+use crate::rows::no_byte_is_wrong;
 use rw_shard_core::read_reply;
 
 /// One that comes after another head.
@@ -21,6 +21,6 @@ pub(crate) fn is_read(text: &[u8]) -> bool {
 
 #[test]
 fn each_byte_changed_and_cut(rt: HostRuntime) {
-    none_is_wrong(&rt, wrong_byte(Reader::Replies, rt.alloc(), CONTINUED));
-    none_is_wrong(&rt, wrong_byte(Reader::Replies, rt.alloc(), REFUSAL));
+    no_byte_is_wrong(&rt, wrong_byte(Reader::Replies, rt.alloc(), CONTINUED));
+    no_byte_is_wrong(&rt, wrong_byte(Reader::Replies, rt.alloc(), REFUSAL));
 }

@@ -1,8 +1,8 @@
-//! The assertion after most tables.
+//! The assertion about changed texts.
 
 use std::process::Abort;
 
-/// Stops at the first row of a table that is wrong, if there is one.
-pub(crate) fn none_is_wrong(rt: &impl Abort, row: Option<usize>) {
-    assert_eq!(rt; row, None);
+/// Stops at the first byte of a text that is read differently, if there is one.
+pub(crate) fn no_byte_is_wrong(rt: &impl Abort, byte: Option<usize>) {
+    assert_eq!(rt; byte, None);
 }

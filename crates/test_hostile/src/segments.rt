@@ -2,17 +2,14 @@
 
 use crate::changed::{Reader, wrong_byte};
 use crate::plain_segment::{Reading, plain_reading};
-use crate::rows::none_is_wrong;
+use crate::rows::no_byte_is_wrong;
+use rw_test_parts::UP_SEGMENT;
 use rw_types::Entry;
 use rw_wal_tail::{Tail, TailFault};
 use std::alloc::Global;
 
 /// The definition of reference 1 as `{__name__="up"}`, and a sample of it at 1000 with the value 1.
-static UP: [u8; 63] = [
-    1, 0, 22, 0x39, 0x19, 0x94, 0xf3, 1, 0, 0, 0, 0, 0, 0, 0, 1, 1, 8, 95, 95, 110, 97, 109, 101,
-    95, 95, 2, 117, 112, 1, 0, 27, 0x2c, 0x51, 0x4c, 0x07, 2, 0, 0, 0, 0, 0, 0, 0, 1, 0, 0, 0, 0,
-    0, 0, 0x03, 0xe8, 0, 0, 0x3f, 0xf0, 0, 0, 0, 0, 0, 0,
-];
+static UP: [u8; 63] = UP_SEGMENT;
 
 /// Returns whether this is the entry of the record of this number.
 fn is_known(entry: &Entry, number: usize) -> bool {
@@ -56,5 +53,5 @@ pub(crate) fn is_read(alloc: Global, page: &[u8]) -> bool {
 
 #[test]
 fn each_byte_changed_and_cut(rt: HostRuntime) {
-    none_is_wrong(&rt, wrong_byte(Reader::Segments, rt.alloc(), up()));
+    no_byte_is_wrong(&rt, wrong_byte(Reader::Segments, rt.alloc(), up()));
 }

@@ -1,37 +1,11 @@
 //! Readers and writers that fail.
 
 use crate::played::run;
+use rw_test_parts::Giving;
 use rw_text::ToolFault;
-use rw_types::{Failed, Source};
+use rw_types::Source;
 use std::alloc::Global;
-
-/// A reader that gives a text and then fails.
-#[derive(Drop)]
-struct Torn<'a> {
-    text: &'a [u8],
-    failed: bool,
-}
-
-impl<'a> Source for Torn<'a> {
-    ghost use Rattle.std.specs.Prelude.{None, false};
-
-    ghost remaining = { λ _. None };
-
-    ghost has_failed = { λ t. t.failed };
-
-    ghost is_sure = { λ _. false };
-
-    fn read(&mut self, buf: &mut [u8]) -> Result<usize, Failed> {
-        if self.failed || self.text.is_empty() {
-            self.failed = true;
-            return Err(Failed);
-        }
-        let count = self.text.len().min(buf.len());
-        buf[..count].copy_from_slice(&self.text[..count]);
-        self.text = &self.text[count..];
-        Ok(count)
-    }
-}
+use std::cell::Cell;
 
 /// Returns how much is written if a run ends with a device fault, or `None` if it does not.
 fn written_before_it_failed<S: Source>(
@@ -47,10 +21,8 @@ fn written_before_it_failed<S: Source>(
 
 #[test]
 fn a_reader_that_fails(rt: HostRuntime) {
-    let mut reader = Torn {
-        text: b"settle\n",
-        failed: false,
-    };
+    let second = Cell::new(2);
+    let mut reader = Giving::new(b"settle\n", 7, &second);
     assert!(rt; written_before_it_failed(rt.alloc(), &mut reader, 4096) == Some(0));
 }
 

@@ -1,7 +1,7 @@
 //! The schedules of docs/REPLAY.md.
 
 use crate::played::{Schedule, first_wrong};
-use crate::rows::none_leads_elsewhere;
+use crate::rows::none_is_wrong;
 
 const LOST_REPLY: Schedule<'_> = (
     "a lost reply",
@@ -146,7 +146,7 @@ fn names_rows() -> &'static [Schedule<'static>] {
 
 #[test]
 fn names_of_any_text(rt: HostRuntime) {
-    none_leads_elsewhere(&rt, first_wrong(rt.alloc(), names_rows()));
+    none_is_wrong(&rt, first_wrong(rt.alloc(), names_rows()));
 }
 
 fn rows() -> &'static [Schedule<'static>] {
@@ -155,5 +155,5 @@ fn rows() -> &'static [Schedule<'static>] {
 
 #[test]
 fn states(rt: HostRuntime) {
-    none_leads_elsewhere(&rt, first_wrong(rt.alloc(), rows()));
+    none_is_wrong(&rt, first_wrong(rt.alloc(), rows()));
 }

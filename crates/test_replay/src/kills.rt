@@ -1,7 +1,7 @@
 //! A kill after each line of a schedule.
 
 use crate::played::{plays, run};
-use crate::rows::none_is_wrong;
+use crate::rows::{no_number_is_wrong, none_is_wrong};
 use std::alloc::{AllocError, Global};
 
 /// Two samples are sent, the reply is lost, and they are sent again.
@@ -103,14 +103,20 @@ fn wrong_count(alloc: Global, lines: &[&str], goes_on: bool) -> Option<usize> {
 
 #[test]
 fn a_kill_anywhere(rt: HostRuntime) {
-    none_is_wrong(&rt, wrong_count(rt.alloc(), lines(), false));
-    none_is_wrong(&rt, wrong_count(rt.alloc(), lines(), true));
+    no_number_is_wrong(&rt, wrong_count(rt.alloc(), lines(), false));
+    no_number_is_wrong(&rt, wrong_count(rt.alloc(), lines(), true));
 }
 
-/// How many lines come before the kill, and the state then.
-static STATES: [(usize, &str); 3] = [(9, FROZEN), (11, ARRIVED), (15, RESOLVED)];
+/// A name, how many lines come before the kill, and the state then.
+type State = (&'static str, usize, &'static str);
 
-fn states() -> &'static [(usize, &'static str)] {
+static STATES: [State; 3] = [
+    ("a frozen batch", 9, FROZEN),
+    ("a stored batch", 11, ARRIVED),
+    ("a resolved batch", 15, RESOLVED),
+];
+
+fn states() -> &'static [State] {
     &STATES
 }
 
@@ -121,10 +127,10 @@ fn leads_to(alloc: Global, count: usize, state: &str) -> bool {
         && plays(alloc, "", &script, Ok(()), state.as_bytes())
 }
 
-fn wrong_state(alloc: Global, rows: &[(usize, &str)]) -> Option<usize> {
-    for (i, (count, state)) in rows.iter().enumerate() {
+fn wrong_state(alloc: Global, rows: &[State]) -> Option<&'static str> {
+    for (name, count, state) in rows {
         if !leads_to(alloc, *count, state) {
-            return Some(i);
+            return Some(name);
         }
     }
     None

@@ -6,53 +6,52 @@ use rw_text::ToolFault;
 use std::alloc::{AllocError, Global};
 
 /// Lines that are bad anywhere in a script.
-static BAD: [&[u8]; 46] = [
-    b" place",
-    b"place ",
-    b"place 0",
-    b"Place",
-    b"places",
-    b"place\r",
-    b"# place",
-    b"segment 1",
-    b"restart 2",
-    b"close now",
-    b"kill 0",
-    b"settle 0",
-    b"flush",
-    b"flush ",
-    b"flush  0",
-    b"flush 0 ",
-    b"flush -1",
-    b"flush +1",
-    b"flush x",
-    b"take 0x1",
-    b"take 18446744073709551616",
-    b"freeze 1.0",
-    b"send one",
-    b"reply",
-    b"lost 0 0",
-    b"reshard",
-    b"reshard -1",
-    b"arrive 0",
-    b"arrive 0 ",
-    b"arrive plain",
-    b"arrive 0 later",
-    b"arrive 0  plain",
-    b"arrive 0 plain ",
-    b"arrive plain 0",
-    b"arrive -1 busy",
-    b"feed",
-    b"feed 0",
-    b"feed 0A",
-    b"feed 00 00",
-    b"feed 0x00",
-    b"log",
-    b"log ",
-    b"log raw ",
-    b"log place",
-    b"log sample 1 1 9007199254740993",
-    b"log series 1 {a=\"\xff\"}",
+static BAD: [&str; 45] = [
+    " place",
+    "place ",
+    "place 0",
+    "Place",
+    "places",
+    "place\r",
+    "# place",
+    "segment 1",
+    "restart 2",
+    "close now",
+    "kill 0",
+    "settle 0",
+    "flush",
+    "flush ",
+    "flush  0",
+    "flush 0 ",
+    "flush -1",
+    "flush +1",
+    "flush x",
+    "take 0x1",
+    "take 18446744073709551616",
+    "freeze 1.0",
+    "send one",
+    "reply",
+    "lost 0 0",
+    "reshard",
+    "reshard -1",
+    "arrive 0",
+    "arrive 0 ",
+    "arrive plain",
+    "arrive 0 later",
+    "arrive 0  plain",
+    "arrive 0 plain ",
+    "arrive plain 0",
+    "arrive -1 busy",
+    "feed",
+    "feed 0",
+    "feed 0A",
+    "feed 00 00",
+    "feed 0x00",
+    "log",
+    "log ",
+    "log raw ",
+    "log place",
+    "log sample 1 1 9007199254740993",
 ];
 
 /// Puts a script whose fourth line is this one.
@@ -62,7 +61,7 @@ fn put_script(script: &mut Vec<u8>, line: &[u8]) -> Result<(), AllocError> {
     script.extend_from_slice(b"\nplace\nno line\n")
 }
 
-fn bad() -> &'static [&'static [u8]] {
+fn bad() -> &'static [&'static str] {
     &BAD
 }
 
@@ -72,10 +71,10 @@ fn is_refused(alloc: Global, line: &[u8]) -> bool {
     put_script(&mut script, line).is_ok() && plays(alloc, "", &script, Err(ToolFault::Line(4)), b"")
 }
 
-fn wrong_line(alloc: Global, lines: &[&[u8]]) -> Option<usize> {
-    for (i, line) in lines.iter().enumerate() {
-        if !is_refused(alloc, line) {
-            return Some(i);
+fn wrong_line(alloc: Global, lines: &[&'static str]) -> Option<&'static str> {
+    for line in lines {
+        if !is_refused(alloc, line.as_bytes()) {
+            return Some(line);
         }
     }
     None
@@ -84,6 +83,7 @@ fn wrong_line(alloc: Global, lines: &[&[u8]]) -> Option<usize> {
 #[test]
 fn bad_lines(rt: HostRuntime) {
     none_is_wrong(&rt, wrong_line(rt.alloc(), bad()));
+    assert!(rt; is_refused(rt.alloc(), b"log series 1 {a=\"\xff\"}"));
 }
 
 /// Scripts in which the log grows in both ways, and the line that makes them so.
@@ -100,11 +100,11 @@ fn mixed() -> &'static [(&'static str, u64)] {
     &MIXED
 }
 
-fn wrong_mixed(alloc: Global, rows: &[(&str, u64)]) -> Option<usize> {
-    for (i, (script, number)) in rows.iter().enumerate() {
+fn wrong_mixed(alloc: Global, rows: &[(&'static str, u64)]) -> Option<&'static str> {
+    for (script, number) in rows {
         let fault = ToolFault::Line(*number);
         if !plays(alloc, "", script.as_bytes(), Err(fault), b"") {
-            return Some(i);
+            return Some(script);
         }
     }
     None
@@ -130,10 +130,10 @@ fn odd() -> &'static [&'static str] {
     &ODD
 }
 
-fn wrong_odd(alloc: Global, scripts: &[&str]) -> Option<usize> {
-    for (i, script) in scripts.iter().enumerate() {
+fn wrong_odd(alloc: Global, scripts: &[&'static str]) -> Option<&'static str> {
+    for script in scripts {
         if !plays(alloc, "", script.as_bytes(), Ok(()), NOTHING) {
-            return Some(i);
+            return Some(script);
         }
     }
     None

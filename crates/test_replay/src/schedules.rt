@@ -1,7 +1,7 @@
 //! Schedules and the states that they lead to.
 
 use crate::played::{Schedule, first_wrong};
-use crate::rows::none_leads_elsewhere;
+use crate::rows::none_is_wrong;
 
 static ROWS: [Schedule<'static>; 20] = [
     (
@@ -391,5 +391,5 @@ fn rows() -> &'static [Schedule<'static>] {
 
 #[test]
 fn states(rt: HostRuntime) {
-    none_leads_elsewhere(&rt, first_wrong(rt.alloc(), rows()));
+    none_is_wrong(&rt, first_wrong(rt.alloc(), rows()));
 }

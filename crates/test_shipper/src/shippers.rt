@@ -554,16 +554,16 @@ const LARGE: &[Call<'static>] = &[Feed(&LONG, &[(1, 10, ONE), (2, 10, ONE), (3, 
 
 /// What is called, how many entries that places, how many bytes a batch may take, and how many each
 /// body takes.
-static LIMITED: [(&[Call<'static>], u64, Option<u64>, &[usize]); 9] = [
-    (SHORT, 3, None, &[44]),
-    (SHORT, 3, Some(62), &[44]),
-    (SHORT, 3, Some(61), &[31, 31]),
-    (SHORT, 3, Some(1), &[31, 31]),
-    (LARGE, 6, None, &[696]),
-    (LARGE, 6, Some(696), &[696]),
-    (LARGE, 6, Some(695), &[464, 232]),
-    (LARGE, 6, Some(463), &[232, 232, 232]),
-    (LARGE, 6, Some(1), &[232, 232, 232]),
+static LIMITED: [(&str, &[Call<'static>], u64, Option<u64>, &[usize]); 9] = [
+    ("no limit", SHORT, 3, None, &[44]),
+    ("both samples", SHORT, 3, Some(62), &[44]),
+    ("a byte less than both", SHORT, 3, Some(61), &[31, 31]),
+    ("a byte", SHORT, 3, Some(1), &[31, 31]),
+    ("large, no limit", LARGE, 6, None, &[696]),
+    ("large, all three", LARGE, 6, Some(696), &[696]),
+    ("large, all less one", LARGE, 6, Some(695), &[464, 232]),
+    ("large, two less one", LARGE, 6, Some(463), &[232, 232, 232]),
+    ("large, a byte", LARGE, 6, Some(1), &[232, 232, 232]),
 ];
 
 /// Returns how many bytes are after the empty line of a request.
@@ -607,9 +607,12 @@ fn sends_in<R: Threads + Wait + Copy + Send + 'static>(
     }
 }
 
-/// Returns the number of the first limit at which not everything is sent as it says.
-fn wrong_limit<R: Threads + Wait + Copy + Send + 'static>(rt: &R, alloc: Global) -> Option<usize> {
-    for (i, (calls, placed, limit, lens)) in LIMITED.iter().enumerate() {
+/// Returns the first limit at which not everything is sent as it says.
+fn wrong_limit<R: Threads + Wait + Copy + Send + 'static>(
+    rt: &R,
+    alloc: Global,
+) -> Option<&'static str> {
+    for (name, calls, placed, limit, lens) in &LIMITED {
         let task = Task {
             shards: 1,
             batch: 2_000,
@@ -618,7 +621,7 @@ fn wrong_limit<R: Threads + Wait + Copy + Send + 'static>(rt: &R, alloc: Global)
             limit: *limit,
         };
         if !sends_in(rt, alloc, &task, *placed, lens) {
-            return Some(i);
+            return Some(name);
         }
     }
     None

@@ -3,6 +3,7 @@
 
 use crate::rows::none_is_wrong;
 use Row::{Body, Bytes, Fault, Spaced};
+use ToolFault::{Line, Log};
 use rw_log_commands::run_body;
 use rw_text::{ToolFault, read_digits};
 use rw_types::Room;
@@ -53,36 +54,36 @@ fn writes(
     ended == outcome && writer.as_slice() == output
 }
 
-/// What a row says.
+/// A name, and what a row says.
 enum Row {
     /// A segment, and the body of its samples.
-    Body(&'static str, &'static str),
+    Body(&'static str, &'static str, &'static str),
     /// A text, and its fault.
-    Fault(&'static str, ToolFault),
+    Fault(&'static str, &'static str, ToolFault),
     /// A segment whose bytes have this fault.
-    Bytes(&'static str, ToolFault),
+    Bytes(&'static str, &'static str, ToolFault),
     /// The text of a segment without samples.
-    Spaced(&'static str),
+    Spaced(&'static str, &'static str),
 }
 
 static ROWS: [Row; 17] = [
-    Body(UP_SEGMENT, UP),
-    Body(A_AND_B_SEGMENT, A_AND_B),
-    Body(REDEFINED_SEGMENT, A_AND_B),
-    Body(LEFT_OUT_SEGMENT, ONE_OF_A),
-    Body("010001b34623a602", ""),
-    Body("", ""),
-    Spaced(" 01\t0001\r\nb3 4623\n\na602\n"),
-    Fault(CHANGED_SEGMENT, ToolFault::Log(TailFault::BadCrc)),
-    Fault("ff", ToolFault::Log(TailFault::BadType)),
-    Fault("08", ToolFault::Log(TailFault::Compressed)),
-    Fault("0g", ToolFault::Line(1)),
-    Fault("0A", ToolFault::Line(1)),
-    Fault("ff\n\n0 x", ToolFault::Line(3)),
-    Fault("0\r0\n0\n", ToolFault::Line(2)),
-    Fault("0\n\n \n", ToolFault::Line(1)),
-    Fault("0\n\n,", ToolFault::Line(3)),
-    Bytes(CHANGED_SEGMENT, ToolFault::Log(TailFault::BadCrc)),
+    Body("one sample", UP_SEGMENT, UP),
+    Body("two series", A_AND_B_SEGMENT, A_AND_B),
+    Body("reused references", REDEFINED_SEGMENT, A_AND_B),
+    Body("bad labels", LEFT_OUT_SEGMENT, ONE_OF_A),
+    Body("another record", "010001b34623a602", ""),
+    Body("nothing", "", ""),
+    Spaced("spaces", " 01\t0001\r\nb3 4623\n\na602\n"),
+    Fault("a changed byte", CHANGED_SEGMENT, Log(TailFault::BadCrc)),
+    Fault("a bad type", "ff", Log(TailFault::BadType)),
+    Fault("compressed", "08", Log(TailFault::Compressed)),
+    Fault("a bad digit", "0g", Line(1)),
+    Fault("a capital digit", "0A", Line(1)),
+    Fault("a bad digit in line 3", "ff\n\n0 x", Line(3)),
+    Fault("half a digit in line 2", "0\r0\n0\n", Line(2)),
+    Fault("half a digit in line 1", "0\n\n \n", Line(1)),
+    Fault("a comma", "0\n\n,", Line(3)),
+    Bytes("changed bytes", CHANGED_SEGMENT, Log(TailFault::BadCrc)),
 ];
 
 /// Returns whether the text of a segment gives the text of the body, and a newline.
@@ -111,12 +112,12 @@ fn writes_bytes_of(alloc: Global, segment: &str, body: &str) -> bool {
 
 fn is_so(alloc: Global, row: &Row) -> bool {
     match row {
-        Body(segment, body) => {
+        Body(_, segment, body) => {
             writes_text(alloc, segment, body) && writes_bytes_of(alloc, segment, body)
         }
-        Fault(text, fault) => writes(alloc, text.as_bytes(), true, Err(*fault), b""),
-        Bytes(segment, fault) => writes_bytes(alloc, segment, Err(*fault), b""),
-        Spaced(text) => writes(alloc, text.as_bytes(), true, Ok(()), b"\n"),
+        Fault(_, text, fault) => writes(alloc, text.as_bytes(), true, Err(*fault), b""),
+        Bytes(_, segment, fault) => writes_bytes(alloc, segment, Err(*fault), b""),
+        Spaced(_, text) => writes(alloc, text.as_bytes(), true, Ok(()), b"\n"),
     }
 }
 
@@ -124,10 +125,11 @@ fn rows() -> &'static [Row] {
     &ROWS
 }
 
-fn wrong_row(alloc: Global, rows: &[Row]) -> Option<usize> {
-    for (i, row) in rows.iter().enumerate() {
+fn wrong_row(alloc: Global, rows: &[Row]) -> Option<&'static str> {
+    for row in rows {
         if !is_so(alloc, row) {
-            return Some(i);
+            let (Body(name, ..) | Fault(name, ..) | Bytes(name, ..) | Spaced(name, ..)) = row;
+            return Some(name);
         }
     }
     None

@@ -1,11 +1,13 @@
 //! The command `log`. Records are written out in hexadecimal, field by field.
 
-use crate::rows::none_is_wrong;
+use crate::rows::{holds, no_number_is_wrong, none_is_wrong};
 use Row::{Bad, Good, Segment};
 use rw_log_commands::{run_log, run_log_dir};
+use rw_test_parts::Taking;
 use rw_text::ToolFault;
-use rw_types::{Failed, Room, Sink};
+use rw_types::Room;
 use std::alloc::{AllocError, Global};
+use std::cell::Cell;
 use std::path::PathBuf;
 use std::test::Fail;
 use std::{env, fs, process};
@@ -32,13 +34,13 @@ enum Row {
     /// A line of log text, and the record that it stands for.
     Good(&'static str, &'static str),
     /// A line that is not log text.
-    Bad(&'static [u8]),
-    /// The lengths of `raw` lines, what follows them, the pages of a segment, the fault, and how
-    /// many bytes are written.
-    Segment(&'static [usize], &'static str, usize, Option<ToolFault>, usize),
+    Bad(&'static str),
+    /// A name, the lengths of `raw` lines, what follows them, the pages of a segment, the fault,
+    /// and how many bytes are written.
+    Segment(&'static str, &'static [usize], &'static str, usize, Option<ToolFault>, usize),
 }
 
-static ROWS: [Row; 68] = [
+static ROWS: [Row; 67] = [
     Good(
         r#"series 1 {__name__="up"}"#,
         "01 0000000000000001 01 08 5f5f6e616d655f5f 02 7570",
@@ -83,60 +85,73 @@ static ROWS: [Row; 68] = [
     ),
     Good("raw 03", "03"),
     Good("raw 01000000ff", "01 00 00 00 ff"),
-    Bad(b" sample 1 1 1"),
-    Bad(b"sample  1 1 1"),
-    Bad(b"sample 1  1 1"),
-    Bad(b"sample 1 1  1"),
-    Bad(b"sample 1 1 1 "),
-    Bad(b"sample 1 1 1\r"),
-    Bad(b"sample\t1 1 1"),
-    Bad(b"sample 1 1"),
-    Bad(b"sample 1 1 1 1"),
-    Bad(b"Sample 1 1 1"),
-    Bad(b"sample +1 1 1"),
-    Bad(b"sample -1 1 1"),
-    Bad(b"sample 18446744073709551616 1 1"),
-    Bad(b"sample 1 +1 1"),
-    Bad(b"sample 1 - 1"),
-    Bad(b"sample 1 9223372036854775808 1"),
-    Bad(b"sample 1 -9223372036854775809 1"),
-    Bad(b"sample 1 1 +1"),
-    Bad(b"sample 1 1 9007199254740993"),
-    Bad(b"sample 1 1 -9007199254740993"),
-    Bad(b"sample 1 1 1.5"),
-    Bad(b"sample 1 1 1e3"),
-    Bad(b"sample 1 1 0x3FF0000000000000"),
-    Bad(b"sample 1 1 0X3ff0000000000000"),
-    Bad(b"sample 1 1 0x3ff000000000000"),
-    Bad(b"sample 1 1 0x3ff00000000000000"),
-    Bad(b"sample 1 1 -0x3ff0000000000000"),
-    Bad(b"raw"),
-    Bad(b"raw "),
-    Bad(b"raw 0"),
-    Bad(b"raw 0A"),
-    Bad(b"raw 0a 0b"),
-    Bad(b"raw 0x0a"),
-    Bad(b"series 1"),
-    Bad(b"series 1 {"),
-    Bad(b"series 1 {}}"),
-    Bad(b"series 1 {a=\"1\""),
-    Bad(b"series 1 {a=\"1\",}"),
-    Bad(b"series 1 {a=\"1\", b=\"2\"}"),
-    Bad(b"series 1 {a=1}"),
-    Bad(b"series 1 {a=\"\\t\"}"),
-    Bad(b"series 1 {a=\"\\\"}"),
-    Bad(b"series 1 {\"a\"=\"1\"}"),
-    Bad(b"series 1 {a-b=\"1\"}"),
-    Bad(b"series 1 {=\"1\"}"),
-    Bad(b"series 1 {a=\"\xff\"}"),
-    Segment(&[], "", 1, None, 0),
-    Segment(&[], "\n\n", 1, None, 0),
-    Segment(&[32_761], "", 1, None, 32_768),
-    Segment(&[32_754], "raw 02", 2, None, 32_776),
-    Segment(&[32_762], "", 1, FULL, 0),
-    Segment(&[32_762], "raw 0\n", 1, Some(ToolFault::Line(2)), 0),
-    Segment(&[65_522], "", 2, None, 65_536),
-    Segment(&[65_523], "", 2, FULL, 0),
+    Bad(" sample 1 1 1"),
+    Bad("sample  1 1 1"),
+    Bad("sample 1  1 1"),
+    Bad("sample 1 1  1"),
+    Bad("sample 1 1 1 "),
+    Bad("sample 1 1 1\r"),
+    Bad("sample\t1 1 1"),
+    Bad("sample 1 1"),
+    Bad("sample 1 1 1 1"),
+    Bad("Sample 1 1 1"),
+    Bad("sample +1 1 1"),
+    Bad("sample -1 1 1"),
+    Bad("sample 18446744073709551616 1 1"),
+    Bad("sample 1 +1 1"),
+    Bad("sample 1 - 1"),
+    Bad("sample 1 9223372036854775808 1"),
+    Bad("sample 1 -9223372036854775809 1"),
+    Bad("sample 1 1 +1"),
+    Bad("sample 1 1 9007199254740993"),
+    Bad("sample 1 1 -9007199254740993"),
+    Bad("sample 1 1 1.5"),
+    Bad("sample 1 1 1e3"),
+    Bad("sample 1 1 0x3FF0000000000000"),
+    Bad("sample 1 1 0X3ff0000000000000"),
+    Bad("sample 1 1 0x3ff000000000000"),
+    Bad("sample 1 1 0x3ff00000000000000"),
+    Bad("sample 1 1 -0x3ff0000000000000"),
+    Bad("raw"),
+    Bad("raw "),
+    Bad("raw 0"),
+    Bad("raw 0A"),
+    Bad("raw 0a 0b"),
+    Bad("raw 0x0a"),
+    Bad("series 1"),
+    Bad("series 1 {"),
+    Bad("series 1 {}}"),
+    Bad("series 1 {a=\"1\""),
+    Bad("series 1 {a=\"1\",}"),
+    Bad("series 1 {a=\"1\", b=\"2\"}"),
+    Bad("series 1 {a=1}"),
+    Bad("series 1 {a=\"\\t\"}"),
+    Bad("series 1 {a=\"\\\"}"),
+    Bad("series 1 {\"a\"=\"1\"}"),
+    Bad("series 1 {a-b=\"1\"}"),
+    Bad("series 1 {=\"1\"}"),
+    Segment("no lines", &[], "", 1, None, 0),
+    Segment("empty lines", &[], "\n\n", 1, None, 0),
+    Segment("a full page", &[32_761], "", 1, None, 32_768),
+    Segment(
+        "a fragment without data",
+        &[32_754],
+        "raw 02",
+        2,
+        None,
+        32_776,
+    ),
+    Segment("a byte too much", &[32_762], "", 1, FULL, 0),
+    Segment(
+        "a bad line after it",
+        &[32_762],
+        "raw 0\n",
+        1,
+        Some(ToolFault::Line(2)),
+        0,
+    ),
+    Segment("two full pages", &[65_522], "", 2, None, 65_536),
+    Segment("a byte more than those", &[65_523], "", 2, FULL, 0),
 ];
 
 /// Returns whether a text is this one without its blanks.
@@ -234,8 +249,8 @@ fn is_segment(
 fn is_so(alloc: Global, row: &Row) -> bool {
     match row {
         Good(line, rec) => stands_for(alloc, line, rec),
-        Bad(line) => is_refused(alloc, line),
-        Segment(lens, last, pages, wanted, len) => {
+        Bad(line) => is_refused(alloc, line.as_bytes()),
+        Segment(_, lens, last, pages, wanted, len) => {
             is_segment(alloc, lens, last, *pages, *wanted, *len)
         }
     }
@@ -245,10 +260,12 @@ fn rows() -> &'static [Row] {
     &ROWS
 }
 
-fn wrong_row(alloc: Global, rows: &[Row]) -> Option<usize> {
-    for (i, row) in rows.iter().enumerate() {
+/// Returns the line or the name of the first row that is wrong.
+fn wrong_row(alloc: Global, rows: &[Row]) -> Option<&'static str> {
+    for row in rows {
         if !is_so(alloc, row) {
-            return Some(i);
+            let (Good(name, _) | Bad(name) | Segment(name, ..)) = row;
+            return Some(name);
         }
     }
     None
@@ -257,47 +274,15 @@ fn wrong_row(alloc: Global, rows: &[Row]) -> Option<usize> {
 #[test]
 fn lines_and_segments(rt: HostRuntime) {
     none_is_wrong(&rt, wrong_row(rt.alloc(), rows()));
-}
-
-/// Takes a byte at each write, and fails at one of them and then permanently.
-#[derive(Drop)]
-struct ByteByByte {
-    taken: Vec<u8>,
-    left: usize,
-    failed: bool,
-}
-
-impl Sink for ByteByByte {
-    ghost use Rattle.std.specs.Prelude.{None};
-
-    ghost contents = { λ _. None };
-
-    ghost has_failed = { λ s. s.failed };
-
-    ghost room = { λ _. 0 };
-
-    fn write(&mut self, bytes: &[u8]) -> Result<usize, Failed> {
-        if bytes.is_empty() && !self.failed {
-            return Ok(0);
-        }
-        if self.failed || self.left == 0 || self.taken.extend_from_slice(&bytes[..1]).is_err() {
-            self.failed = true;
-            return Err(Failed);
-        }
-        self.left -= 1;
-        Ok(1)
-    }
+    holds(&rt, is_refused(rt.alloc(), b"series 1 {a=\"\xff\"}"));
 }
 
 /// Returns whether a writer that takes `left` bytes has them, and the run fails if there are more.
 fn fails_after(alloc: Global, left: usize) -> bool {
     let whole = b"010001b34623a602010001b34623a602\n";
     let mut reader = b"raw 02\nraw 02".as_slice();
-    let mut writer = ByteByByte {
-        taken: Vec::new(alloc),
-        left,
-        failed: false,
-    };
+    let writes = Cell::new(left.saturating_add(1));
+    let mut writer = Taking::new(alloc, 1, &writes);
     let ended = run_log(alloc, &mut reader, &mut writer, true, 1);
     let outcome = if left < 33 {
         Err(ToolFault::Device)
@@ -321,7 +306,7 @@ fn wrong_writer(alloc: Global) -> Option<usize> {
 
 #[test]
 fn fails_with_its_writer(rt: HostRuntime) {
-    none_is_wrong(&rt, wrong_writer(rt.alloc()));
+    no_number_is_wrong(&rt, wrong_writer(rt.alloc()));
 }
 
 /// Returns the length of a file, if there is one.
@@ -357,16 +342,24 @@ fn logs_into(
 
 /// Lengths of `raw` lines, the pages of a segment, the fault, and then the lengths of the first
 /// three files of the folder.
-static FOLDERS: [(&[usize], usize, Option<ToolFault>, [Option<usize>; 3]); 4] = [
-    (&[], 1, None, [Some(0), None, None]),
+static FOLDERS: [(&str, &[usize], usize, Option<ToolFault>, [Option<usize>; 3]); 4] = [
+    ("no lines", &[], 1, None, [Some(0), None, None]),
     (
+        "three segments",
         &[32_760, 32_754, 1],
         1,
         None,
         [Some(32_768), Some(32_761), Some(8)],
     ),
-    (&[1, 32_762], 1, FULL, [Some(32_768), Some(32_761), Some(8)]),
     (
+        "a record that is too long",
+        &[1, 32_762],
+        1,
+        FULL,
+        [Some(32_768), Some(32_761), Some(8)],
+    ),
+    (
+        "larger segments",
         &[32_760, 32_754, 1],
         3,
         None,
@@ -380,10 +373,10 @@ fn has_files(rt: &HostRuntime, dir: &str, lens: [Option<usize>; 3]) -> bool {
 }
 
 /// Returns the first row after which the folder has other files, or another fault.
-fn wrong_folder(rt: &HostRuntime, dir: &str) -> Option<usize> {
-    for (i, (lens, pages, wanted, files)) in FOLDERS.iter().enumerate() {
+fn wrong_folder(rt: &HostRuntime, dir: &str) -> Option<&'static str> {
+    for (name, lens, pages, wanted, files) in &FOLDERS {
         if !logs_into(rt, dir, lens, *pages, *wanted) || !has_files(rt, dir, *files) {
-            return Some(i);
+            return Some(name);
         }
     }
     None
@@ -397,7 +390,7 @@ fn new_folder(rt: &HostRuntime) -> Result<PathBuf, Fail> {
 }
 
 /// Nothing can be logged into a folder that does not exist. The folder is then made, and removed.
-fn wrong_in_new(rt: &HostRuntime, dir: &str) -> Option<usize> {
+fn wrong_in_new(rt: &HostRuntime, dir: &str) -> Option<&'static str> {
     let is_missing = logs_into(rt, dir, &[1], 1, Some(ToolFault::Device));
     let is_made = fs::create_dir(rt, dir).is_ok();
     let wrong = wrong_folder(rt, dir);
@@ -405,7 +398,7 @@ fn wrong_in_new(rt: &HostRuntime, dir: &str) -> Option<usize> {
     if is_missing && is_made && is_removed {
         wrong
     } else {
-        Some(FOLDERS.len())
+        Some("the folder")
     }
 }
 

@@ -6,24 +6,23 @@ use std::alloc::{AllocError, Global};
 use std::test::Fail;
 
 /// A line, and how the note on it begins; nothing if it is well-formed.
-type Row = (&'static [u8], Option<&'static str>);
+type Row = (&'static str, Option<&'static str>);
 
-static LOG_LINES: [Row; 8] = [
-    (b"sample 1 1000 1", None),
-    (b"sample x 1000 1", Some("REF is no")),
-    (b"sample 1 1s 1", Some("T is no")),
-    (b"sample 1 1000 1.5", Some("VALUE is")),
-    (b"series 1 {a=1}", Some("LABELS are")),
-    (b"raw 0", Some("HEX is")),
-    (b"hello", Some("a line is")),
-    (b"raw \xff", Some("the line is not UTF-8")),
+static LOG_LINES: [Row; 7] = [
+    ("sample 1 1000 1", None),
+    ("sample x 1000 1", Some("REF is no")),
+    ("sample 1 1s 1", Some("T is no")),
+    ("sample 1 1000 1.5", Some("VALUE is")),
+    ("series 1 {a=1}", Some("LABELS are")),
+    ("raw 0", Some("HEX is")),
+    ("hello", Some("a line is")),
 ];
 
 static SCRIPT_LINES: [Row; 4] = [
-    (b"settle", None),
-    (b"flush x", Some("behind the word")),
-    (b"log sample 1 1s 1", Some("T is no")),
-    (b"wait", Some("no event begins")),
+    ("settle", None),
+    ("flush x", Some("behind the word")),
+    ("log sample 1 1s 1", Some("T is no")),
+    ("wait", Some("no event begins")),
 ];
 
 /// Returns whether the note is as wanted.
@@ -35,16 +34,16 @@ fn is_said(note: Option<&str>, wanted: Option<&str>) -> bool {
     }
 }
 
-/// Returns the first row with another note, counted over both tables.
-fn wrong_note(alloc: Global) -> Result<Option<usize>, AllocError> {
-    for (i, (line, wanted)) in LOG_LINES.iter().enumerate() {
-        if !is_said(log_line_note(alloc, line)?, *wanted) {
-            return Ok(Some(i));
+/// Returns the first line with another note.
+fn wrong_note(alloc: Global) -> Result<Option<&'static str>, AllocError> {
+    for (line, wanted) in &LOG_LINES {
+        if !is_said(log_line_note(alloc, line.as_bytes())?, *wanted) {
+            return Ok(Some(line));
         }
     }
-    for (i, (line, wanted)) in SCRIPT_LINES.iter().enumerate() {
-        if !is_said(script_line_note(alloc, line)?, *wanted) {
-            return Ok(Some(LOG_LINES.len() + i));
+    for (line, wanted) in &SCRIPT_LINES {
+        if !is_said(script_line_note(alloc, line.as_bytes())?, *wanted) {
+            return Ok(Some(line));
         }
     }
     Ok(None)
@@ -53,6 +52,8 @@ fn wrong_note(alloc: Global) -> Result<Option<usize>, AllocError> {
 #[test]
 fn notes_on_lines(rt: HostRuntime) -> Result<(), Fail> {
     none_is_wrong(&rt, wrong_note(rt.alloc())?);
+    let not_utf8 = log_line_note(rt.alloc(), b"raw \xff")?;
+    holds(&rt, is_said(not_utf8, Some("the line is not UTF-8")));
     let second = numbered_line(b"a\n\tb\nc", 2).unwrap_or(b"");
     holds(&rt, shown_line(rt.alloc(), second)?.as_str() == "?b");
     Ok(())

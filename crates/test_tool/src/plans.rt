@@ -131,34 +131,61 @@ enum Input {
 
 use Input::{Damaged, Digits, Log};
 
-/// Settings, an input, how the run over it ends, and what it writes.
-type Row = (&'static [u8], Input, Result<(), ToolFault>, &'static str);
+/// A name, settings, an input, how the run over it ends, and what it writes.
+type Row = (
+    &'static str,
+    &'static [u8],
+    Input,
+    Result<(), ToolFault>,
+    &'static str,
+);
 
 static ROWS: [Row; 9] = [
-    (RULES, Log(FIVE), Ok(()), PLAN_OF_FIVE),
+    ("five series", RULES, Log(FIVE), Ok(()), PLAN_OF_FIVE),
     (
+        "a damaged segment",
         RULES,
         Damaged(FIVE),
         Err(ToolFault::Log(TailFault::BadCrc)),
         "",
     ),
-    (RULES, Log(REDEFINED), Ok(()), PLAN_OF_REDEFINED),
-    (b"", Log(NAMES), Ok(()), LEGACY_PLAN),
-    (b"[send]\nnames = 'legacy'", Log(NAMES), Ok(()), LEGACY_PLAN),
+    ("renamed", RULES, Log(REDEFINED), Ok(()), PLAN_OF_REDEFINED),
+    ("no settings", b"", Log(NAMES), Ok(()), LEGACY_PLAN),
     (
+        "legacy names",
+        b"[send]\nnames = 'legacy'",
+        Log(NAMES),
+        Ok(()),
+        LEGACY_PLAN,
+    ),
+    (
+        "names for a receiver",
         b"[receive]\nnames = 'utf8'",
         Log(NAMES),
         Ok(()),
         LEGACY_PLAN,
     ),
-    (b"[send]\nnames = 'utf8'", Log(NAMES), Ok(()), UTF8_PLAN),
     (
+        "any names",
+        b"[send]\nnames = 'utf8'",
+        Log(NAMES),
+        Ok(()),
+        UTF8_PLAN,
+    ),
+    (
+        "digits",
         b"",
         Digits(b"0100 01b3\n4623a6 02\n"),
         Ok(()),
         "samples kept 0 filtered 0 bad 0 noseries 0\n",
     ),
-    (b"", Digits(b"01\n0g"), Err(ToolFault::Line(2)), ""),
+    (
+        "a bad digit",
+        b"",
+        Digits(b"01\n0g"),
+        Err(ToolFault::Line(2)),
+        "",
+    ),
 ];
 
 /// Returns the segment of log text with another last byte.
@@ -171,7 +198,7 @@ fn damaged_segment_of(alloc: Global, log: &str) -> Vec<u8> {
 }
 
 fn is_so(alloc: Global, row: &Row) -> bool {
-    let (settings, input, outcome, plan) = row;
+    let (_, settings, input, outcome, plan) = row;
     match input {
         Log(log) => {
             let segment = segment_of(alloc, log);
@@ -189,10 +216,10 @@ fn rows() -> &'static [Row] {
     &ROWS
 }
 
-fn wrong_row(alloc: Global, rows: &[Row]) -> Option<usize> {
-    for (i, row) in rows.iter().enumerate() {
+fn wrong_row(alloc: Global, rows: &[Row]) -> Option<&'static str> {
+    for row in rows {
         if !is_so(alloc, row) {
-            return Some(i);
+            return Some(row.0);
         }
     }
     None

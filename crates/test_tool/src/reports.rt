@@ -3,7 +3,8 @@
 use crate::rows::holds;
 use rw_inspect::{Named, Report, find_entries, inspect, json_of, plan_segments, table_of};
 use rw_relabel::Choice;
-use rw_types::{RawLabels, ReadFault, Room, Word};
+use rw_test_parts::raw_labels;
+use rw_types::{ReadFault, Room, Word};
 use rw_wal_tail::TailFault;
 use rw_wal_write::{SegmentWriter, sample_record, series_record};
 use std::alloc::{AllocError, Global};
@@ -19,9 +20,7 @@ enum Logged {
 fn record_of(alloc: Global, logged: Logged) -> Result<Vec<u8>, AllocError> {
     match logged {
         Logged::Def(reference, name, value) => {
-            let mut labels = RawLabels::new(alloc);
-            labels.push(name.as_bytes(), value.as_bytes())?;
-            series_record(alloc, reference, &labels)
+            series_record(alloc, reference, &raw_labels(alloc, &[(name, value)])?)
         }
         Logged::Sample(reference, t) => sample_record(alloc, &[(reference, t, Word(0))]),
     }

@@ -2,14 +2,14 @@
 
 use std::process::Abort;
 
-/// Stops at the first row of a table that is wrong, if there is one.
-pub(crate) fn none_is_wrong(rt: &impl Abort, row: Option<usize>) {
+/// Stops at the first row of a table that is wrong, by its name, if there is one.
+pub(crate) fn none_is_wrong(rt: &impl Abort, row: Option<&'static str>) {
     assert_eq!(rt; row, None);
 }
 
-/// Stops at the first row that is wrong, by its name.
-pub(crate) fn none_differs(rt: &impl Abort, name: Option<&'static str>) {
-    assert_eq!(rt; name, None);
+/// Stops at the first number for which something is wrong, if there is one.
+pub(crate) fn no_number_is_wrong(rt: &impl Abort, number: Option<usize>) {
+    assert_eq!(rt; number, None);
 }
 
 /// Stops if something does not hold.

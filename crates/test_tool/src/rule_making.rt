@@ -1,7 +1,8 @@
 //! Rules and labels from texts.
 
 use rw_relabel::{Action, Rule, RuleFault, Rules};
-use rw_types::{LabelFault, LabelSet, Names, RawLabels};
+use rw_test_parts::raw_labels;
+use rw_types::{LabelFault, LabelSet, Names};
 use std::alloc::{AllocError, Global};
 
 /// Source labels, separator and pattern.
@@ -44,31 +45,14 @@ pub(crate) fn rules(alloc: Global, configs: &[(Action, Config<'_>)]) -> Result<R
     }
 }
 
-/// Adds labels.
-pub(crate) fn put_labels(raw: &mut RawLabels, labels: &[(&str, &str)]) -> Result<(), AllocError> {
-    for (name, value) in labels {
-        raw.push(name.as_bytes(), value.as_bytes())?;
-    }
-    Ok(())
-}
-
-pub(crate) fn raw_labels(alloc: Global, labels: &[(&str, &str)]) -> Result<RawLabels, AllocError> {
-    let mut raw = RawLabels::new(alloc);
-    match put_labels(&mut raw, labels) {
-        Ok(()) => Ok(raw),
-        Err(refused) => Err(refused),
-    }
-}
-
 /// Returns the label set of these labels, with such names.
 pub(crate) fn label_set_as(
     alloc: Global,
     names: Names,
     labels: &[(&str, &str)],
 ) -> Result<LabelSet, LabelFault> {
-    let mut raw = RawLabels::new(alloc);
-    match put_labels(&mut raw, labels) {
-        Ok(()) => LabelSet::check_as(alloc, names, &raw),
+    match raw_labels(alloc, labels) {
+        Ok(raw) => LabelSet::check_as(alloc, names, &raw),
         Err(_) => Err(LabelFault::OutOfMemory),
     }
 }

@@ -3,66 +3,66 @@
 use crate::rows::{holds, none_is_wrong};
 use crate::rule_making::{Config, label_set, rule, rules};
 use Row::{Match, Refusal, Several};
+use RuleFault::{BadPattern, NoSource};
 use rw_relabel::{Action, DEFAULT_PATTERN, DEFAULT_SEPARATOR, RuleFault};
 use rw_types::LabelSet;
 use std::alloc::Global;
 
 type Labels = &'static [(&'static str, &'static str)];
 
-/// What a row says.
+/// A name, and what a row says.
 enum Row {
     /// A rule, and its fault.
-    Refusal(Config<'static>, Option<RuleFault>),
+    Refusal(&'static str, Config<'static>, Option<RuleFault>),
     /// A rule, labels, and whether the rule matches them.
-    Match(Config<'static>, Labels, bool),
+    Match(&'static str, Config<'static>, Labels, bool),
     /// Labels, whether they are kept if both rules match, and if the first matches and the second
     /// does not.
-    Several(Labels, bool, bool),
+    Several(&'static str, Labels, bool, bool),
 }
 
 static ROWS: [Row; 27] = [
-    Refusal((&["job"], DEFAULT_SEPARATOR, DEFAULT_PATTERN), None),
-    Refusal((&["job"], "", ""), None),
-    // readable only with something around it, or only without
-    Refusal((&["job"], ";", "a)(b"), Some(RuleFault::BadPattern)),
-    Refusal((&["job"], ";", "^(?s:a)(b)$"), None),
-    Refusal((&["job"], ";", "(?x)a#"), Some(RuleFault::BadPattern)),
-    // readable, and too big
-    Refusal((&["job"], ";", "a{20000000}"), Some(RuleFault::BadPattern)),
-    Refusal((&[], ";", "a"), Some(RuleFault::NoSource)),
-    Refusal((&[], ";", "a)(b"), Some(RuleFault::BadPattern)),
-    Refusal((&[], ";", "("), Some(RuleFault::BadPattern)),
-    // a missing label counts as empty, and its separator stays
-    Match((&["job", "env"], ";", "a;"), &[("job", "a")], true),
-    Match((&["job", "env"], ";", "a"), &[("job", "a")], false),
-    Match((&["env"], ";", ""), &[("job", "a")], true),
-    Match((&["env"], ";", ".+"), &[], false),
-    // the order is that of the rule
+    Refusal(
+        "the defaults",
+        (&["job"], DEFAULT_SEPARATOR, DEFAULT_PATTERN),
+        None,
+    ),
+    Refusal("empty texts", (&["job"], "", ""), None),
+    Refusal("two halves", (&["job"], ";", "a)(b"), Some(BadPattern)),
+    Refusal("anchors", (&["job"], ";", "^(?s:a)(b)$"), None),
+    Refusal("a comment", (&["job"], ";", "(?x)a#"), Some(BadPattern)),
+    Refusal("too big", (&["job"], ";", "a{20000000}"), Some(BadPattern)),
+    Refusal("no source", (&[], ";", "a"), Some(NoSource)),
+    Refusal("no source, halves", (&[], ";", "a)(b"), Some(BadPattern)),
+    Refusal("no source, one half", (&[], ";", "("), Some(BadPattern)),
+    Match("empty", (&["job", "env"], ";", "a;"), &[("job", "a")], true),
+    Match("whole", (&["job", "env"], ";", "a"), &[("job", "a")], false),
+    Match("missing label", (&["env"], ";", ""), &[("job", "a")], true),
+    Match("no labels", (&["env"], ";", ".+"), &[], false),
     Match(
+        "the order of the rule",
         (&["job", "env"], "--", "a--b"),
         &[("env", "b"), ("job", "a")],
         true,
     ),
-    Match((&["job", "job"], "", "aa"), &[("job", "a")], true),
-    // a newline is a character like any other
+    Match("twice", (&["job", "job"], "", "aa"), &[("job", "a")], true),
     Match(
+        "the default",
         (&["job"], DEFAULT_SEPARATOR, DEFAULT_PATTERN),
         &[("job", "a\nb")],
         true,
     ),
-    Match((&["job"], ";", "a"), &[("job", "a\n")], false),
-    // the whole text, with each alternative
-    Match((&["job"], ";", "a|ab"), &[("job", "ab")], true),
-    Match((&["job"], ";", "a|ab"), &[("job", "abc")], false),
-    Match((&["job"], ";", "b"), &[("job", "abc")], false),
-    Match((&["job"], ";", "bc|b"), &[("job", "abc")], false),
-    // characters and not bytes
-    Match((&["job"], ";", "s.ge"), &[("job", "säge")], true),
-    Match((&["Job"], ";", "a"), &[("job", "a")], false),
-    Several(&[("env", "x"), ("job", "a")], true, false),
-    Several(&[("env", "y"), ("job", "b")], false, true),
-    Several(&[("env", "x"), ("job", "c")], false, false),
-    Several(&[], false, false),
+    Match("a newline", (&["job"], ";", "a"), &[("job", "a\n")], false),
+    Match("second", (&["job"], ";", "a|ab"), &[("job", "ab")], true),
+    Match("neither", (&["job"], ";", "a|ab"), &[("job", "abc")], false),
+    Match("the middle", (&["job"], ";", "b"), &[("job", "abc")], false),
+    Match("the end", (&["job"], ";", "bc|b"), &[("job", "abc")], false),
+    Match("umlaut", (&["job"], ";", "s.ge"), &[("job", "säge")], true),
+    Match("a capital", (&["Job"], ";", "a"), &[("job", "a")], false),
+    Several("a and x", &[("env", "x"), ("job", "a")], true, false),
+    Several("b and y", &[("env", "y"), ("job", "b")], false, true),
+    Several("c and x", &[("env", "x"), ("job", "c")], false, false),
+    Several("nothing", &[], false, false),
 ];
 
 /// Returns the fault of a rule. Out of memory is one too, and no row expects it.
@@ -121,9 +121,9 @@ fn is_judged(alloc: Global, labels: &[(&str, &str)], by_both: bool, by_without: 
 
 fn is_so(alloc: Global, row: &Row) -> bool {
     match row {
-        Refusal(config, wanted) => fault(alloc, *config) == *wanted,
-        Match(config, labels, matches) => is_match(alloc, *config, labels, *matches),
-        Several(labels, by_both, by_without) => is_judged(alloc, labels, *by_both, *by_without),
+        Refusal(_, config, wanted) => fault(alloc, *config) == *wanted,
+        Match(_, config, labels, matches) => is_match(alloc, *config, labels, *matches),
+        Several(_, labels, by_both, by_without) => is_judged(alloc, labels, *by_both, *by_without),
     }
 }
 
@@ -131,10 +131,11 @@ fn rows() -> &'static [Row] {
     &ROWS
 }
 
-fn wrong_row(alloc: Global, rows: &[Row]) -> Option<usize> {
-    for (i, row) in rows.iter().enumerate() {
+fn wrong_row(alloc: Global, rows: &[Row]) -> Option<&'static str> {
+    for row in rows {
         if !is_so(alloc, row) {
-            return Some(i);
+            let (Refusal(name, ..) | Match(name, ..) | Several(name, ..)) = row;
+            return Some(name);
         }
     }
     None

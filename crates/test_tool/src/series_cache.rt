@@ -1,10 +1,13 @@
 //! What a cache knows of references. The calls that take memory are made again if they fail, so the
 //! test can be run with each allocation failing in turn: the failed call changes no answer.
 
-use crate::rows::{none_differs, none_is_wrong};
-use crate::rule_making::{Config, raw_labels, rules};
+use crate::rows::none_is_wrong;
+use crate::rule_making::{Config, rules};
+use LabelFault::{EmptyValue, NotSorted};
+use Shape::{Bad, Filtered, Kept, Unknown};
 use rw_relabel::{Action, Choice, RuleFault, Rules};
 use rw_series_cache::{Cache, Known};
+use rw_test_parts::raw_labels;
 use rw_types::{LabelFault, Names, RawLabels};
 use std::alloc::{AllocError, Global};
 
@@ -94,35 +97,20 @@ fn defines(alloc: Global, cache: &mut Cache, reference: u64, labels: Labels<'_>)
 }
 
 /// Definitions, one after the other, and what is then known of the reference.
-static DEFINITIONS: [(u64, Labels<'static>, Shape); 9] = [
-    (1, &[("job", "a")], Shape::Kept(0)),
-    (2, &[("job", "b")], Shape::Kept(1)),
-    // a series is its label set
-    (3, &[("job", "a")], Shape::Kept(0)),
-    // not a label set, and then one
-    (4, &[("job", "")], Shape::Bad(LabelFault::EmptyValue)),
-    (4, &[("job", "b")], Shape::Kept(1)),
-    // dropped by one rule, and by the other
-    (5, &[("env", "x"), ("job", "a")], Shape::Filtered),
-    (5, &[("job", "d")], Shape::Filtered),
-    // the last definition counts
-    (1, &[("job", "c")], Shape::Kept(2)),
-    (
-        2,
-        &[("b", "1"), ("a", "1")],
-        Shape::Bad(LabelFault::NotSorted),
-    ),
+static DEFINITIONS: [(&str, u64, Labels<'static>, Shape); 9] = [
+    ("a series", 1, &[("job", "a")], Kept(0)),
+    ("another one", 2, &[("job", "b")], Kept(1)),
+    ("the same series", 3, &[("job", "a")], Kept(0)),
+    ("no value", 4, &[("job", "")], Bad(EmptyValue)),
+    ("a label set after it", 4, &[("job", "b")], Kept(1)),
+    ("by one rule", 5, &[("env", "x"), ("job", "a")], Filtered),
+    ("dropped by the other", 5, &[("job", "d")], Filtered),
+    ("a later definition", 1, &[("job", "c")], Kept(2)),
+    ("unsorted", 2, &[("b", "1"), ("a", "1")], Bad(NotSorted)),
 ];
 
 /// What is known after them.
-static KNOWN: [Shape; 6] = [
-    Shape::Unknown,
-    Shape::Kept(2),
-    Shape::Bad(LabelFault::NotSorted),
-    Shape::Kept(0),
-    Shape::Kept(1),
-    Shape::Filtered,
-];
+static KNOWN: [Shape; 6] = [Unknown, Kept(2), Bad(NotSorted), Kept(0), Kept(1), Filtered];
 
 static RULES: [(Action, Config<'static>); 2] = [
     (Action::Keep, (&["job"], ";", "a|b|c")),
@@ -138,18 +126,17 @@ fn is_as_defined(cache: &Cache) -> bool {
         && cache.series_count() == 3
 }
 
-/// Returns the first definition after which something else is known than should be, or the number
-/// of them if the difference shows at the end.
-fn wrong_definition(alloc: Global, cache: &mut Cache) -> Option<usize> {
-    for (i, (reference, labels, wanted)) in DEFINITIONS.iter().enumerate() {
+/// Returns the first definition after which something else is known than should be.
+fn wrong_definition(alloc: Global, cache: &mut Cache) -> Option<&'static str> {
+    for (name, reference, labels, wanted) in &DEFINITIONS {
         if !defines(alloc, cache, *reference, labels) || shape_of(cache, *reference) != *wanted {
-            return Some(i);
+            return Some(name);
         }
     }
     if is_as_defined(cache) {
         None
     } else {
-        Some(DEFINITIONS.len())
+        Some("all definitions")
     }
 }
 
@@ -216,34 +203,26 @@ enum Trial {
     Many,
 }
 
-/// Returns whether a trial that is not a table goes as it should.
-fn goes(alloc: Global, cache: &mut Cache, trial: Trial) -> bool {
-    match trial {
-        Trial::Definitions => false,
+/// Returns what goes wrong in a trial.
+fn wrong_in(alloc: Global, cache: &mut Cache, trial: Trial) -> Option<&'static str> {
+    let goes = match trial {
+        Trial::Definitions => return wrong_definition(alloc, cache),
         Trial::Names(wanted) => {
             is_known_as(cache, raw_labels(alloc, &[("http.rate", "1")]), wanted)
         }
         Trial::TooMany(wanted) => is_known_as(cache, sixty_five_labels(alloc), wanted),
         Trial::Many => defines_many(alloc, cache, 70_000) && are_numbered(cache),
-    }
-}
-
-/// Returns the row of a trial that is wrong, or 0 if it has no rows.
-fn wrong_in(alloc: Global, cache: &mut Cache, trial: Trial) -> Option<usize> {
-    match trial {
-        Trial::Definitions => wrong_definition(alloc, cache),
-        _ if goes(alloc, cache, trial) => None,
-        _ => Some(0),
-    }
+    };
+    if goes { None } else { Some("the trial") }
 }
 
 /// Returns the same with a new cache.
-fn wrong_with(alloc: Global, choice: Choice, trial: Trial) -> Option<usize> {
+fn wrong_with(alloc: Global, choice: Choice, trial: Trial) -> Option<&'static str> {
     let mut cache = Cache::new(alloc, choice);
     wrong_in(alloc, &mut cache, trial)
 }
 
-fn wrong_with_rules(alloc: Global) -> Option<usize> {
+fn wrong_with_rules(alloc: Global) -> Option<&'static str> {
     match rules_again(alloc, &RULES) {
         Ok(rules) => wrong_with(
             alloc,
@@ -253,7 +232,7 @@ fn wrong_with_rules(alloc: Global) -> Option<usize> {
             },
             Trial::Definitions,
         ),
-        Err(_) => Some(0),
+        Err(_) => Some("the rules"),
     }
 }
 
@@ -263,7 +242,7 @@ fn last_definitions(rt: HostRuntime) {
 }
 
 /// Returns the same with a cache that accepts such names and has no rules.
-fn wrong_with_names(alloc: Global, names: Names, wanted: Shape) -> Option<usize> {
+fn wrong_with_names(alloc: Global, names: Names, wanted: Shape) -> Option<&'static str> {
     let rules = Rules::new(Vec::new(alloc));
     wrong_with(alloc, Choice { names, rules }, Trial::Names(wanted))
 }
@@ -279,7 +258,7 @@ fn names_by_choice(rt: HostRuntime) {
 }
 
 /// Returns the same with a cache that keeps each label set.
-fn wrong_with_no_rules(alloc: Global, trial: Trial) -> Option<usize> {
+fn wrong_with_no_rules(alloc: Global, trial: Trial) -> Option<&'static str> {
     wrong_with(alloc, Choice::legacy(alloc), trial)
 }
 
@@ -371,5 +350,5 @@ fn wrong_note(alloc: Global) -> Option<&'static str> {
 
 #[test]
 fn later_timestamps_rise(rt: HostRuntime) {
-    none_differs(&rt, wrong_note(rt.alloc()));
+    none_is_wrong(&rt, wrong_note(rt.alloc()));
 }

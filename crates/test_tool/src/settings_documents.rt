@@ -1,6 +1,6 @@
 //! Whole texts: what they set, and what is wrong with them.
 
-use crate::rows::none_is_wrong;
+use crate::rows::{holds, none_is_wrong};
 use crate::rule_making::label_set;
 use rw_settings::{Settings, SettingsFault, read_settings};
 use rw_types::{LabelSet, Names};
@@ -17,114 +17,113 @@ pub(crate) fn fault(alloc: Global, text: &[u8]) -> u8 {
 
 /// Texts with no fault or with one, and then with two at once, and the number that is returned, or
 /// 9.
-static FAULTS: [(&[u8], u8); 68] = [
-    (b"", 9),
-    (b"# nothing\n\n", 9),
-    (b"rule = []\n[send]\n[receive]\n", 9),
+static FAULTS: [(&str, u8); 67] = [
+    ("", 9),
+    ("# nothing\n\n", 9),
+    ("rule = []\n[send]\n[receive]\n", 9),
     // not TOML
-    (b"send", 1),
-    (b"[send]\nshards = 1\nshards = 1", 1),
-    (b"[send]\nshards = 9223372036854775808", 1),
-    (b"[send]\nshards = -9223372036854775809", 1),
+    ("send", 1),
+    ("[send]\nshards = 1\nshards = 1", 1),
+    ("[send]\nshards = 9223372036854775808", 1),
+    ("[send]\nshards = -9223372036854775809", 1),
     // unknown keys
-    (b"sned = 1", 2),
-    (b"[send]\nshard = 1", 2),
-    (b"[send.receive]\npath = '/'", 2),
-    (b"[receive]\nshards = 1", 2),
+    ("sned = 1", 2),
+    ("[send]\nshard = 1", 2),
+    ("[send.receive]\npath = '/'", 2),
+    ("[receive]\nshards = 1", 2),
     (
-        b"[[rule]]\naction = 'keep'\nsource_labels = ['a']\ntarget_label = 'b'",
+        "[[rule]]\naction = 'keep'\nsource_labels = ['a']\ntarget_label = 'b'",
         2,
     ),
     // values of another type
-    (b"send = 1", 3),
-    (b"[[send]]\nshards = 1", 3),
-    (b"receive = 'a'", 3),
-    (b"[[receive]]\npath = '/'", 3),
-    (b"rule = 1", 3),
-    (b"rule = [1]", 3),
-    (b"[rule]\naction = 'keep'\nsource_labels = ['a']", 3),
-    (b"[send]\nhost = 1", 3),
-    (b"[send.host]\na = 1", 3),
-    (b"[send]\npath = true", 3),
-    (b"[send]\nshards = '1'", 3),
-    (b"[send]\nbatch = 2.0", 3),
-    (b"[receive]\nbusy_first = false", 3),
-    (b"[[rule]]\naction = 1\nsource_labels = ['a']", 3),
-    (b"[[rule]]\naction = 'keep'\nsource_labels = 'a'", 3),
-    (b"[[rule]]\naction = 'keep'\nsource_labels = ['a', 1]", 3),
+    ("send = 1", 3),
+    ("[[send]]\nshards = 1", 3),
+    ("receive = 'a'", 3),
+    ("[[receive]]\npath = '/'", 3),
+    ("rule = 1", 3),
+    ("rule = [1]", 3),
+    ("[rule]\naction = 'keep'\nsource_labels = ['a']", 3),
+    ("[send]\nhost = 1", 3),
+    ("[send.host]\na = 1", 3),
+    ("[send]\npath = true", 3),
+    ("[send]\nshards = '1'", 3),
+    ("[send]\nbatch = 2.0", 3),
+    ("[receive]\nbusy_first = false", 3),
+    ("[[rule]]\naction = 1\nsource_labels = ['a']", 3),
+    ("[[rule]]\naction = 'keep'\nsource_labels = 'a'", 3),
+    ("[[rule]]\naction = 'keep'\nsource_labels = ['a', 1]", 3),
     (
-        b"[[rule]]\naction = 'keep'\nsource_labels = ['a']\nseparator = 1",
+        "[[rule]]\naction = 'keep'\nsource_labels = ['a']\nseparator = 1",
         3,
     ),
     (
-        b"[[rule]]\naction = 'keep'\nsource_labels = ['a']\nregex = ['a']",
+        "[[rule]]\naction = 'keep'\nsource_labels = ['a']\nregex = ['a']",
         3,
     ),
-    (b"# \xff", 1),
     // numbers that are not between their bounds, with the defaults filled in
-    (b"[send]\nmin_shards = 5\nmax_shards = 4", 4),
-    (b"[send]\nmin_shards = 5", 4),
-    (b"[send]\nmin_shards = 5\nshards = 5", 9),
-    (b"[send]\nshards = 51", 4),
-    (b"[send]\nshards = 51\nmax_shards = 51", 9),
-    (b"[send]\nmin_backoff_ms = 5001", 4),
-    (b"[send]\nmin_backoff_ms = 5000", 9),
-    (b"[send]\nmax_backoff_ms = 29", 4),
-    (b"[send]\nmax_backoff_ms = 30", 9),
+    ("[send]\nmin_shards = 5\nmax_shards = 4", 4),
+    ("[send]\nmin_shards = 5", 4),
+    ("[send]\nmin_shards = 5\nshards = 5", 9),
+    ("[send]\nshards = 51", 4),
+    ("[send]\nshards = 51\nmax_shards = 51", 9),
+    ("[send]\nmin_backoff_ms = 5001", 4),
+    ("[send]\nmin_backoff_ms = 5000", 9),
+    ("[send]\nmax_backoff_ms = 29", 4),
+    ("[send]\nmax_backoff_ms = 30", 9),
     // rules
-    (b"[[rule]]\naction = 'keep'\nsource_labels = []", 4),
-    (b"[[rule]]\nsource_labels = ['a']", 5),
-    (b"[[rule]]\naction = 'drop'", 5),
-    (b"[[rule]]\naction = 'replace'\nsource_labels = ['a']", 5),
-    (b"[[rule]]\naction = 'Keep'\nsource_labels = ['a']", 5),
+    ("[[rule]]\naction = 'keep'\nsource_labels = []", 4),
+    ("[[rule]]\nsource_labels = ['a']", 5),
+    ("[[rule]]\naction = 'drop'", 5),
+    ("[[rule]]\naction = 'replace'\nsource_labels = ['a']", 5),
+    ("[[rule]]\naction = 'Keep'\nsource_labels = ['a']", 5),
     (
-        b"[[rule]]\naction = 'keep'\nsource_labels = ['a']\nregex = 'a)(b'",
+        "[[rule]]\naction = 'keep'\nsource_labels = ['a']\nregex = 'a)(b'",
         5,
     ),
     (
-        b"[[rule]]\naction = 'keep'\nsource_labels = ['a']\nregex = 'a{20000000}'",
+        "[[rule]]\naction = 'keep'\nsource_labels = ['a']\nregex = 'a{20000000}'",
         5,
     ),
-    (b"rule = [{ action = 'keep', source_labels = [''] }]", 9),
+    ("rule = [{ action = 'keep', source_labels = [''] }]", 9),
     // names
-    (b"[send]\nnames = 'legacy'\n[receive]\nnames = 'utf8'", 9),
-    (b"[send]\nnames = 'utf8'\n[receive]\nnames = 'legacy'", 9),
-    (b"[send]\nnames = 'UTF8'", 4),
-    (b"[receive]\nnames = ''", 4),
-    (b"[send]\nnames = true", 3),
-    (b"[receive]\nnames = ['utf8']", 3),
-    (b"names = 'utf8'", 2),
+    ("[send]\nnames = 'legacy'\n[receive]\nnames = 'utf8'", 9),
+    ("[send]\nnames = 'utf8'\n[receive]\nnames = 'legacy'", 9),
+    ("[send]\nnames = 'UTF8'", 4),
+    ("[receive]\nnames = ''", 4),
+    ("[send]\nnames = true", 3),
+    ("[receive]\nnames = ['utf8']", 3),
+    ("names = 'utf8'", 2),
     // two at once, in either order
-    (b"[send]\nshards = 0\n[receive]\nlabels = 1", 2),
-    (b"[receive]\nlabels = 1\n[send]\nshards = 0", 2),
-    (b"[send]\nshards = 0\nbatch = 'a'", 3),
-    (b"[send]\nbatch = 'a'\nshards = 0", 3),
-    (b"[receive]\nbusy_first = -1\n[send]\nhost = 1", 3),
-    (b"[[rule]]\n[send]\nbatch = 0", 4),
+    ("[send]\nshards = 0\n[receive]\nlabels = 1", 2),
+    ("[receive]\nlabels = 1\n[send]\nshards = 0", 2),
+    ("[send]\nshards = 0\nbatch = 'a'", 3),
+    ("[send]\nbatch = 'a'\nshards = 0", 3),
+    ("[receive]\nbusy_first = -1\n[send]\nhost = 1", 3),
+    ("[[rule]]\n[send]\nbatch = 0", 4),
     (
-        b"[[rule]]\naction = 'keep'\nsource_labels = ['a']\nregex = '('\n[send]\nbatch = 0",
+        "[[rule]]\naction = 'keep'\nsource_labels = ['a']\nregex = '('\n[send]\nbatch = 0",
         4,
     ),
     (
-        b"[[rule]]\naction = 'keep'\nsource_labels = ['a']\nregex = '('\n[[rule]]\nlabels = 1",
+        "[[rule]]\naction = 'keep'\nsource_labels = ['a']\nregex = '('\n[[rule]]\nlabels = 1",
         2,
     ),
-    (b"[[rule]]\naction = 'no'\nsource_labels = []", 4),
-    (b"[[rule]]\naction = 'no'\nsource_labels = [1]", 3),
-    (b"[send]\nmin_shards = 5\nmax_shards = 4\nhost = 1", 3),
-    (b"[send]\nmin_shards = 5\nmax_shards = 4\n[[rule]]", 4),
-    (b"sned = 1\n[send", 1),
+    ("[[rule]]\naction = 'no'\nsource_labels = []", 4),
+    ("[[rule]]\naction = 'no'\nsource_labels = [1]", 3),
+    ("[send]\nmin_shards = 5\nmax_shards = 4\nhost = 1", 3),
+    ("[send]\nmin_shards = 5\nmax_shards = 4\n[[rule]]", 4),
+    ("sned = 1\n[send", 1),
 ];
 
-fn faults_of_texts() -> &'static [(&'static [u8], u8)] {
+fn faults_of_texts() -> &'static [(&'static str, u8)] {
     &FAULTS
 }
 
 /// Returns the first text whose fault is another.
-fn wrong_fault(alloc: Global, rows: &[(&[u8], u8)]) -> Option<usize> {
-    for (i, (text, want)) in rows.iter().enumerate() {
-        if fault(alloc, text) != *want {
-            return Some(i);
+fn wrong_fault(alloc: Global, rows: &[(&'static str, u8)]) -> Option<&'static str> {
+    for (text, want) in rows {
+        if fault(alloc, text.as_bytes()) != *want {
+            return Some(text);
         }
     }
     None
@@ -133,6 +132,7 @@ fn wrong_fault(alloc: Global, rows: &[(&[u8], u8)]) -> Option<usize> {
 #[test]
 fn faults(rt: HostRuntime) {
     none_is_wrong(&rt, wrong_fault(rt.alloc(), faults_of_texts()));
+    holds(&rt, fault(rt.alloc(), b"# \xff") == 1);
 }
 
 fn sending(s: &Settings) -> [u64; 8] {
@@ -229,9 +229,12 @@ const KEPT: Kept = &[
     ),
 ];
 
-/// Texts, what they set, and which labels their rules keep.
-static READ: [(&[u8], Read, Kept); 3] = [
+/// A name, a text, what it sets, and which labels its rules keep.
+type Reading = (&'static str, &'static [u8], Read, Kept);
+
+static READ: [Reading; 3] = [
     (
+        "nothing",
         b"",
         (
             [1, 1, 50, 10_000, 2_000, 30, 5_000, 30_000],
@@ -242,6 +245,7 @@ static READ: [(&[u8], Read, Kept); 3] = [
         &[],
     ),
     (
+        "every key",
         EVERY_KEY,
         (
             [2, 1, 3, 4, 5, 6, 7, 8],
@@ -252,6 +256,7 @@ static READ: [(&[u8], Read, Kept); 3] = [
         &[],
     ),
     (
+        "the example",
         EXAMPLE,
         (
             [2, 1, 8, 10_000, 500, 100, 10_000, 30_000],
@@ -263,7 +268,7 @@ static READ: [(&[u8], Read, Kept); 3] = [
     ),
 ];
 
-fn readings() -> &'static [(&'static [u8], Read, Kept)] {
+fn readings() -> &'static [Reading] {
     &READ
 }
 
@@ -299,10 +304,10 @@ fn reads_as(alloc: Global, text: &[u8], want: &Read, kept: Kept) -> bool {
 }
 
 /// Returns the first text that sets something else, or whose rules keep other labels.
-fn wrong_reading(alloc: Global, rows: &[(&[u8], Read, Kept)]) -> Option<usize> {
-    for (i, (text, want, kept)) in rows.iter().enumerate() {
+fn wrong_reading(alloc: Global, rows: &[Reading]) -> Option<&'static str> {
+    for (name, text, want, kept) in rows {
         if !reads_as(alloc, text, want, *kept) {
-            return Some(i);
+            return Some(name);
         }
     }
     None

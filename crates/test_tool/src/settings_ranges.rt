@@ -63,10 +63,11 @@ fn ranges() -> &'static [Range] {
     &RANGES
 }
 
-fn wrong_range(alloc: Global, ranges: &[Range]) -> Option<usize> {
-    for (i, range) in ranges.iter().enumerate() {
+/// Returns the key of the first range that is wrong.
+fn wrong_range(alloc: Global, ranges: &[Range]) -> Option<&'static str> {
+    for range in ranges {
         if !is_range(alloc, *range) {
-            return Some(i);
+            return Some(range.1);
         }
     }
     None
@@ -94,34 +95,33 @@ fn is_text_fault(alloc: Global, key: &str, value: &str, want: u8) -> bool {
     }
 }
 
-/// A key with a text, how many letters follow it, and the number of the fault, or 9.
-type Text = (&'static str, &'static str, usize, u8);
+/// A name, a key with a text, how many letters follow it, and the number of the fault, or 9.
+type Text = (&'static str, &'static str, &'static str, usize, u8);
 
 static TEXTS: [Text; 23] = [
-    ("send.host", "", 0, 4),
-    ("send.host", "!", 0, 9),
-    ("send.host", "~", 0, 9),
-    ("send.host", "a b", 0, 4),
-    ("send.host", "\u{e9}", 0, 4),
-    ("send.path", "", 0, 4),
-    ("send.path", "a", 0, 4),
-    ("send.path", "/", 0, 9),
-    ("send.path", "/azAZ09/-._~%?=&", 0, 9),
-    ("send.path", "/a b", 0, 4),
-    ("send.path", "/a,b", 0, 4),
-    ("send.path", "/a@", 0, 4),
-    ("send.path", "/[", 0, 4),
-    ("receive.path", "", 0, 4),
-    ("receive.path", "/", 0, 9),
-    ("receive.path", "?", 0, 4),
-    ("receive.path", "/a:", 0, 4),
-    // lengths
-    ("send.host", "a", 254, 9),
-    ("send.host", "a", 255, 4),
-    ("send.path", "/", 254, 9),
-    ("send.path", "/", 255, 4),
-    ("receive.path", "/", 254, 9),
-    ("receive.path", "/", 255, 4),
+    ("no host", "send.host", "", 0, 4),
+    ("host !", "send.host", "!", 0, 9),
+    ("host ~", "send.host", "~", 0, 9),
+    ("a space in a host", "send.host", "a b", 0, 4),
+    ("an accent in a host", "send.host", "\u{e9}", 0, 4),
+    ("no path", "send.path", "", 0, 4),
+    ("path a", "send.path", "a", 0, 4),
+    ("path /", "send.path", "/", 0, 9),
+    ("each sign in a path", "send.path", "/azAZ09/-._~%?=&", 0, 9),
+    ("a space in a path", "send.path", "/a b", 0, 4),
+    ("a comma in a path", "send.path", "/a,b", 0, 4),
+    ("an @ in a path", "send.path", "/a@", 0, 4),
+    ("a bracket in a path", "send.path", "/[", 0, 4),
+    ("receive: no path", "receive.path", "", 0, 4),
+    ("receive: path /", "receive.path", "/", 0, 9),
+    ("receive: path ?", "receive.path", "?", 0, 4),
+    ("receive: a colon", "receive.path", "/a:", 0, 4),
+    ("a host of 255 bytes", "send.host", "a", 254, 9),
+    ("a host of 256 bytes", "send.host", "a", 255, 4),
+    ("a path of 255 bytes", "send.path", "/", 254, 9),
+    ("a path of 256 bytes", "send.path", "/", 255, 4),
+    ("receive: 255 bytes", "receive.path", "/", 254, 9),
+    ("receive: 256 bytes", "receive.path", "/", 255, 4),
 ];
 
 /// Returns the same for a text that begins in this way, and has this many letters after that.
@@ -136,10 +136,10 @@ fn rows() -> &'static [Text] {
     &TEXTS
 }
 
-fn wrong_text(alloc: Global, rows: &[Text]) -> Option<usize> {
-    for (i, (key, front, letters, want)) in rows.iter().enumerate() {
+fn wrong_text(alloc: Global, rows: &[Text]) -> Option<&'static str> {
+    for (name, key, front, letters, want) in rows {
         if !is_fault_of_letters(alloc, key, front, *letters, *want) {
-            return Some(i);
+            return Some(name);
         }
     }
     None

@@ -3,11 +3,12 @@
 use crate::rows::{holds, none_is_wrong};
 use crate::rule_making::{label_set, label_set_as};
 use Row::{Labelled, Number, Other, Value};
+use rw_test_parts::raw_labels;
 use rw_text::{
     TextFault, push_integer, push_labels, push_number, push_value, read_integer, read_labels,
     read_number, read_value,
 };
-use rw_types::{LabelSet, Names, RawLabels, Word};
+use rw_types::{LabelSet, Names, Word};
 use std::alloc::Global;
 
 type Labels = &'static [(&'static str, &'static str)];
@@ -89,25 +90,11 @@ fn prints_numbers(alloc: Global) -> bool {
         && out.as_slice() == b"18446744073709551615-9223372036854775808".as_slice()
 }
 
-fn is_label(read: &(Vec<u8>, Vec<u8>), label: &(&str, &str)) -> bool {
-    read.0.as_slice() == label.0.as_bytes() && read.1.as_slice() == label.1.as_bytes()
-}
-
-fn are_labels(read: &RawLabels, labels: &[(&str, &str)]) -> bool {
-    for (i, label) in labels.iter().enumerate() {
-        match read.as_slice().get(i) {
-            Some(found) if is_label(found, label) => {}
-            _ => return false,
-        }
-    }
-    read.len() == labels.len()
-}
-
 /// Returns whether the text reads as these labels.
 fn reads_as(alloc: Global, text: &[u8], labels: &[(&str, &str)]) -> bool {
-    match read_labels(alloc, text) {
-        Ok(read) => are_labels(&read, labels),
-        Err(_) => false,
+    match (read_labels(alloc, text), raw_labels(alloc, labels)) {
+        (Ok(read), Ok(wanted)) => read.as_slice() == wanted.as_slice(),
+        _ => false,
     }
 }
 
@@ -140,10 +127,12 @@ fn rows() -> &'static [Row] {
     &ROWS
 }
 
-fn wrong_row(alloc: Global, rows: &[Row]) -> Option<usize> {
-    for (i, row) in rows.iter().enumerate() {
+/// Returns the text of the first row that is wrong.
+fn wrong_row(alloc: Global, rows: &[Row]) -> Option<&'static str> {
+    for row in rows {
         if !is_so(alloc, row) {
-            return Some(i);
+            let (Value(_, text) | Number(text, ..) | Labelled(_, text) | Other(_, text)) = row;
+            return Some(text);
         }
     }
     None
