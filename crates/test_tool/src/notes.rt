@@ -10,20 +10,20 @@ type Row = (&'static [u8], Option<&'static str>);
 
 static LOG_LINES: [Row; 8] = [
     (b"sample 1 1000 1", None),
-    (b"sample x 1000 1", Some("REF is no")),
-    (b"sample 1 1s 1", Some("T is no")),
-    (b"sample 1 1000 1.5", Some("VALUE is")),
-    (b"series 1 {a=1}", Some("LABELS are")),
-    (b"raw 0", Some("HEX is")),
+    (b"sample x 1000 1", Some("REF must be")),
+    (b"sample 1 1s 1", Some("T must be")),
+    (b"sample 1 1000 1.5", Some("VALUE must be")),
+    (b"series 1 {a=1}", Some("LABELS must")),
+    (b"raw 0", Some("HEX must be")),
     (b"hello", Some("a line is")),
     (b"raw \xff", Some("the line is not UTF-8")),
 ];
 
 static SCRIPT_LINES: [Row; 4] = [
     (b"settle", None),
-    (b"flush x", Some("behind the word")),
-    (b"log sample 1 1s 1", Some("T is no")),
-    (b"wait", Some("no event begins")),
+    (b"flush x", Some("the word must be followed")),
+    (b"log sample 1 1s 1", Some("T must be")),
+    (b"wait", Some("this is not an event")),
 ];
 
 /// Returns whether the note is as wanted.
