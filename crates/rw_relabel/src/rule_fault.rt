@@ -20,7 +20,7 @@ impl fmt::Display for RuleFault {
     fn fmt<W: fmt::Write>(&self, f: &mut fmt::Formatter<W>) -> fmt::Result {
         f.write_str(match self {
             RuleFault::OutOfMemory => "out of memory",
-            RuleFault::BadPattern => "the pattern is not a valid regular expression, or is too large",
+            RuleFault::BadPattern => "the pattern is not taken",
             RuleFault::NoSource => "there is no source label",
         })
     }

@@ -35,7 +35,7 @@ impl fmt::Display for WireFault {
             WireFault::Truncated => "message fault 1: a field passes the end of its message",
             WireFault::VarintTooBig => "message fault 2: a varint has more than 64 bits",
             WireFault::WrongWire => "message fault 3: a field has another wire type than its own",
-            WireFault::BadWire => "message fault 4: a field has a wire type that is not supported",
+            WireFault::BadWire => "message fault 4: a wire type that is none",
             WireFault::FieldZero => "message fault 5: a field has the number 0",
             WireFault::NotUtf8 => "message fault 6: a string is not UTF-8",
         })
