@@ -3,7 +3,7 @@
 
 usage: tools/settings_tables.py
 
-`tools/check-documents` looks whether the page has these tables.
+`tools/check-documents` checks that the page has these tables.
 """
 import os
 import re
