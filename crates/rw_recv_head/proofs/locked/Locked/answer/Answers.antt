@@ -7,7 +7,7 @@ use Rattle.rw_recv_head.proofs.StoredLemmas.{Gives, noted_as, kept_again, asked,
 use Rattle.rw_recv_head.proofs.locked.Locked.answer.Given.{Over}
 use Rattle.rw_recv_head.proofs.locked.Locked.answer.Goals as goal
 
-gives : (g : Over) (c : goal.After-take g) → Gives c.self.inside.head c.admit-admission.new.self c.args.body.now (told c.admit-admission.result)
+gives : (g : Over) (c : goal.After-take g) → Gives (g.H.Admit.state c.self.inside.holder) (g.H.Admit.state c.admit-admission.new.self) c.args.body.now (told c.admit-admission.result)
 gives g c = record {
   told = c.admit-admission.ensures.status;
   is = c.admit-admission.ensures.head;
@@ -23,7 +23,7 @@ invariant_of-self g c =
       kept_again _ _ _ _ _ _ _ _ (gives g c) (noted_as _ _ _ _ _ _ c.status.ensures n.questions) _ _ _ _ _ i n.is_seat.given a.rises (c.take.ensures.parts ∙ i.one_part)
           (omega (arith, c.take.ensures.amount, i.adds_up, a.more, c.total.ensures.total, c.total-before.ensures.total)),
       stays_twice _ _ _ _ c.self.invariant.1
-          (subst (λ (k : Capacity). StaysWithin k c.self.inside.head.store c.admit-admission.new.self.store) c.self.invariant.2 a.within),
+          (subst (λ (k : Capacity). StaysWithin k (g.H.Admit.state c.self.inside.holder).store (g.H.Admit.state c.admit-admission.new.self).store) c.self.invariant.2 a.within),
       c.self.invariant.2,
     )
 
