@@ -1,11 +1,11 @@
 //! A head with a message that is judged and not taken yet.
 
-ghost use Rattle.std.specs.Prelude.{◌≡◌, ◌≢◌, ◌≤◌, IfOk, IfErr};
+ghost use Rattle.std.specs.Prelude.{◌≡◌, ◌≢◌, ◌≤◌, IsTrue, IfOk, IfErr};
 ghost use Rattle.rw_types.specs.Beginnings.{Begins};
 ghost use Rattle.rw_types.specs.Labels.{Labels};
 ghost use Rattle.rw_head.specs.Added.{AddsUp};
 ghost use Rattle.rw_head.specs.Blocks.{KeepsBlocks};
-ghost use Rattle.rw_head.specs.Capacity.{exceeds};
+ghost use Rattle.rw_head.specs.Capacity.{exceeds, unlimited};
 ghost use Rattle.rw_head.specs.Growth.{EachRises, HasTaken};
 ghost use Rattle.rw_head.specs.Head.{answer, SpellsMessage, IsStatus};
 ghost use Rattle.rw_head.specs.Store.{list_of, total};
@@ -125,7 +125,9 @@ impl StagedHead {
     /// Returns whether the message takes the samples or the label sets of the head above the
     /// capacity, as `Head::admit` judges it. This takes no memory, and constant time.
     pub fn exceeds(&self, capacity: &Capacity) -> bool
-        ensures { result ≡ exceeds capacity.now self.now.before.store self.now.after.store }
+        ensures exceeds { result
+            ≡ exceeds capacity.now self.now.before.store self.now.after.store }
+        ensures limited { IsTrue result → capacity.now ≢ unlimited }
     {
         self.table.exceeds(capacity, self.places)
     }

@@ -3,7 +3,7 @@ use Rattle.rw_head.specs.Head.{answer}
 use Rattle.rw_journal.proofs.Moments.{started}
 use Rattle.rw_kept_head.specs.Kept.{IsLeft}
 use Rattle.rw_kept_head.proofs.KeptLemmas.{is_unharmed}
-use Rattle.rw_kept_head.proofs.answering.answer_kept.Goals as goal
+use Rattle.rw_kept_head.proofs.answering.admit_kept.Goals as goal
 
 pub returns-in-Err-clause-any_moment : goal.returns-in-Err-clause-any_moment
 returns-in-Err-clause-any_moment g c =
