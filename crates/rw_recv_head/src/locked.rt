@@ -108,10 +108,12 @@ impl<L: Naming, H: Admit> Locked<L, H> {
             → FindsFull L.table.capacity L.opening seat.new.asked body.now }
         ensures limited { result ≡ Full → L.table.capacity ≢ unlimited }
     {
-        let before = self.holder.head().total();
+        let old = self.holder.head();
+        let before = old.total();
         let admission = self.holder.admit(body, &self.capacity);
         seat.note(&mut self.questions, admission.status(), body);
-        seat.take(all, &mut self.rest, self.holder.head().total() - before);
+        let new = self.holder.head();
+        seat.take(all, &mut self.rest, new.total() - before);
         admission
     }
 
