@@ -3,7 +3,7 @@
 
 usage: tools/settings_tables.py
 
-`tools/check-documents` looks whether the page has these tables.
+`tools/check-documents` checks that the page has these tables.
 """
 import os
 import re
@@ -19,7 +19,7 @@ KINDS = {
     ),
     "Names": ("`legacy`", "`legacy` or `utf8`"),
     "Action": ("required", "`keep` or `drop`"),
-    "Labels": ("required", "a list of texts, at least one"),
+    "Labels": ("required", "a list of strings, at least one"),
 }
 KEY = re.compile(r'((?:^/// .*\n)+)^pub\(crate\) const (\w+): Key =\s+Key\(\s*"(\w+)",\s*Kind::(\w+)(?:\(([\d_, ]+)\))?,?\s*\);', re.M)
 
@@ -31,7 +31,7 @@ def row_of(comment, key, kind, numbers):
         takes = f"{low:,} to {high:,}"
     elif kind == "Text":
         meaning, default = re.fullmatch(r"(.*?\.?) \(default (.*)\)\.", meaning).groups()
-        meaning, takes = meaning.rstrip(".") + ".", "a text"
+        meaning, takes = meaning.rstrip(".") + ".", "a string"
     else:
         default, takes = KINDS[kind]
     return f"| `{key}` | {default} | {takes} | {meaning} |\n"

@@ -1,12 +1,12 @@
 //! A head with a message that is judged and not taken yet.
 
-ghost use Rattle.std.specs.Prelude.{◌≡◌, ◌≢◌, ◌≤◌, IfOk, IfErr};
+ghost use Rattle.std.specs.Prelude.{◌≡◌, ◌≢◌, ◌≤◌, IsTrue, IfOk, IfErr};
 ghost use Rattle.rw_types.specs.Beginnings.{Begins};
 ghost use Rattle.rw_types.specs.Labels.{Labels};
 ghost use Rattle.rw_head.specs.Added.{AddsUp};
 ghost use Rattle.rw_head.specs.Blocks.{KeepsBlocks};
-ghost use Rattle.rw_head.specs.Capacity.{exceeds};
-ghost use Rattle.rw_head.specs.Growth.{EachRises};
+ghost use Rattle.rw_head.specs.Capacity.{exceeds, unlimited};
+ghost use Rattle.rw_head.specs.Growth.{EachRises, HasTaken};
 ghost use Rattle.rw_head.specs.Head.{answer, SpellsMessage, IsStatus};
 ghost use Rattle.rw_head.specs.Store.{list_of, total};
 
@@ -61,6 +61,7 @@ impl Head {
         ensures before { IfOk result (λ s. s.before ≡ self) }
         ensures after { IfOk result (λ s. s.after ≡ (answer self body.now).head) }
         ensures taken { IfOk result (λ s. (answer self body.now).status ≡ 204) }
+        ensures message { IfOk result (λ s. HasTaken body.now self.store s.after.store) }
         ensures status { IfErr result (λ e. e.1 ≢ 503 → e.1 ≡ (answer self body.now).status) }
         ensures head { IfErr result (λ e. e.1 ≢ 503 → e.0 ≡ (answer self body.now).head) }
         ensures no_memory { IfErr result (λ e. e.1 ≡ 503 → (e.0 ≡ self) × (self.busy ≡ 0)) }
@@ -124,7 +125,9 @@ impl StagedHead {
     /// Returns whether the message takes the samples or the label sets of the head above the
     /// capacity, as `Head::admit` judges it. This takes no memory, and constant time.
     pub fn exceeds(&self, capacity: &Capacity) -> bool
-        ensures { result ≡ exceeds capacity.now self.now.before.store self.now.after.store }
+        ensures exceeds { result
+            ≡ exceeds capacity.now self.now.before.store self.now.after.store }
+        ensures limited { IsTrue result → capacity.now ≢ unlimited }
     {
         self.table.exceeds(capacity, self.places)
     }

@@ -1,3 +1,5 @@
 pub mod Journal
+pub mod Logs
 pub mod Memory
 pub mod Torn
+pub mod TornLogs

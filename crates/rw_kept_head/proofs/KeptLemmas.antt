@@ -16,12 +16,12 @@ use Rattle.rw_head.specs.Order.{Point}
 use Rattle.rw_head.specs.Store.{Store, list_of}
 use Rattle.rw_journal.specs.Journal.{Segments, with_more, IsBegun, LeavesOnly, Only}
 use Rattle.rw_journal.specs.Torn.{IsTornLog}
-use Rattle.rw_torn_log.specs.Logs.{entries_of, IsWhole}
-use Rattle.rw_torn_log.specs.Torn.{last_of, AllBefore}
-use Rattle.rw_torn_log.proofs.LeftLemmas.{left_between}
-use Rattle.rw_additions.specs.Additions.{without_position, samples_in, definition_entry}
-use Rattle.rw_additions.proofs.AdditionLemmas.{samples_in-append}
-use Rattle.rw_references.specs.References.{Named, AreDefined, AreOf, StandFor, points_of, undefined, only_defined}
+use Rattle.rw_journal.specs.Logs.{entries_of, IsWhole}
+use Rattle.rw_journal.specs.TornLogs.{last_of, AllBefore}
+use Rattle.rw_journal.proofs.TornLogLemmas.{left_between}
+use Rattle.rw_wal_append.specs.Additions.{without_position, samples_in, definition_entry}
+use Rattle.rw_wal_append.proofs.AdditionLemmas.{samples_in-append}
+use Rattle.rw_wal_append.specs.References.{Named, AreDefined, AreOf, StandFor, points_of, undefined, only_defined}
 use Rattle.rw_wal_append.specs.Ends.{EndsAt}
 use Rattle.rw_kept_head.specs.Kept.{SaysWhat, LiesBetween, IsLeft, IsTornWrite, HasNoChance}
 use Rattle.rw_kept_head.specs.Inner.{GoesOn}

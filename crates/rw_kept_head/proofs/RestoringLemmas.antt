@@ -15,8 +15,8 @@ use Rattle.rw_head.specs.Store.{Store, list_of, with_list, total}
 use Rattle.rw_head.specs.Verdicts.{LabelLimits, refusal, accepted, taken_unless, taken, judged, apply}
 use Rattle.rw_head.proofs.BodyLemmas.{taken_status}
 use Rattle.rw_head.proofs.StoreLemmas.{list_of-with_list, total-with_list}
-use Rattle.rw_additions.specs.Additions.{without_position, samples_in}
-use Rattle.rw_additions.proofs.AdditionLemmas.{samples_in-append, labels_of-push, no_sample}
+use Rattle.rw_wal_append.specs.Additions.{without_position, samples_in}
+use Rattle.rw_wal_append.proofs.AdditionLemmas.{samples_in-append, labels_of-push, no_sample}
 use Rattle.rw_kept_head.specs.Restoring.{labels_in, IsRestored, IsAdded, Defines, AddsSample}
 
 one : Labels → ℕ → ℤ → TimeSeries

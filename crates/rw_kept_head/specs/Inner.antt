@@ -4,8 +4,8 @@ use Rattle.rw_wal_format.specs.Pieces.{page_size}
 use Rattle.rw_head.specs.Store.{Store}
 use Rattle.rw_journal.specs.Journal.{Segments, Only, IsBegun}
 use Rattle.rw_journal.specs.declared.journal.JournalError.{JournalError}
-use Rattle.rw_torn_log.specs.Logs.{entries_of}
-use Rattle.rw_references.specs.References.{Named, AreDefined}
+use Rattle.rw_journal.specs.Logs.{entries_of}
+use Rattle.rw_wal_append.specs.References.{Named, AreDefined}
 use Rattle.rw_wal_append.specs.Ends.{End, EndsAt}
 use Rattle.rw_kept_head.specs.Kept.{SaysWhat}
 

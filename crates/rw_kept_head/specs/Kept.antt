@@ -10,9 +10,9 @@ use Rattle.rw_head.specs.Store.{Store, list_of}
 use Rattle.rw_journal.specs.Journal.{Segments, Only, IsBegun, with_more}
 use Rattle.rw_journal.specs.Torn.{IsTornLog}
 use Rattle.rw_journal.specs.declared.journal.JournalError.{JournalError}
-use Rattle.rw_torn_log.specs.Logs.{entries_of, IsWhole}
-use Rattle.rw_torn_log.specs.Torn.{NoChance, last_of}
-use Rattle.rw_additions.specs.Additions.{samples_in}
+use Rattle.rw_journal.specs.Logs.{entries_of, IsWhole}
+use Rattle.rw_journal.specs.TornLogs.{NoChance, last_of}
+use Rattle.rw_wal_append.specs.Additions.{samples_in}
 
 -- a head, the journal that has its log, and the fault after which every request is answered 503
 pub record Kept (J : Type 0) : Type 0 where

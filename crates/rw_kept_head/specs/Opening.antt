@@ -2,7 +2,7 @@
 use Rattle.std.specs.Prelude.{◌≡◌}
 use Rattle.rw_journal.specs.Journal.{Segments}
 use Rattle.rw_wal_format.specs.Pieces.{page_size}
-use Rattle.rw_torn_log.specs.Logs.{entries_of}
+use Rattle.rw_journal.specs.Logs.{entries_of}
 use Rattle.rw_reopen.specs.declared.error.ReopenError.TheVariants.{OutOfMemory, Failed, Damaged}
 use Rattle.rw_reopen.specs.Reopening.{IsDamage}
 use Rattle.rw_kept_head.specs.declared.open_error.OpenError.{OpenError}

@@ -5,7 +5,7 @@ use Rattle.rw_types.specs.LabelOrder.{labels_eq}
 use Rattle.rw_types.specs.declared.entry.Entry.{Entry}
 use Rattle.rw_wal_format.specs.Series.{labels_of, has_labels}
 use Rattle.rw_write_request.specs.Message.{TimeSeries, WriteRequest}
-use Rattle.rw_additions.specs.Additions.{samples_in}
+use Rattle.rw_wal_append.specs.Additions.{samples_in}
 use Rattle.rw_head.specs.Head.{State}
 use Rattle.rw_head.specs.Store.{Store, list_of}
 

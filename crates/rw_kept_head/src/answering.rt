@@ -1,47 +1,72 @@
 //! Answering a message once it is in the journal.
 
-ghost use Rattle.std.specs.Prelude.{◌≡◌, ◌≢◌, ◌<◌, None, Some};
+ghost use Rattle.std.specs.Prelude.{◌≡◌, ◌≢◌, ◌<◌, ◌≤◌, ◌⊎◌, None, Some, true};
 ghost use Rattle.rw_types.specs.Beginnings.{Begins};
 ghost use Rattle.rw_types.specs.Labels.{Labels};
 ghost use Rattle.rw_journal.specs.Journal.{LeavesOnly};
+ghost use Rattle.rw_journal.specs.declared.journal.JournalError.{JournalError};
 ghost use Rattle.rw_journal.specs.declared.journal.JournalError.TheVariants.{Failed};
-ghost use Rattle.rw_head.specs.Head.{answer, IsStatus};
-ghost use Rattle.rw_head.specs.Store.{list_of};
+ghost use Rattle.rw_head.specs.declared.capacity.Admission.TheVariants.{Full};
+ghost use Rattle.rw_head.specs.Capacity.{exceeds, told, unlimited, StaysWithin};
+ghost use Rattle.rw_head.specs.Growth.{EachRises, HasTaken};
+ghost use Rattle.rw_head.specs.Head.{answer, IsStatus, SpellsMessage};
+ghost use Rattle.rw_head.specs.Store.{list_of, total};
 ghost use Rattle.rw_kept_head.specs.Kept.{SaysWhat, IsLeft};
 
 use crate::log_writer::LogWriter;
-use rw_head::Head;
+use rw_head::{Admission, Capacity, Head};
 use rw_journal::Journal;
 
-/// Answers a body: 204 only once all that it brings is in the journal and synced.
-pub(crate) fn answer_kept<J: Journal>(
+/// Answers a body as `Head::admit` does: 204 only once all that it brings is in the journal and
+/// synced.
+pub(crate) fn admit_kept<J: Journal>(
     head: Head,
     log: &mut LogWriter<J>,
     body: &[u8],
-) -> (Head, u16)
-    requires open { log.old.fault ≡ None }
-    requires says { SaysWhat (J.seen log.old.journal) head.store }
-    ensures status { result.1 ≢ 503 → result.1 ≡ (answer head body.now).status }
-    ensures head { result.1 ≢ 503 → result.0 ≡ (answer head body.now).head }
-    ensures no_memory { result.1 ≡ 503 → result.0 ≡ head }
-    ensures statuses { IsStatus result.1 }
+    capacity: &Capacity,
+) -> (Head, Admission)
+    requires says { log.old.fault ≡ None → SaysWhat (J.seen log.old.journal) head.store }
+
+    ensures status { told result.1 ≢ 503 → told result.1 ≡ (answer head body.now).status }
+    ensures head { told result.1 ≢ 503 → result.0 ≡ (answer head body.now).head }
+    ensures unavailable { told result.1 ≡ 503 → (result.0 ≡ head) × (head.busy ≡ 0) }
+    ensures readable { told result.1 ≡ 503 → SpellsMessage body.now }
+    ensures statuses { IsStatus (told result.1) }
+    ensures refused { told result.1 ≢ 204 → result.0.store ≡ head.store }
+    ensures taken { told result.1 ≡ 204 → HasTaken body.now head.store result.0.store }
+    ensures more { total head.store ≤ total result.0.store }
+    ensures rises { EachRises result.0.store }
     ensures begins { (l : Labels) → Begins (list_of head.store l)
         (list_of (answer head body.now).head.store l) }
-    ensures open { result.1 ≢ 503 → log.new.fault ≡ None }
+    ensures within { StaysWithin capacity.now head.store result.0.store }
+    ensures full { result.1 ≡ Full
+        → exceeds capacity.now head.store (answer head body.now).head.store ≡ true }
+    ensures limited { result.1 ≡ Full → capacity.now ≢ unlimited }
+
+    ensures open { told result.1 ≡ 204 → log.new.fault ≡ None }
     ensures says { log.new.fault ≡ None → SaysWhat (J.seen log.new.journal) result.0.store }
-    ensures any_moment { LeavesOnly J.moment J.left_since log.old.journal log.new.journal
+    ensures any_moment { log.old.fault ≡ None
+        → LeavesOnly J.moment J.left_since log.old.journal log.new.journal
         (IsLeft J.tears (answer head body.now).head.store (J.seen log.old.journal)) }
-    ensures failed { log.new.fault ≡ Some Failed
-        → J.faults log.old.journal < J.faults log.new.journal }
+    ensures closed { (e : JournalError) → log.old.fault ≡ Some e
+        → (told result.1 ≢ 204) × (log.new ≡ log.old) }
+    ensures failed { log.new.fault ≡ Some Failed → (log.old.fault ≡ Some Failed)
+        ⊎ (J.faults log.old.journal < J.faults log.new.journal) }
 {
-    let _open = log.fault();
+    let has_failed = log.fault().is_some();
     let staged = match head.stage(body) {
         Ok(staged) => staged,
-        Err((head, status)) => return (head, status),
+        Err((head, status)) => {
+            let _total = head.total();
+            return (head, Admission::Answered(status));
+        }
     };
-    if log.keep(&staged) {
-        (staged.commit(), 204)
+    if staged.exceeds(capacity) {
+        return (staged.abort(), Admission::Full);
+    }
+    if !has_failed && log.keep(&staged) {
+        (staged.commit(), Admission::Answered(204))
     } else {
-        (staged.abort(), 503)
+        (staged.abort(), Admission::Answered(503))
     }
 }

@@ -1,25 +1,28 @@
 //! A head whose log is in a journal.
 
-ghost use Rattle.std.specs.Prelude.{◌≡◌, ◌≢◌, ◌<◌, ◌⊎◌, None, Some};
+ghost use Rattle.std.specs.Prelude.{◌≡◌, ◌≢◌, ◌<◌, ◌≤◌, ◌⊎◌, None, Some, true};
 ghost use Rattle.rw_types.specs.Beginnings.{Begins};
 ghost use Rattle.rw_types.specs.Labels.{Labels};
 ghost use Rattle.rw_journal.specs.Journal.{LeavesOnly};
 ghost use Rattle.rw_journal.specs.declared.journal.JournalError.{JournalError};
 ghost use Rattle.rw_journal.specs.declared.journal.JournalError.TheVariants.{Failed};
-ghost use Rattle.rw_head.specs.Head.{answer, IsStatus};
-ghost use Rattle.rw_head.specs.Store.{list_of};
+ghost use Rattle.rw_head.specs.declared.capacity.Admission.TheVariants.{Full};
+ghost use Rattle.rw_head.specs.Capacity.{exceeds, told, unlimited, StaysWithin};
+ghost use Rattle.rw_head.specs.Growth.{EachRises, HasTaken};
+ghost use Rattle.rw_head.specs.Head.{answer, IsStatus, SpellsMessage};
+ghost use Rattle.rw_head.specs.Store.{list_of, total};
 ghost use Rattle.rw_kept_head.specs.Kept.{IsKept, IsLeft};
 
-use crate::answering::answer_kept;
+use crate::answering::admit_kept;
 use crate::log_writer::LogWriter;
-use rw_head::{Head, Limits};
+use rw_head::{Admission, Capacity, Head, Limits};
 use rw_journal::{Journal, JournalError};
 use std::alloc::Global;
 use std::marker::Model;
 use std::mem;
 
 /// A head whose samples are in a journal, as a log. Contracts see the head, the journal, and the
-/// fault after which every request is answered 503.
+/// fault after which nothing more is kept.
 #[derive(Drop)]
 pub struct KeptHead<J: Journal> {
     pub(crate) alloc: Global,
@@ -44,21 +47,34 @@ impl<J: Journal> Model for KeptHead<J> {
 }
 
 impl<J: Journal> KeptHead<J> {
-    /// Answers the body of a request as `Head::answer` does, and 204 only once all samples that it
+    /// Answers the body of a request as `Head::admit` does, and 204 only once all samples that it
     /// brings are in the journal and synced.
     ///
-    /// 503 means that memory ran out or a call of the journal failed. What the head holds is then
-    /// as it was. After a failed call of the journal every request is answered 503, until the
-    /// journal is opened again.
-    pub fn answer(&mut self, body: &[u8]) -> u16
+    /// 503 means that the head is full, that memory ran out, or that a call of the journal failed.
+    /// What the head holds is then as it was. After a failed call of the journal no request is
+    /// answered 204, until the journal is opened again: one that the head would take is answered
+    /// 503.
+    pub fn admit(&mut self, body: &[u8], capacity: &Capacity) -> Admission
         // The answer is that of a head without a journal, or 503.
-        ensures status { result ≢ 503 → result ≡ (answer self.old.head body.now).status }
-        ensures head { result ≢ 503 → self.new.head ≡ (answer self.old.head body.now).head }
-        ensures unchanged { result ≡ 503 → self.new.head ≡ self.old.head }
-        ensures statuses { IsStatus result }
+        ensures status { told result ≢ 503
+            → told result ≡ (answer self.old.head body.now).status }
+        ensures head { told result ≢ 503 → self.new.head ≡ (answer self.old.head body.now).head }
+        ensures unavailable { told result ≡ 503
+            → (self.new.head ≡ self.old.head) × (self.old.head.busy ≡ 0) }
+        ensures readable { told result ≡ 503 → SpellsMessage body.now }
+        ensures statuses { IsStatus (told result) }
+        ensures refused { told result ≢ 204 → self.new.head.store ≡ self.old.head.store }
+        ensures taken { told result ≡ 204
+            → HasTaken body.now self.old.head.store self.new.head.store }
+        ensures more { total self.old.head.store ≤ total self.new.head.store }
+        ensures rises { EachRises self.new.head.store }
+        ensures within { StaysWithin capacity.now self.old.head.store self.new.head.store }
+        ensures full { result ≡ Full → exceeds capacity.now self.old.head.store
+            (answer self.old.head body.now).head.store ≡ true }
+        ensures limited { result ≡ Full → capacity.now ≢ unlimited }
 
         // What is held is in the journal, and survives every crash from now on.
-        ensures acknowledged { result ≢ 503 → IsKept (J.may_leave self.new.journal)
+        ensures acknowledged { told result ≡ 204 → IsKept (J.may_leave self.new.journal)
             (J.seen self.new.journal) self.new.head.store }
         ensures kept { self.new.fault ≡ None → IsKept (J.may_leave self.new.journal)
             (J.seen self.new.journal) self.new.head.store }
@@ -68,25 +84,21 @@ impl<J: Journal> KeptHead<J> {
         ensures any_moment { self.old.fault ≡ None
             → LeavesOnly J.moment J.left_since self.old.journal self.new.journal
             (IsLeft J.tears (answer self.old.head body.now).head.store (J.seen self.old.journal)) }
-        ensures begins { self.old.fault ≡ None → (l : Labels) → Begins
-            (list_of self.old.head.store l)
+        ensures begins { (l : Labels) → Begins (list_of self.old.head.store l)
             (list_of (answer self.old.head body.now).head.store l) }
 
-        // After a fault of the journal nothing changes any more, and there is none without a cause.
-        ensures closed { (e : JournalError) → self.old.fault ≡ Some e
-            → (result ≡ 503) × (self.new ≡ self.old) }
+        // After a fault of the journal nothing more is kept, and there is none without a cause.
+        ensures closed { (e : JournalError) → self.old.fault ≡ Some e → (told result ≢ 204)
+            × (self.new.journal ≡ self.old.journal) × (self.new.fault ≡ self.old.fault) }
         ensures failed { self.new.fault ≡ Some Failed → (self.old.fault ≡ Some Failed)
             ⊎ (J.faults self.old.journal < J.faults self.new.journal) }
     {
-        if self.log.fault.is_some() {
-            return 503;
-        }
         let blank = Head::new(self.alloc, &self.limits);
         let head = mem::replace(&mut self.head, blank);
-        let (head, status) = answer_kept(head, &mut self.log, body);
+        let (head, admission) = admit_kept(head, &mut self.log, body, capacity);
         self.head = head;
         let _kept = self.log.fault();
-        status
+        admission
     }
 
     /// Returns the head.
@@ -117,7 +129,7 @@ impl<J: Journal> KeptHead<J> {
         journal
     }
 
-    /// Returns the fault after which every request is answered 503, if there was one.
+    /// Returns the fault after which nothing more is kept, if there was one.
     pub fn fault(&self) -> Option<JournalError>
         ensures fault { result ≡ self.now.fault }
         ensures kept { result ≡ None → IsKept (J.may_leave self.now.journal)

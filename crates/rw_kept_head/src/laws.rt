@@ -8,12 +8,12 @@ ghost use Rattle.rw_types.specs.declared.entry.Entry.{Entry};
 ghost use Rattle.rw_wal_format.specs.Pieces.{page_size};
 ghost use Rattle.rw_head.specs.Store.{Store, list_of};
 ghost use Rattle.rw_journal.specs.Journal.{Segments};
-ghost use Rattle.rw_torn_log.specs.Logs.{IsWhole};
-ghost use Rattle.rw_additions.specs.Additions.{samples_in};
+ghost use Rattle.rw_journal.specs.Logs.{IsWhole};
+ghost use Rattle.rw_wal_append.specs.Additions.{samples_in};
 ghost use Rattle.rw_kept_head.specs.Kept.{SaysWhat, LiesBetween, IsLeft, HasNoChance};
 
 use rw_journal::Journal;
-use rw_torn_log::laws::segments_add_up;
+use rw_journal::laws::segments_add_up;
 
 /// Law: as a log goes on, the samples of each label set go on.
 pub fn samples_go_on()

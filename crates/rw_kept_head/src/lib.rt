@@ -1,6 +1,7 @@
 //! A head whose samples are in a journal, as a log, before they are acknowledged.
 #![tactic(auto)]
 
+mod admitting;
 mod answering;
 mod keep_error;
 mod kept_head;

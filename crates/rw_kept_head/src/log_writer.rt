@@ -6,8 +6,8 @@ ghost use Rattle.rw_journal.specs.Journal.{with_more, Only, IsBegun, LeavesOnly}
 ghost use Rattle.rw_journal.specs.declared.journal.JournalError.TheVariants.{Failed};
 ghost use Rattle.rw_wal_format.specs.Laws.{sample_entry};
 ghost use Rattle.rw_wal_format.specs.Pieces.{page_size};
-ghost use Rattle.rw_additions.specs.Additions.{definition_entry};
-ghost use Rattle.rw_torn_log.specs.Logs.{entries_of, IsWhole};
+ghost use Rattle.rw_wal_append.specs.Additions.{definition_entry};
+ghost use Rattle.rw_journal.specs.Logs.{entries_of, IsWhole};
 ghost use Rattle.rw_wal_append.specs.Ends.{EndsAt};
 ghost use Rattle.rw_kept_head.specs.Kept.{SaysWhat, IsLeft};
 ghost use Rattle.rw_kept_head.specs.Inner.{IsWritable, GoesOn, Keeps};
@@ -16,13 +16,11 @@ ghost use Rattle.rw_kept_head.specs.declared.keep_error.KeepError.TheVariants.{U
 use crate::keep_error::KeepError;
 use crate::spelling::collect;
 use rw_head::StagedHead;
+use rw_journal::laws::segments_add_up;
 use rw_journal::{Journal, JournalError, write_in_pages};
-use rw_references::References;
-use rw_references::laws::new_samples_are_read;
-use rw_torn_log::laws::segments_add_up;
 use rw_types::{RawLabels, Word};
-use rw_wal_append::laws::a_next_segment_may_begin;
-use rw_wal_append::{AppendError, LogEnd};
+use rw_wal_append::laws::{a_next_segment_may_begin, new_samples_are_read};
+use rw_wal_append::{AppendError, LogEnd, References};
 use rw_wal_format::PAGE_BYTES;
 use std::alloc::Global;
 use std::marker::Model;

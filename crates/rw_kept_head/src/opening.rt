@@ -13,13 +13,11 @@ use crate::log_writer::LogWriter;
 use crate::open_error::OpenError;
 use crate::restoring::Restoring;
 use rw_head::{Head, Limits};
-use rw_journal::Journal;
-use rw_references::References;
+use rw_journal::{Journal, close_torn};
 use rw_reopen::{ReopenError, read_log};
-use rw_torn_log::close_torn;
 use rw_types::RequestPath;
-use rw_wal_append::LogEnd;
 use rw_wal_append::laws::an_empty_segment_ends_at_0;
+use rw_wal_append::{LogEnd, References};
 use std::alloc::{AllocError, Global};
 
 /// The first reference that is not given: a log that has it is refused.

@@ -4,7 +4,7 @@ ghost use Rattle.std.specs.Prelude.{◌≡◌, ◌∷◌, ◌++◌, [], List, tr
 ghost use Rattle.std.specs.HashMap.{get};
 ghost use Rattle.rw_types.specs.Labels.{Labels, text_label};
 ghost use Rattle.rw_types.specs.declared.entry.Entry.{Entry};
-ghost use Rattle.rw_additions.specs.Additions.{samples_in};
+ghost use Rattle.rw_wal_append.specs.Additions.{samples_in};
 ghost use Rattle.rw_head.specs.Store.{list_of};
 ghost use Rattle.rw_kept_head.specs.Restoring.{IsAdded, Defines, AddsSample, IsRestored};
 

@@ -1,5 +1,5 @@
 -- What a receiver has received, and what holds of every outcome that is fine.
-use Rattle.std.proofs.Common.{◌≡◌, ℕ, Result, Ok, Err, OnOk, subst}
+use Rattle.std.proofs.Common.{ℕ, Result, Ok, Err, OnOk}
 use Rattle.rw_head.specs.declared.limits.Limits.{Limits}
 use Rattle.rw_head.specs.Head.{State}
 use Rattle.rw_head.specs.Store.{Store}
@@ -10,5 +10,5 @@ on_ok (Ok x) f h = f h
 on_ok (Err e) f h = tt
 
 -- the head that was asked is a new one
-pub received_so : (limits : Limits) (opening : State) (n count : ℕ) (store : Store) → IsNew limits opening → n ≡ count → HasReceived opening n store → IsReceived limits count store
-received_so limits opening n count store new same h = (opening, new, subst (λ k. HasReceived opening k store) same h)
+pub received_so : (limits : Limits) (opening : State) (count : ℕ) (store : Store) → IsNew limits opening → HasReceived opening count store → IsReceived limits count store
+received_so limits opening count store new h = (opening, new, h)

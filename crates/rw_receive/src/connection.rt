@@ -1,7 +1,7 @@
 //! A connection that is served in a thread, or that has ended.
 
 use crate::serving::{ServerContext, serve_connection};
-use rw_recv_head::{Naming, Seat, SharedHead};
+use rw_recv_head::{Admit, Naming, Seat, SharedHead};
 use std::alloc::Global;
 use std::net::TcpStream;
 use std::sync::atomic::{AtomicBool, Ordering};
@@ -29,11 +29,11 @@ pub(crate) enum Connection<L: Naming> {
 
 /// Serves a connection in a thread of the scope, or in this one if no thread can be made. A
 /// connection for which memory runs out is closed.
-pub(crate) fn start_connection<'s, E, L: Naming + Send + Sync + 's, R: Wait + Clock + Sync>(
+pub(crate) fn start_connection<'s, E, L: Naming + Send + Sync + 's, H: Admit + Send + 's, R: Wait + Clock + Sync>(
     scope: &Scope<'s, E>,
     rt: &'s R,
     context: &'s ServerContext<'s>,
-    shared: &'s SharedHead<L>,
+    shared: &'s SharedHead<L, H>,
     stream: TcpStream,
     seat: Seat<L>,
 ) -> Connection<L> {

@@ -6,8 +6,7 @@ ghost use Rattle.rw_text.specs.declared.tool_fault.ToolFault.TheVariants.{OutOfM
 
 use crate::final_head::FinalHead;
 use crate::serving::{ServerContext, serve_connection};
-use rw_head::Head;
-use rw_recv_head::{Blank, Naming, Seat, SharedHead};
+use rw_recv_head::{Admit, Blank, Naming, Seat, SharedHead};
 use rw_text::ToolFault;
 use std::alloc::{AllocError, Global};
 use std::net::{TcpListener, TcpStream};
@@ -27,11 +26,11 @@ fn accept(listener: &TcpListener) -> Result<TcpStream, ToolFault>
 }
 
 /// Begins to serve a connection in a thread of the scope.
-fn spawn_connection<'s, E, L: Naming + Send + Sync + 's, R: Wait + Clock + Sync>(
+fn spawn_connection<'s, E, L: Naming + Send + Sync + 's, H: Admit + Send + 's, R: Wait + Clock + Sync>(
     scope: &Scope<'s, E>,
     rt: &'s R,
     context: &'s ServerContext<'s>,
-    shared: &'s SharedHead<L>,
+    shared: &'s SharedHead<L, H>,
     stream: TcpStream,
     seat: Seat<L>,
 ) -> Result<JoinHandle<Seat<L>>, ToolFault>
@@ -44,12 +43,12 @@ fn spawn_connection<'s, E, L: Naming + Send + Sync + 's, R: Wait + Clock + Sync>
 }
 
 /// Accepts a connection for each seat, and begins to serve it in a thread of the scope.
-fn start_each<'s, E, L: Naming + Send + Sync + 's, R: Wait + Clock + Sync>(
+fn start_each<'s, E, L: Naming + Send + Sync + 's, H: Admit + Send + 's, R: Wait + Clock + Sync>(
     scope: &Scope<'s, E>,
     rt: &'s R,
     listener: &TcpListener,
     context: &'s ServerContext<'s>,
-    shared: &'s SharedHead<L>,
+    shared: &'s SharedHead<L, H>,
     seats: Vec<Seat<L>>,
 ) -> Result<Vec<JoinHandle<Seat<L>>>, ToolFault>
     ensures all { IfOk result (λ handles. vec_len handles ≡ vec_len seats) }
@@ -81,11 +80,11 @@ fn join_each<L: Naming, R: Threads>(
 /// Serves one connection from each seat, each in its own thread, and returns the seats. The
 /// listener is closed once the last connection has come, or none can be served any more: whoever
 /// comes then is refused at once, and does not wait for those being served.
-fn serve_each<L: Naming + Send + Sync, R: Threads + Wait + Clock + Sync>(
+fn serve_each<L: Naming + Send + Sync, H: Admit + Send, R: Threads + Wait + Clock + Sync>(
     rt: &R,
     listener: TcpListener,
     context: &ServerContext<'_>,
-    shared: &SharedHead<L>,
+    shared: &SharedHead<L, H>,
     seats: Vec<Seat<L>>,
 ) -> Result<Vec<Seat<L>>, ToolFault>
     ensures all { IfOk result (λ back. vec_len back ≡ vec_len seats) }
@@ -106,23 +105,23 @@ fn serve_each<L: Naming + Send + Sync, R: Threads + Wait + Clock + Sync>(
 }
 
 /// Serves `connections` connections over one head. Returns the head that they leave.
-pub(crate) fn receive_all<L: Naming + Send + Sync, R: Threads + Wait + Clock + Sync>(
+pub(crate) fn receive_all<L: Naming + Send + Sync, H: Admit + Send, R: Threads + Wait + Clock + Sync>(
     rt: &R,
     context: &ServerContext<'_>,
     blank: Blank,
-    head: Head,
+    head: H,
     connections: usize,
     listener: TcpListener,
-) -> Result<FinalHead, ToolFault>
+) -> Result<FinalHead<H>, ToolFault>
     requires some { 0 < connections }
     requires name { blank.name ≡ L.name }
     requires parts { (blank.parts ≡ connections + 1) × (L.parts ≡ connections + 1) }
     requires table { blank.table ≡ L.table }
-    requires opening { head ≡ L.opening }
-    ensures received { IfOk result (λ head. HasReceived L.opening connections head.store) }
+    requires opening { H.state head ≡ L.opening }
+    ensures received { IfOk result (λ head. HasReceived L.opening connections (H.state head).store) }
     ensures faults { IfErr result (λ e. (e ≡ OutOfMemory) ⊎ (e ≡ Device)) }
 {
-    let Ok((shared, seats)) = SharedHead::<L>::seats(context.alloc, blank, head, connections) else {
+    let Ok((shared, seats)) = SharedHead::<L, H>::seats(context.alloc, blank, head, connections) else {
         return Err(ToolFault::OutOfMemory);
     };
     let seats = serve_each(rt, listener, context, &shared, seats)?;

@@ -2,21 +2,21 @@
 
 use rw_endpoint::Answer;
 use rw_metrics::ReceiveCounters;
-use rw_recv_head::{Naming, Seat, SharedHead};
+use rw_recv_head::{Admit, Naming, Seat, SharedHead};
 use std::sync::Wait;
 
 /// A seat that is lent to answer the bodies of a connection's requests. Each answer may wait for
 /// the lock, and is counted.
 #[derive(Drop)]
-pub(crate) struct CountingSeat<'a, R, L: Naming> {
+pub(crate) struct CountingSeat<'a, R, L: Naming, H: Admit> {
     pub(crate) rt: &'a R,
-    pub(crate) shared: &'a SharedHead<L>,
+    pub(crate) shared: &'a SharedHead<L, H>,
     /// A seat of that shared head.
     pub(crate) seat: &'a mut Seat<L>,
     pub(crate) counters: &'a ReceiveCounters,
 }
 
-impl<R: Wait, L: Naming> Answer for CountingSeat<'_, R, L> {
+impl<R: Wait, L: Naming, H: Admit> Answer for CountingSeat<'_, R, L, H> {
     ghost use Rattle.std.specs.Prelude.{◌≡◌};
     ghost use Rattle.rw_recv_head.specs.Seats.{HasAsked};
 

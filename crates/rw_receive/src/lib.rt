@@ -16,4 +16,5 @@ mod service;
 mod serving;
 mod timed_stream;
 
-pub use receive::{Service, run_receive, run_receive_until};
+pub use final_head::FinalHead;
+pub use receive::{Service, run_receive, run_receive_until, serve_connections, serve_until_stop};

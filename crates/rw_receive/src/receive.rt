@@ -1,17 +1,18 @@
 //! The command `receive`, over any listener and writer.
 
-ghost use Rattle.std.specs.Prelude.{◌≡◌, ◌⊎◌, true, false, Err, IfErr, OnOk};
-ghost use Rattle.rw_receive.specs.Receiving.{WritesHeld, WritesHeldPart};
+ghost use Rattle.std.specs.Prelude.{◌≡◌, ◌⊎◌, true, false, Err, IfErr, IfOk, OnOk};
+ghost use Rattle.rw_receive.specs.Receiving.{HasReceived, WritesHeld, WritesHeldPart};
 ghost use Rattle.rw_text.specs.declared.tool_fault.ToolFault.TheVariants.{OutOfMemory, Device};
 
 use crate::connections::receive_all;
+use crate::final_head::FinalHead;
 use crate::seat_request::SeatRequest;
 use crate::service::receive_until;
 use crate::serving::ServerContext;
 use rw_follow::StopSignal;
-use rw_head::{Capacity, Head};
+use rw_head::{Capacity, Head, Limits};
 use rw_metrics::ReceiveCounters;
-use rw_recv_head::Blank;
+use rw_recv_head::{Admit, Blank};
 use rw_settings::Settings;
 use rw_text::ToolFault;
 use rw_types::{Bounded, Sink};
@@ -37,6 +38,67 @@ pub struct Service<'a> {
     pub capacity: Capacity,
     /// They count each connection and each answer of the head. No clause says anything about them.
     pub counters: &'a ReceiveCounters,
+}
+
+/// Serves `most` connections, each in its own thread, over this head, or over what has it, and
+/// returns it as they leave it. `run_receive` does this with a new head, and says more about it.
+pub fn serve_connections<R: Threads + Wait + Clock + Sync, H: Admit + Send>(
+    rt: &R,
+    alloc: Global,
+    limits: &Limits,
+    service: Service<'_>,
+    listener: TcpListener,
+    holder: H,
+) -> Result<FinalHead<H>, ToolFault>
+    ensures received { IfOk result
+        (λ head. HasReceived (H.state holder) service.entry.most (H.state head).store) }
+    ensures faults { IfErr result (λ e. (e ≡ OutOfMemory) ⊎ (e ≡ Device)) }
+{
+    let count = service.most.get();
+    let blank = Blank::with_capacity(alloc, count + 1, service.capacity)?;
+    let never = StopSignal::new();
+    let seat_request = SeatRequest::new();
+    let context = ServerContext {
+        alloc,
+        limits,
+        signal: &never,
+        idle_ms: service.idle_ms,
+        request_ms: service.request_ms,
+        seat_request: &seat_request,
+        counters: service.counters,
+    };
+    receive_all::<Brand, H, R>(rt, &context, blank, holder, count as usize, listener)
+}
+
+/// Serves any number of connections over this head, or over what has it, until a stop is requested,
+/// and returns it as they leave it. `run_receive_until` does this with a new head, and says more
+/// about it.
+pub fn serve_until_stop<R: Threads + Wait + Clock + Sync, H: Admit + Send>(
+    rt: &R,
+    alloc: Global,
+    limits: &Limits,
+    service: Service<'_>,
+    signal: &StopSignal,
+    listener: TcpListener,
+    holder: H,
+) -> Result<FinalHead<H>, ToolFault>
+    ensures received { IfOk result
+        (λ head. HasReceived (H.state holder) service.entry.most (H.state head).store) }
+    ensures faults { IfErr result (λ e. (e ≡ OutOfMemory) ⊎ (e ≡ Device)) }
+{
+    let most = service.most.get();
+    let blank = Blank::with_capacity(alloc, most + 1, service.capacity)?;
+    let seat_request = SeatRequest::new();
+    let context = ServerContext {
+        alloc,
+        limits,
+        signal,
+        idle_ms: service.idle_ms,
+        request_ms: service.request_ms,
+        seat_request: &seat_request,
+        counters: service.counters,
+    };
+    receive_until::<Brand, H, R>(rt, &context, blank, holder, most as usize, listener)
 }
 
 /// Serves `most` connections, each in its own thread, over one head that the limits of the settings
@@ -75,21 +137,8 @@ pub fn run_receive<R: Threads + Wait + Clock + Sync, W: Sink>(
         × WritesHeldPart settings.now.limits service.entry.most
         (W.contents writer.old) (W.contents writer.new)) }
 {
-    let count = service.most.get();
-    let blank = Blank::with_capacity(alloc, count + 1, service.capacity)?;
     let head = Head::new(alloc, &settings.limits);
-    let never = StopSignal::new();
-    let seat_request = SeatRequest::new();
-    let context = ServerContext {
-        alloc,
-        limits: &settings.limits,
-        signal: &never,
-        idle_ms: service.idle_ms,
-        request_ms: service.request_ms,
-        seat_request: &seat_request,
-        counters: service.counters,
-    };
-    let head = receive_all::<Brand, R>(rt, &context, blank, head, count as usize, listener)?;
+    let head = serve_connections(rt, alloc, &settings.limits, service, listener, head)?;
     head.print(alloc, writer)
 }
 
@@ -131,19 +180,7 @@ pub fn run_receive_until<R: Threads + Wait + Clock + Sync, W: Sink>(
         × WritesHeldPart settings.now.limits service.entry.most
         (W.contents writer.old) (W.contents writer.new)) }
 {
-    let most = service.most.get();
-    let blank = Blank::with_capacity(alloc, most + 1, service.capacity)?;
     let head = Head::new(alloc, &settings.limits);
-    let seat_request = SeatRequest::new();
-    let context = ServerContext {
-        alloc,
-        limits: &settings.limits,
-        signal,
-        idle_ms: service.idle_ms,
-        request_ms: service.request_ms,
-        seat_request: &seat_request,
-        counters: service.counters,
-    };
-    let head = receive_until::<Brand, R>(rt, &context, blank, head, most as usize, listener)?;
+    let head = serve_until_stop(rt, alloc, &settings.limits, service, signal, listener, head)?;
     head.print(alloc, writer)
 }

@@ -6,7 +6,7 @@ use crate::accepting::next_connection;
 use crate::connection::{ActiveConnection, Connection, start_connection};
 use crate::serving::ServerContext;
 use rw_follow::StopRequest;
-use rw_recv_head::{Naming, Seat, SharedHead};
+use rw_recv_head::{Admit, Naming, Seat, SharedHead};
 use std::alloc::{AllocError, Global};
 use std::collections::VecDeque;
 use std::marker::Model;
@@ -110,13 +110,13 @@ impl<L: Naming> SeatPool<L> {
 
 /// Serves the next connection in a thread of the scope, if one comes within a tick. If no seat is
 /// free, it waits for one; if a stop is requested before, the connection is closed.
-fn serve_next<'s, E, L: Naming + Send + Sync + 's, R: Threads + Wait + Clock + Sync>(
+fn serve_next<'s, E, L: Naming + Send + Sync + 's, H: Admit + Send + 's, R: Threads + Wait + Clock + Sync>(
     pool: &mut SeatPool<L>,
     scope: &Scope<'s, E>,
     rt: &'s R,
     listener: &TcpListener,
     context: &'s ServerContext<'s>,
-    shared: &'s SharedHead<L>,
+    shared: &'s SharedHead<L, H>,
 )
     ensures { pool.new ≡ pool.old }
 {
@@ -135,13 +135,13 @@ fn serve_next<'s, E, L: Naming + Send + Sync + 's, R: Threads + Wait + Clock + S
 }
 
 /// Serves connection after connection until a stop is requested.
-pub fn serve_until_stopped<'s, E, L: Naming + Send + Sync + 's, R: Threads + Wait + Clock + Sync>(
+pub fn serve_until_stopped<'s, E, L: Naming + Send + Sync + 's, H: Admit + Send + 's, R: Threads + Wait + Clock + Sync>(
     pool: &mut SeatPool<L>,
     scope: &Scope<'s, E>,
     rt: &'s R,
     listener: &TcpListener,
     context: &'s ServerContext<'s>,
-    shared: &'s SharedHead<L>,
+    shared: &'s SharedHead<L, H>,
 )
     ensures { pool.new ≡ pool.old }
 {

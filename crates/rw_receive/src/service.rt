@@ -8,8 +8,7 @@ use crate::accepting::accept_in_ticks;
 use crate::final_head::FinalHead;
 use crate::seat_pool::{SeatPool, serve_until_stopped};
 use crate::serving::ServerContext;
-use rw_head::Head;
-use rw_recv_head::{Blank, Naming, Seat, SharedHead};
+use rw_recv_head::{Admit, Blank, Naming, Seat, SharedHead};
 use rw_text::ToolFault;
 use std::alloc::AllocError;
 use std::net::TcpListener;
@@ -20,11 +19,11 @@ use std::time::Clock;
 
 /// Serves from all seats until a stop is requested, waits for the connections being served, and
 /// returns the seats. The listener is closed first.
-fn serve_until<L: Naming + Send + Sync, R: Threads + Wait + Clock + Sync>(
+fn serve_until<L: Naming + Send + Sync, H: Admit + Send, R: Threads + Wait + Clock + Sync>(
     rt: &R,
     listener: TcpListener,
     context: &ServerContext<'_>,
-    shared: &SharedHead<L>,
+    shared: &SharedHead<L, H>,
     seats: Vec<Seat<L>>,
 ) -> Result<Vec<Seat<L>>, AllocError>
     ensures { IfOk result (λ back. vec_len back ≡ vec_len seats) }
@@ -45,26 +44,26 @@ fn serve_until<L: Naming + Send + Sync, R: Threads + Wait + Clock + Sync>(
 
 /// Serves at most `most` connections at once over one head, until a stop is requested. Returns the
 /// head that they leave.
-pub(crate) fn receive_until<L: Naming + Send + Sync, R: Threads + Wait + Clock + Sync>(
+pub(crate) fn receive_until<L: Naming + Send + Sync, H: Admit + Send, R: Threads + Wait + Clock + Sync>(
     rt: &R,
     context: &ServerContext<'_>,
     blank: Blank,
-    head: Head,
+    head: H,
     most: usize,
     listener: TcpListener,
-) -> Result<FinalHead, ToolFault>
+) -> Result<FinalHead<H>, ToolFault>
     requires some { 0 < most }
     requires name { blank.name ≡ L.name }
     requires parts { (blank.parts ≡ most + 1) × (L.parts ≡ most + 1) }
     requires table { blank.table ≡ L.table }
-    requires opening { head ≡ L.opening }
-    ensures received { IfOk result (λ head. HasReceived L.opening most head.store) }
+    requires opening { H.state head ≡ L.opening }
+    ensures received { IfOk result (λ head. HasReceived L.opening most (H.state head).store) }
     ensures faults { IfErr result (λ e. (e ≡ OutOfMemory) ⊎ (e ≡ Device)) }
 {
     if accept_in_ticks(&listener).is_err() {
         return Err(ToolFault::Device);
     }
-    let Ok((shared, seats)) = SharedHead::<L>::seats(context.alloc, blank, head, most) else {
+    let Ok((shared, seats)) = SharedHead::<L, H>::seats(context.alloc, blank, head, most) else {
         return Err(ToolFault::OutOfMemory);
     };
     let seats = serve_until(rt, listener, context, &shared, seats)?;

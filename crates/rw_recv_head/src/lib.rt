@@ -4,6 +4,7 @@
 //! head that counts the samples that its requests stored.
 #![tactic(auto)]
 
+mod admit;
 mod blank;
 mod laws;
 mod locked;
@@ -13,6 +14,7 @@ mod questions;
 mod seat;
 mod shared_head;
 
+pub use admit::Admit;
 pub use blank::Blank;
 pub use laws::{what_is_answered_204_is_held, what_is_stored_stays};
 pub use naming::Naming;

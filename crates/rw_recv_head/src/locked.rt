@@ -9,24 +9,25 @@ ghost use Rattle.rw_head.specs.Growth.{EachRises};
 ghost use Rattle.rw_recv_head.specs.Seats.{most, bodies_of, store_after, HasAsked, FindsFull};
 ghost use Rattle.rw_recv_head.specs.declared.question.Question.{Question};
 
+use crate::admit::Admit;
 use crate::naming::Naming;
 use crate::questions::Questions;
 use crate::seat::Seat;
-use rw_head::{Admission, Capacity, Head};
+use rw_head::{Admission, Capacity};
 use std::marker::Model;
 use std::sync::ledger::{Share, Total};
 
 /// A head, what it was asked, and the rest of its ledger: how many samples could still be stored.
 /// Contracts see the head and the questions.
 #[derive(Drop)]
-pub(crate) struct Locked<L: Naming> {
-    head: Head,
+pub(crate) struct Locked<L: Naming, H: Admit> {
+    holder: H,
     questions: Questions<L>,
     rest: Share<L>,
     capacity: Capacity,
 }
 
-impl<L: Naming> Model for Locked<L> {
+impl<L: Naming, H: Admit> Model for Locked<L, H> {
     ghost use Rattle.std.specs.Coded.{codes};
     ghost use Rattle.std.specs.FinMap as map;
     ghost use Rattle.std.specs.Prelude.{◌≡◌};
@@ -37,35 +38,35 @@ impl<L: Naming> Model for Locked<L> {
 
     ghost coded = { Prim.hlevel (codes, map.code) };
 
-    ghost view = { λ l. record { head = l.head; questions = l.questions } };
+    ghost view = { λ l. record { head = H.state l.holder; questions = l.questions } };
 
     ghost invariant = { λ l. IsKept L.opening L.parts
-        (record { head = l.head; questions = l.questions }) l.rest.parts l.rest.amount
-        × StaysWithin L.table.capacity L.opening.store l.head.store
+        (record { head = H.state l.holder; questions = l.questions }) l.rest.parts l.rest.amount
+        × StaysWithin L.table.capacity L.opening.store (H.state l.holder).store
         × (l.capacity ≡ L.table.capacity) };
 }
 
-impl<L: Naming> Locked<L> {
+impl<L: Naming, H: Admit> Locked<L, H> {
     /// Returns a head that was not asked anything yet, with the number of samples that could still
     /// be stored, and with its capacity.
     pub(crate) fn new(
-        head: Head,
+        holder: H,
         questions: Questions<L>,
         rest: Share<L>,
         capacity: Capacity,
-    ) -> Locked<L>
-        requires opening { head ≡ L.opening }
+    ) -> Locked<L, H>
+        requires opening { H.state holder ≡ L.opening }
         requires capacity { capacity ≡ L.table.capacity }
         requires nothing { questions.asked ≡ [] }
         requires all_given { L.parts ≡ questions.given + 1 }
         requires none_back { questions.back ≡ [] }
         requires one_part { rest.parts ≡ 1 }
-        requires adds_up { total head.store + rest.amount ≡ most }
-        ensures { result ≡ record { head = head; questions = questions } }
+        requires adds_up { total (H.state holder).store + rest.amount ≡ most }
+        ensures { result ≡ record { head = H.state holder; questions = questions } }
     {
-        let _total = head.total();
+        let _total = holder.head().total();
         Locked {
-            head,
+            holder,
             questions,
             rest,
             capacity,
@@ -73,11 +74,11 @@ impl<L: Naming> Locked<L> {
     }
 
     /// Returns the head, what it was asked, and the number of samples that could still be stored.
-    pub(crate) fn into_parts(self) -> (Head, Questions<L>, Share<L>)
-        ensures head { result.0 ≡ self.head }
+    pub(crate) fn into_parts(self) -> (H, Questions<L>, Share<L>)
+        ensures head { H.state result.0 ≡ self.head }
         ensures questions { result.1 ≡ self.questions }
-        ensures holds { result.0.store ≡ store_after L.opening (bodies_of result.1.asked) }
-        ensures limits { result.0.limits ≡ L.opening.limits }
+        ensures holds { (H.state result.0).store ≡ store_after L.opening (bodies_of result.1.asked) }
+        ensures limits { (H.state result.0).limits ≡ L.opening.limits }
         ensures each { (n : ℕ) (q : Question) → slice_get result.1.asked n ≡ Some q
             → q.seat < result.1.given }
         ensures all_given { L.parts ≡ result.1.given + 1 }
@@ -85,9 +86,9 @@ impl<L: Naming> Locked<L> {
         ensures one_part { result.2.parts ≡ 1 }
         ensures adds_up { total self.head.store + result.2.amount ≡ most }
         ensures rises { EachRises self.head.store }
-        ensures within { StaysWithin L.table.capacity L.opening.store result.0.store }
+        ensures within { StaysWithin L.table.capacity L.opening.store (H.state result.0).store }
     {
-        (self.head, self.questions, self.rest)
+        (self.holder, self.questions, self.rest)
     }
 
     /// Asks the head, notes the question, and moves as many samples as the head stored from the
@@ -107,10 +108,12 @@ impl<L: Naming> Locked<L> {
             → FindsFull L.table.capacity L.opening seat.new.asked body.now }
         ensures limited { result ≡ Full → L.table.capacity ≢ unlimited }
     {
-        let before = self.head.total();
-        let admission = self.head.admit(body, &self.capacity);
+        let old = self.holder.head();
+        let before = old.total();
+        let admission = self.holder.admit(body, &self.capacity);
         seat.note(&mut self.questions, admission.status(), body);
-        seat.take(all, &mut self.rest, self.head.total() - before);
+        let new = self.holder.head();
+        seat.take(all, &mut self.rest, new.total() - before);
         admission
     }
 
@@ -119,7 +122,7 @@ impl<L: Naming> Locked<L> {
         ensures { result ≡ length (label_sets (store_after L.opening
             (bodies_of self.now.questions.asked))) }
     {
-        self.head.places()
+        self.holder.head().places()
     }
 
     /// Returns how many samples the head holds.
@@ -129,6 +132,6 @@ impl<L: Naming> Locked<L> {
         ensures within { StaysWithin L.table.capacity L.opening.store
             (store_after L.opening (bodies_of self.now.questions.asked)) }
     {
-        self.head.total()
+        self.holder.head().total()
     }
 }

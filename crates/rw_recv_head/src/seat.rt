@@ -7,6 +7,7 @@ ghost use Rattle.rw_head.specs.Store.{total, label_sets};
 ghost use Rattle.rw_recv_head.specs.Questions.{IsSeat};
 ghost use Rattle.rw_recv_head.specs.Seats.{most, bodies_of, store_after, HasAsked, FindsFull};
 
+use crate::admit::Admit;
 use crate::naming::Naming;
 use crate::questions::{Questions, Seen};
 use crate::shared_head::SharedHead;
@@ -105,7 +106,12 @@ impl<L: Naming> Seat<L> {
 
     /// Returns the head's answer to a request's body, under the lock: 204, 400, 429 or 503, as
     /// `Head::admit` returns it for the capacity of the head. It may wait for the lock.
-    pub fn answer<R: Wait>(&mut self, rt: &R, shared: &SharedHead<L>, body: &[u8]) -> u16
+    pub fn answer<R: Wait, H: Admit>(
+        &mut self,
+        rt: &R,
+        shared: &SharedHead<L, H>,
+        body: &[u8],
+    ) -> u16
         ensures statuses { IsStatus result }
         ensures asked { HasAsked L.opening self.old body.now result self.new }
     {
@@ -114,7 +120,12 @@ impl<L: Naming> Seat<L> {
 
     /// Answers a request as `answer` does, and also returns whether the head was full, and how many
     /// label sets and samples it then holds.
-    pub fn ask<R: Wait>(&mut self, rt: &R, shared: &SharedHead<L>, body: &[u8]) -> Asked
+    pub fn ask<R: Wait, H: Admit>(
+        &mut self,
+        rt: &R,
+        shared: &SharedHead<L, H>,
+        body: &[u8],
+    ) -> Asked
         ensures statuses { IsStatus result.status }
         ensures asked { HasAsked L.opening self.old body.now result.status self.new }
         ensures label_sets { result.label_sets

@@ -7,6 +7,7 @@ ghost use Rattle.rw_head.specs.Store.{total, label_sets};
 ghost use Rattle.rw_head.specs.Growth.{EachRises};
 ghost use Rattle.rw_recv_head.specs.Seats.{bodies_of, store_after, Seated, HasAsked, HasGathered, FindsFull};
 
+use crate::admit::Admit;
 use crate::blank::Blank;
 use crate::locked::Locked;
 use crate::naming::Naming;
@@ -23,12 +24,12 @@ use std::sync::{Mutex, Wait};
 /// Whenever the lock is free, the timestamps of each list rise strictly, and the head's total is
 /// that at the start with what the seats stored.
 #[derive(Drop)]
-pub struct SharedHead<L: Naming> {
-    locked: Mutex<Locked<L>>,
+pub struct SharedHead<L: Naming, H: Admit = Head> {
+    locked: Mutex<Locked<L, H>>,
     all: Total<L>,
 }
 
-impl<L: Naming> Model for SharedHead<L> {
+impl<L: Naming, H: Admit> Model for SharedHead<L, H> {
     ghost use Rattle.std.specs.Prelude.{◌≡◌, ◌-◌, ◌<◌, ◌≤◌};
     ghost use Rattle.rw_recv_head.specs.Seats.{Opening, most};
 
@@ -39,22 +40,25 @@ impl<L: Naming> Model for SharedHead<L> {
     ghost invariant = { λ s. (s.all.amount ≤ most) × (0 < s.all.parts) × (s.all.parts ≡ L.parts) };
 }
 
-impl<L: Naming> SharedHead<L> {
+impl<L: Naming, H: Admit> SharedHead<L, H> {
     /// Shares a head among `n` seats, which are numbered from 0, over a blank of `n` + 1 parts: one
     /// for each seat and one for the lock. The head has the capacity of the blank. If memory runs
     /// out, the head comes back as it was.
     pub fn seats(
         alloc: Global,
         blank: Blank,
-        head: Head,
+        head: H,
         n: usize,
-    ) -> Result<(SharedHead<L>, Vec<Seat<L>>), (Head, AllocError)>
+    ) -> Result<(SharedHead<L, H>, Vec<Seat<L>>), (H, AllocError)>
         requires seats { 0 < n }
         requires name { blank.name ≡ L.name }
         requires parts { (blank.parts ≡ n + 1) × (L.parts ≡ n + 1) }
         requires table { blank.table ≡ L.table }
-        requires opening { head ≡ L.opening }
-        ensures shared { IfOk result (λ r. r.0 ≡ record { start = total head.store; seats = n }) }
+        requires opening { H.state head ≡ L.opening }
+        ensures shared { IfOk result (λ r. r.0 ≡ record {
+            start = total (H.state head).store;
+            seats = n;
+        }) }
         ensures seats { IfOk result (λ r. vec_len r.1 ≡ n) }
         ensures numbered { IfOk result (λ r. (k : ℕ) (s : Seated) → slice_get r.1.items k ≡ Some s
             → s ≡ record { number = k; stored = 0; asked = [] }) }
@@ -67,7 +71,7 @@ impl<L: Naming> SharedHead<L> {
         let capacity = blank.capacity();
         let (ledger, mut questions) = blank.named::<L>();
         let (mut book, mut rest) = ledger.open::<L>();
-        book.add(&mut rest, u64::MAX - head.total());
+        book.add(&mut rest, u64::MAX - head.head().total());
         let all = book.close();
         for k in 0..n {
             let seen = questions.give(k as u64);
@@ -104,13 +108,14 @@ impl<L: Naming> SharedHead<L> {
     /// Returns the head, once all seats were returned. It holds what was reported to each of them
     /// as stored, has taken nothing that none of them was asked, and takes label sets by the limits
     /// that it had. This takes no memory and never waits.
-    pub fn gather(self, seats: Vec<Seat<L>>) -> Head
+    pub fn gather(self, seats: Vec<Seat<L>>) -> H
         requires { vec_len seats ≡ self.seats }
-        ensures gathered { HasGathered L.opening seats.items result.store }
-        ensures limits { result.limits ≡ L.opening.limits }
-        ensures total { total result.store ≡ self.start + sum_by (λ s. s.stored) seats.items }
-        ensures rises { EachRises result.store }
-        ensures within { StaysWithin L.table.capacity L.opening.store result.store }
+        ensures gathered { HasGathered L.opening seats.items (H.state result).store }
+        ensures limits { (H.state result).limits ≡ L.opening.limits }
+        ensures total { total (H.state result).store
+            ≡ self.start + sum_by (λ s. s.stored) seats.items }
+        ensures rises { EachRises (H.state result).store }
+        ensures within { StaysWithin L.table.capacity L.opening.store (H.state result).store }
     {
         let SharedHead { locked, all } = self;
         let (head, mut questions, mut rest) = locked.into_inner().into_parts();

@@ -9,8 +9,8 @@ use Rattle.rw_types.specs.declared.entry.Entry.{Entry}
 use Rattle.rw_journal.specs.Journal.{Segments}
 use Rattle.rw_wal_format.specs.Segments.{Stop, between, inside, at_fault, Reading, segment, item_at}
 use Rattle.rw_wal_format.specs.Pieces.{fault, fault_at, page_size, reading, reading_after, then_after}
-use Rattle.rw_torn_log.specs.Logs.{log_of, entries_of, IsWhole}
-use Rattle.rw_torn_log.specs.Torn.{last_of, AllBefore}
+use Rattle.rw_journal.specs.Logs.{log_of, entries_of, IsWhole}
+use Rattle.rw_journal.specs.TornLogs.{last_of, AllBefore}
 use Rattle.rw_reopen.specs.Reading.{greater, greatest_after, ended, IsFaultOf, ReadsSegment}
 use Rattle.rw_reopen.specs.Reopening.{IsCut, IsEnd, IsLast}
 use Rattle.rw_reopen.specs.declared.opening.LogEnd.{LogEnd}

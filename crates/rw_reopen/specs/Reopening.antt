@@ -6,8 +6,8 @@ use Rattle.rw_journal.specs.Torn.{page_end}
 use Rattle.rw_wal_format.specs.Pieces.{page_size}
 use Rattle.rw_wal_format.specs.Segments.{segment}
 use Rattle.rw_wal_tail.specs.Places.{stop_offset}
-use Rattle.rw_torn_log.specs.Logs.{entries_of, IsCleanCut}
-use Rattle.rw_torn_log.specs.Torn.{last_of}
+use Rattle.rw_journal.specs.Logs.{entries_of, IsCleanCut}
+use Rattle.rw_journal.specs.TornLogs.{last_of}
 use Rattle.rw_reopen.specs.Reading.{HasFault, greatest_after}
 use Rattle.rw_reopen.specs.declared.error.Damage.{Damage}
 use Rattle.rw_reopen.specs.declared.error.ReopenError.{ReopenError}

@@ -3,7 +3,7 @@
 ghost use Rattle.std.specs.Prelude.{◌≡◌, ◌≤◌, length, true, IfOk, IfErr};
 ghost use Rattle.rw_journal.specs.Torn.{page_end};
 ghost use Rattle.rw_wal_format.specs.Pieces.{page_size};
-ghost use Rattle.rw_torn_log.specs.Logs.{IsCleanCut};
+ghost use Rattle.rw_journal.specs.Logs.{IsCleanCut};
 ghost use Rattle.rw_reopen.specs.Reading.{IsReadOf, entry_count};
 ghost use Rattle.rw_reopen.specs.Reopening.{IsCut, IsRefusal};
 ghost use Rattle.rw_reopen.specs.declared.error.ReopenError.TheVariants.{Damaged};
@@ -13,7 +13,7 @@ use crate::error::{Damage, ReopenError};
 use crate::reading::{SegmentFault, SegmentRead, read_segment};
 use crate::walking::whole_len;
 use rw_history::History;
-use rw_torn_log::laws::a_checked_cut_is_clean;
+use rw_journal::laws::a_checked_cut_is_clean;
 use rw_wal_format::PAGE_BYTES;
 use rw_wal_tail::FaultPlace;
 use std::alloc::{AllocError, Global};

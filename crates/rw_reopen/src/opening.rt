@@ -4,8 +4,8 @@ ghost use Rattle.std.specs.Prelude.{◌≡◌, ◌<◌, ◌≤◌, ◌++◌, [],
 ghost use Rattle.std.specs.List.{AllByRecursion};
 ghost use Rattle.rw_journal.specs.Journal.{on_last, Only, LeavesOnly};
 ghost use Rattle.rw_wal_format.specs.Pieces.{page_size};
-ghost use Rattle.rw_torn_log.specs.Logs.{entries_of, IsWhole};
-ghost use Rattle.rw_torn_log.specs.Torn.{last_of, AllBefore};
+ghost use Rattle.rw_journal.specs.Logs.{entries_of, IsWhole};
+ghost use Rattle.rw_journal.specs.TornLogs.{last_of, AllBefore};
 ghost use Rattle.rw_reopen.specs.Reading.{greatest_after};
 ghost use Rattle.rw_reopen.specs.Reopening.{HasDamage, IsDamaged, IsEnd, IsLast, IsOnlyRead};
 
@@ -13,8 +13,7 @@ use crate::cutting::{damage_error, find_cut};
 use crate::entry_sink::EntrySink;
 use crate::error::ReopenError;
 use crate::reading::read_segment;
-use rw_journal::Journal;
-use rw_torn_log::close_torn;
+use rw_journal::{Journal, close_torn};
 use std::alloc::Global;
 
 /// The end of a log that was read again.

@@ -11,17 +11,17 @@ use std::alloc::{AllocError, Global};
 const FORMS: &str =
     "a line is 'series REF LABELS', 'sample REF T VALUE' or 'raw HEX', with single spaces";
 
-const REFERENCE: &str = "REF is no whole number from 0 to 18446744073709551615";
+const REFERENCE: &str = "REF must be a whole number from 0 to 18446744073709551615";
 
-const TIME: &str = "T is no whole number from -9223372036854775808 to 9223372036854775807";
+const TIME: &str = "T must be a whole number from -9223372036854775808 to 9223372036854775807";
 
 const VALUE: &str =
-    "VALUE is neither a whole number from -2^53 to 2^53 nor 0x and sixteen lower case hexadecimal digits";
+    "VALUE must be a whole number from -2^53 to 2^53, or 0x and sixteen lower-case hexadecimal digits";
 
 const LABELS: &str =
-    "LABELS are not of the form {name=\"value\",..}, with \\\\, \\\" and \\n in a value, and a name in quotes only where it has to be";
+    "LABELS must have the form {name=\"value\",..}, with \\\\, \\\" and \\n in a value, and a name in quotes only if it needs them";
 
-const TOO_LONG: &str = "its record has more than 16 MiB";
+const TOO_LONG: &str = "the record would have more than 16 MiB";
 
 /// Returns what is wrong after `series `.
 fn note_on_series(alloc: Global, rest: &[u8]) -> Result<&'static str, AllocError> {
@@ -70,7 +70,7 @@ fn note_on(alloc: Global, line: &[u8]) -> Result<&'static str, AllocError> {
         b"series" => note_on_series(alloc, rest),
         b"sample" => Ok(note_on_sample(rest)),
         b"raw" => Ok(
-            "HEX is not at least one byte, and at most 16 MiB, in pairs of hexadecimal digits",
+            "HEX must be pairs of hexadecimal digits: at least one byte, at most 16 MiB",
         ),
         _ => Ok(FORMS),
     }

@@ -9,10 +9,10 @@ use rw_text::{TextFault, split_at_byte};
 use std::alloc::{AllocError, Global};
 
 const EVENTS: &str =
-    "no event begins with this word, or it stands alone, or nothing stands behind it: log LINE, feed HEX, segment, place, \
+    "this is not an event. The events are: log LINE, feed HEX, segment, place, \
 flush N, take N, freeze N, send N, arrive N HOW, reply N, lost N, restart, reshard N, close, kill, settle";
 
-const NUMBER: &str = "behind the word stands no whole number from 0 to 18446744073709551615";
+const NUMBER: &str = "the word must be followed by a whole number from 0 to 18446744073709551615";
 
 /// Returns what is wrong with a line that is not an event.
 fn note_on(alloc: Global, line: &[u8]) -> Result<&'static str, AllocError> {
@@ -24,8 +24,8 @@ fn note_on(alloc: Global, line: &[u8]) -> Result<&'static str, AllocError> {
             Some(note) => Ok(note),
             None => Ok(EVENTS),
         },
-        b"feed" => Ok("behind 'feed' stand no pairs of hexadecimal digits"),
-        b"arrive" => Ok("behind 'arrive' stand no number and 'plain', 'busy' or 'short'"),
+        b"feed" => Ok("'feed' must be followed by pairs of hexadecimal digits"),
+        b"arrive" => Ok("'arrive' must be followed by a whole number and 'plain', 'busy' or 'short'"),
         b"flush" | b"take" | b"freeze" | b"send" | b"reply" | b"lost" | b"reshard" => Ok(NUMBER),
         _ => Ok(EVENTS),
     }

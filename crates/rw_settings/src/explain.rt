@@ -37,7 +37,7 @@ fn note_order(alloc: Global, notes: &mut Vec<SettingsNote>, send: &Table) -> Res
     let place = String::from_str(alloc, "send")?;
     let text = String::from_str(
         alloc,
-        "min_shards <= shards <= max_shards and min_backoff_ms <= max_backoff_ms have to hold, also of defaults",
+        "min_shards <= shards <= max_shards and min_backoff_ms <= max_backoff_ms must hold, also where a default is used",
     )?;
     push_note(notes, fault, place, text)
 }
@@ -67,7 +67,7 @@ fn note_rule(
     match rule.as_table() {
         None => {
             let place = format!(in alloc; "rule {number}")?;
-            let text = String::from_str(alloc, "is no table")?;
+            let text = String::from_str(alloc, "is not a table")?;
             push_note(notes, SettingsFault::WrongType, place, text)
         }
         Some(table) => {
@@ -103,7 +103,7 @@ fn note_part(
         (noted notes.new.items ≡ lesser (noted notes.old.items) (Some WrongType)) }
 {
     let place = String::from_str(alloc, key)?;
-    let text = format!(in alloc; "is of another type; it takes {takes}")?;
+    let text = format!(in alloc; "has another type; it takes {takes}")?;
     push_note(notes, SettingsFault::WrongType, place, text)
 }
 
@@ -222,7 +222,7 @@ fn note_pattern(
         return Ok(());
     };
     let place = format!(in alloc; "rule {number}, regex")?;
-    let text = format!(in alloc; "{pattern:?} is no regular expression: {why}")?;
+    let text = format!(in alloc; "{pattern:?} is not a valid regular expression: {why}")?;
     push_note(notes, SettingsFault::BadRule, place, text)
 }
 

@@ -47,7 +47,7 @@ fn wrong(alloc: Global, value: Option<&Value>, fault: SettingsFault) -> Result<S
         (None, _) => String::from_str(alloc, "is missing"),
         (Some(value), SettingsFault::WrongType) => {
             let found = value.type_str();
-            format!(in alloc; "is of type {found}")
+            format!(in alloc; "has type {found}")
         }
         (Some(value), _) => match value.as_integer() {
             Some(number) => format!(in alloc; "{number} is refused"),
@@ -68,8 +68,8 @@ fn push_takes(alloc: Global, text: &mut String, kind: &Kind) -> Result<(), Alloc
         }
         Kind::Names => "'legacy' or 'utf8'",
         Kind::Action => "keep or drop",
-        Kind::Labels => "a list of texts, at least one",
-        Kind::Text => "a text",
+        Kind::Labels => "a list of strings, at least one",
+        Kind::Text => "a string",
         Kind::Part => "a table",
     })
 }
@@ -123,8 +123,8 @@ fn note_key(
 {
     let place = format!(in alloc; "{section}{key}")?;
     let text = match nearest(alloc, known, key)? {
-        Some(name) => format!(in alloc; "is no key; did you mean {section}{name}?")?,
-        None => String::from_str(alloc, "is no key")?,
+        Some(name) => format!(in alloc; "is not a known key; did you mean {section}{name}?")?,
+        None => String::from_str(alloc, "is not a known key")?,
     };
     push_note(notes, SettingsFault::UnknownKey, place, text)
 }

@@ -14,8 +14,8 @@ use Rattle.rw_wal_format.specs.Segments.{between, Reading, with_entries}
 use Rattle.rw_wal_format.specs.Writing.{log_bytes}
 use Rattle.rw_wal_write.specs.Segment.{Segment}
 use Rattle.rw_journal.specs.Journal.{Segments, with_more}
-use Rattle.rw_torn_log.specs.Logs.{entries_of, IsWhole}
-use Rattle.rw_torn_log.specs.Torn.{AllBefore}
+use Rattle.rw_journal.specs.Logs.{entries_of, IsWhole}
+use Rattle.rw_journal.specs.TornLogs.{AllBefore}
 use Rattle.rw_wal_append.specs.Buffers.{Buffered}
 use Rattle.rw_wal_append.specs.Ends.{EndsAt}
 use Rattle.rw_wal_append.specs.Writing.{Holds}

@@ -1,1 +1,4 @@
+pub mod AdditionLemmas
 mod HoldLemmas
+mod PlaceLemmas
+mod ReferenceLemmas

@@ -5,7 +5,7 @@ use Rattle.rw_types.specs.declared.entry.Entry.{Entry}
 use Rattle.rw_wal_format.specs.Laws.{AreRecords, log_all, entries_of_records}
 use Rattle.rw_wal_format.specs.Pieces.{page_size}
 use Rattle.rw_journal.specs.Journal.{Segments}
-use Rattle.rw_torn_log.specs.Logs.{IsWhole}
+use Rattle.rw_journal.specs.Logs.{IsWhole}
 
 -- the most pages of a segment, and how many bytes of the last segment are written
 pub record End : Type 0 where

@@ -1,12 +1,48 @@
-//! Laws of where a log ends. Each function has an empty body: its contract is the law.
+//! Laws of what is added to a log, and of where it ends. Each function has an empty body: its
+//! contract is the law.
 
-ghost use Rattle.std.specs.Prelude.{◌++◌, [], ◌∷◌, ℕ};
+ghost use Rattle.std.specs.Prelude.{◌≡◌, ◌++◌, [], ◌∷◌, ℕ, List, Some, length, ℤ, map};
 ghost use Rattle.std.specs.List.{AllByRecursion};
+ghost use Rattle.rw_types.specs.Labels.{Labels};
+ghost use Rattle.rw_types.specs.declared.entry.Entry.{Entry};
+ghost use Rattle.rw_types.specs.declared.entry.Entry.TheVariants.{Def};
+ghost use Rattle.rw_wal_format.specs.Laws.{sample_entry};
 ghost use Rattle.rw_wal_format.specs.Pieces.{page_size};
+ghost use Rattle.rw_wal_format.specs.Series.{labels_of};
 ghost use Rattle.rw_journal.specs.Journal.{Segments};
-ghost use Rattle.rw_torn_log.specs.Logs.{IsWhole};
-ghost use Rattle.rw_torn_log.specs.Torn.{AllBefore};
+ghost use Rattle.rw_journal.specs.Logs.{IsWhole};
+ghost use Rattle.rw_journal.specs.TornLogs.{AllBefore};
+ghost use Rattle.rw_wal_append.specs.Additions.{Addition, samples_in, added_entries, samples_of, AreNamed, definition_entry};
+ghost use Rattle.rw_wal_append.specs.References.{Named, AreDefined, AreOf, points_of, undefined};
 ghost use Rattle.rw_wal_append.specs.Ends.{EndsAt};
+
+/// Law: if the reference of each addition stands for its label set, the log with the added samples
+/// has of each label set the samples that it had, and then the added ones, in their order.
+pub fn what_is_written_is_said()
+    ensures { (es : List Entry) (added : List Addition) (l : Labels) → AreNamed es added
+        → samples_in (es ++ added_entries added) l ≡ samples_in es l ++ samples_of l added }
+{}
+
+/// Law: a definition adds no sample, and from then on its reference stands for its label set.
+pub fn definitions_give_names()
+    ensures none { (es : List Entry) (reference : ℕ) (labels l : Labels)
+        → samples_in (es ++ Def reference labels ∷ []) l ≡ samples_in es l }
+    ensures named { (es : List Entry) (reference : ℕ) (labels : Labels)
+        → labels_of (es ++ Def reference labels ∷ []) reference
+        (length (es ++ Def reference labels ∷ [])) ≡ Some labels }
+{}
+
+/// Law: if a log gets the definitions that it does not have, and then samples of these references,
+/// it has all definitions, and of each label set the samples that it had, and then the new ones.
+pub fn new_samples_are_read()
+    ensures defined { (es : List Entry) (n : Named) (samples : List (ℕ × ℤ × ℕ)) → AreDefined es n
+        → AreDefined (es ++ map definition_entry (undefined n) ++ map sample_entry samples)
+        (record n { defined = length n.sets }) }
+    ensures samples { (es : List Entry) (n : Named) (samples : List (ℕ × ℤ × ℕ)) (l : Labels)
+        → AreDefined es n → AreOf n samples
+        → samples_in (es ++ map definition_entry (undefined n) ++ map sample_entry samples) l
+        ≡ samples_in es l ++ points_of n l samples }
+{}
 
 /// Law: a log with an empty last segment ends at 0, if each segment before it ends between two
 /// records.

@@ -4,14 +4,14 @@ ghost use Rattle.std.specs.Prelude.{◌≡◌, ◌≤◌, ◌*◌, ◌++◌, [],
 ghost use Rattle.rw_wal_format.specs.Laws.{sample_entry};
 ghost use Rattle.rw_wal_format.specs.Pieces.{page_size};
 ghost use Rattle.rw_journal.specs.Journal.{Segments, with_more};
-ghost use Rattle.rw_torn_log.specs.Logs.{entries_of};
+ghost use Rattle.rw_journal.specs.Logs.{entries_of};
 ghost use Rattle.rw_wal_append.specs.Ends.{EndsAt};
-ghost use Rattle.rw_additions.specs.Additions.{definition_entry};
+ghost use Rattle.rw_wal_append.specs.Additions.{definition_entry};
 
 use crate::append_error::AppendError;
 use crate::buffer::Buffer;
 use crate::records::{put_definitions, put_samples};
-use rw_torn_log::laws::records_add_entries;
+use rw_journal::laws::records_add_entries;
 use rw_types::{RawLabels, Word};
 use rw_wal_write::SegmentWriter;
 use std::alloc::Global;

@@ -107,6 +107,10 @@ pub struct Receiving<'a> {
     pub max_samples: Option<u64>,
     /// How many series they may be of; none for no limit.
     pub max_series: Option<u64>,
+    /// The folder in which what is taken is kept as a log, if it is to be kept.
+    pub dir: Option<&'a str>,
+    /// Whether what is held is not printed at the end.
+    pub is_quiet: bool,
     pub reporting: Reporting<'a>,
 }
 

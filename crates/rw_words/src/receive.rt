@@ -38,6 +38,8 @@ pub(crate) fn receive_task<'a>(
             request_ms,
             max_samples: options.get_one::<u64>("max-samples"),
             max_series: options.get_one::<u64>("max-series"),
+            dir: options.get_str("dir"),
+            is_quiet: options.get_flag("quiet"),
             reporting,
         },
     })

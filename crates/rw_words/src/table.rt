@@ -367,6 +367,18 @@ static RECEIVE: Words = Words {
             bonds: &[],
             help: "Hold samples of at most N series: answer 503 to a request that adds more, 1 to 1099511627776",
         },
+        Opt {
+            name: "dir",
+            takes: Takes::Path("DIR"),
+            bonds: &[],
+            help: "Keep what is taken as a log in this folder, and begin with what it holds",
+        },
+        Opt {
+            name: "quiet",
+            takes: Takes::Nothing,
+            bonds: &[Bond::Needs("dir")],
+            help: "With --dir: do not print at the end what is held",
+        },
         PROGRESS,
         METRICS,
     ],

@@ -1,7 +1,7 @@
 //! The receiver: its head, alone and under a lock, and its endpoint.
 
 use rw_recv_head::{
-    AddedSeries, Admission, AllAdded, Blank, Block, Capacity, Head, HeldSeries, LabelSets, Limits,
+    AddedSeries, Admission, Admit, AllAdded, Blank, Block, Capacity, Head, HeldSeries, LabelSets, Limits,
     Naming, Seat, SharedHead, StagedHead, Verdict,
 };
 use rw_recv_http::{Answer, Asking, ServeEnd, serve};
@@ -34,10 +34,11 @@ pub fn of_staged_messages() {
 }
 
 /// The calls of a head under a lock.
-pub fn of_shared_heads<R: Wait, L: Naming>() {
+pub fn of_shared_heads<R: Wait, L: Naming, H: Admit>() {
     let _ = (Blank::new, Blank::with_capacity);
-    let _ = (SharedHead::<L>::seats, SharedHead::<L>::gather);
-    let _ = (Seat::<L>::answer::<R>, Seat::<L>::ask::<R>);
+    let _ = (SharedHead::<L, H>::seats, SharedHead::<L, H>::gather);
+    let _ = (Seat::<L>::answer::<R, H>, Seat::<L>::ask::<R, H>);
+    let _ = (H::admit, H::head);
     let _ = Seat::<L>::stored;
 }
 

@@ -10,19 +10,19 @@ type Row = (&'static str, Option<&'static str>);
 
 static LOG_LINES: [Row; 7] = [
     ("sample 1 1000 1", None),
-    ("sample x 1000 1", Some("REF is no")),
-    ("sample 1 1s 1", Some("T is no")),
-    ("sample 1 1000 1.5", Some("VALUE is")),
-    ("series 1 {a=1}", Some("LABELS are")),
-    ("raw 0", Some("HEX is")),
+    ("sample x 1000 1", Some("REF must be")),
+    ("sample 1 1s 1", Some("T must be")),
+    ("sample 1 1000 1.5", Some("VALUE must be")),
+    ("series 1 {a=1}", Some("LABELS must")),
+    ("raw 0", Some("HEX must be")),
     ("hello", Some("a line is")),
 ];
 
 static SCRIPT_LINES: [Row; 4] = [
     ("settle", None),
-    ("flush x", Some("behind the word")),
-    ("log sample 1 1s 1", Some("T is no")),
-    ("wait", Some("no event begins")),
+    ("flush x", Some("the word must be followed")),
+    ("log sample 1 1s 1", Some("T must be")),
+    ("wait", Some("this is not an event")),
 ];
 
 /// Returns whether the note is as wanted.

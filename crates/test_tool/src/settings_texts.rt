@@ -135,50 +135,50 @@ static ROWS: [Row; 25] = [
     Pattern("'\u{e9}\u{1f600}'", "\nregex = \"\u{e9}\u{1f600}\"\n"),
     Told(
         "[send]\nshard = 1",
-        "send.shard: is no key; did you mean send.shards?\n",
+        "send.shard: is not a known key; did you mean send.shards?\n",
     ),
     Told(
         "[send]\nshrads = 1",
-        "send.shrads: is no key; did you mean send.shards?\n",
+        "send.shrads: is not a known key; did you mean send.shards?\n",
     ),
-    Told("[receive]\nshards = 1", "receive.shards: is no key\n"),
-    Told("sned = 1", "sned: is no key; did you mean send?\n"),
+    Told("[receive]\nshards = 1", "receive.shards: is not a known key\n"),
+    Told("sned = 1", "sned: is not a known key; did you mean send?\n"),
     Told(
         "[send]\nbatch = 0\nshards = '2'\nhost = 'a b'",
         "send.host: is refused; it takes 1 to 255 bytes, each '!' to '~'
-send.shards: is of type string; it takes a whole number from 1 to 1000
+send.shards: has type string; it takes a whole number from 1 to 1000
 send.batch: 0 is refused; it takes a whole number from 1 to 10000
 ",
     ),
     Told(
         "[send]\nnames = 'UTF8'\n[receive]\nnames = 8",
         "send.names: is refused; it takes 'legacy' or 'utf8'
-receive.names: is of type integer; it takes 'legacy' or 'utf8'
+receive.names: has type integer; it takes 'legacy' or 'utf8'
 ",
     ),
     Told(
         "[send]\nshards = 60",
-        "send: min_shards <= shards <= max_shards and min_backoff_ms <= max_backoff_ms have to hold, also of defaults\n",
+        "send: min_shards <= shards <= max_shards and min_backoff_ms <= max_backoff_ms must hold, also where a default is used\n",
     ),
     Told(
         "receive = 2\nrule = 3\n[[send]]",
-        "send: is of another type; it takes a table, [send]
-receive: is of another type; it takes a table, [receive]
-rule: is of another type; it takes a list of tables, each [[rule]]
+        "send: has another type; it takes a table, [send]
+receive: has another type; it takes a table, [receive]
+rule: has another type; it takes a list of tables, each [[rule]]
 ",
     ),
     Told(
         "rule = [1, { regex = 1, source_label = [] }]",
-        "rule 1: is no table
-rule 2, source_label: is no key; did you mean rule 2, source_labels?
+        "rule 1: is not a table
+rule 2, source_label: is not a known key; did you mean rule 2, source_labels?
 rule 2, action: is missing; it takes keep or drop
-rule 2, source_labels: is missing; it takes a list of texts, at least one
-rule 2, regex: is of type integer; it takes a text
+rule 2, source_labels: is missing; it takes a list of strings, at least one
+rule 2, regex: has type integer; it takes a string
 ",
     ),
     Told(
         "[[rule]]\naction = 'keep'\nsource_labels = ['a']\n[[rule]]\naction = 'drop'\nsource_labels = ['a']\nregex = 'a)(b'",
-        "rule 2, regex: \"a)(b\" is no regular expression: unopened group\n",
+        "rule 2, regex: \"a)(b\" is not a valid regular expression: unopened group\n",
     ),
     Told("[send", "line 1, column 6: unclosed table, expected `]`\n"),
     Told(

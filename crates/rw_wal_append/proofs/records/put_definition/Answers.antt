@@ -1,7 +1,7 @@
 use Rattle.std.proofs.Common.{[], ◌∷◌, ap, ◌∙◌, rules}
 use Rattle.rw_wal_format.specs.Records.{record_entries}
 use Rattle.rw_wal_format.proofs.RecordLaws.{series_again}
-use Rattle.rw_additions.specs.Additions.{definition_entry}
+use Rattle.rw_wal_append.specs.Additions.{definition_entry}
 use Rattle.rw_wal_append.proofs.records.put_definition.Goals as goal
 
 pub returns : goal.returns

@@ -1,4 +1,4 @@
-use Rattle.rw_additions.specs.Additions.{definition_entry}
+use Rattle.rw_wal_append.specs.Additions.{definition_entry}
 use Rattle.rw_wal_append.proofs.HoldLemmas.{holds_none, holds_next, holds_all}
 use Rattle.rw_wal_append.proofs.records.put_definitions.Goals as goal
 

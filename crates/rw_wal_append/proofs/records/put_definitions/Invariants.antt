@@ -1,5 +1,5 @@
 use Rattle.std.proofs.Common.{map, take}
-use Rattle.rw_additions.specs.Additions.{definition_entry}
+use Rattle.rw_wal_append.specs.Additions.{definition_entry}
 use Rattle.rw_wal_append.specs.Writing.{Holds}
 use Rattle.rw_wal_append.proofs.records.put_definitions.Given as goal
 

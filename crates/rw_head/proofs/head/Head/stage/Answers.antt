@@ -1,7 +1,7 @@
-use Rattle.std.proofs.Common.{◌≤◌, length, refl, subst, sym, ap, ◌∙◌}
+use Rattle.std.proofs.Common.{◌≤◌, ◌+◌, length, refl, subst, sym, ap, ◌∙◌}
 use Rattle.rw_types.specs.Beginnings.{Begins}
 use Rattle.rw_types.specs.Labels.{Labels}
-use Rattle.rw_head.specs.Growth.{EachRises, HoldsNoneRefused}
+use Rattle.rw_head.specs.Growth.{EachRises, HoldsNoneRefused, sample_count}
 use Rattle.rw_head.specs.Store.{Store, list_of, total, label_sets, HasNoEmptyList}
 use Rattle.rw_head.specs.Head.{State, answer}
 use Rattle.rw_write_request.specs.Read.{read}
@@ -41,3 +41,11 @@ pub returns-in-Err-clause-begins : goal.returns-in-Err-clause-begins
 returns-in-Err-clause-begins c = λ l.
     subst (λ (h : State). Begins (list_of h.store l) (list_of (answer h c.args.body.now).head.store l)) c.self.view_is
     (answer_begins (record { store = c.self.inside.table.kept; limits = c.self.inside.bounds; busy = c.self.inside.busy }) (read c.args.body.now) l c.self.invariant.0.rises c.self.invariant.0.filled)
+
+pub returns-in-Ok-clause-message : goal.returns-in-Ok-clause-message
+returns-in-Ok-clause-message c =
+    let m = c.in-Ok.ensures.staged in
+    let staged = c.stage_body.new.table.staged in
+    let few : total staged ≤ total c.self.inside.table.kept + sample_count m.0
+        = (kept_grown c.self.inside.bounds m.0 c.self.inside.table staged staged c.self.invariant.0 m.2 refl).few in
+    (m.0, m.1, rw (← c.self.view_is) few)

@@ -1,7 +1,7 @@
 use Rattle.std.proofs.Common.{subst}
 use Rattle.std.specs.List.{AllByRecursion}
 use Rattle.rw_wal_format.specs.Pieces.{page_size}
-use Rattle.rw_torn_log.specs.Logs.{IsWhole}
+use Rattle.rw_journal.specs.Logs.{IsWhole}
 use Rattle.rw_kept_head.proofs.KeptLemmas.{ends_whole}
 use Rattle.rw_kept_head.proofs.log_writer.LogWriter.fault.Goals as goal
 

@@ -1,5 +1,7 @@
-use Rattle.std.proofs.Common.{◌≢◌, refl, ap, subst, ◌∙◌, arith}
+use Rattle.std.proofs.Common.{◌≡◌, ◌≢◌, refl, ap, subst, ◌∙◌, arith}
 use Rattle.rw_head.specs.declared.capacity.Capacity.{Capacity}
+use Rattle.rw_head.specs.Head.{State}
+use Rattle.rw_head.specs.Store.{total}
 use Rattle.rw_head.specs.Capacity.{told, unlimited, StaysWithin}
 use Rattle.rw_recv_head.proofs.CapacityLemmas.{stays_twice}
 use Rattle.rw_recv_head.specs.Seats.{Seated}
@@ -7,7 +9,15 @@ use Rattle.rw_recv_head.proofs.StoredLemmas.{Gives, noted_as, kept_again, asked,
 use Rattle.rw_recv_head.proofs.locked.Locked.answer.Given.{Over}
 use Rattle.rw_recv_head.proofs.locked.Locked.answer.Goals as goal
 
-gives : (g : Over) (c : goal.After-take g) → Gives c.self.inside.head c.admit-admission.new.self c.args.body.now (told c.admit-admission.result)
+-- how many samples were held before
+held : (g : Over) (c : goal.After-take g) → c.total-before.result ≡ total (g.H.Admit.state c.self.inside.holder).store
+held g c = c.total-before.ensures.total ∙ ap (λ (h : State). total h.store) c.head-old.ensures
+
+-- and how many are held after
+holds : (g : Over) (c : goal.After-take g) → c.total.result ≡ total (g.H.Admit.state c.admit-admission.new.self).store
+holds g c = c.total.ensures.total ∙ ap (λ (h : State). total h.store) c.head-new.ensures
+
+gives : (g : Over) (c : goal.After-take g) → Gives (g.H.Admit.state c.self.inside.holder) (g.H.Admit.state c.admit-admission.new.self) c.args.body.now (told c.admit-admission.result)
 gives g c = record {
   told = c.admit-admission.ensures.status;
   is = c.admit-admission.ensures.head;
@@ -21,9 +31,9 @@ invariant_of-self g c =
     let a = c.admit-admission.ensures in
     let n = c.note.ensures in (
       kept_again _ _ _ _ _ _ _ _ (gives g c) (noted_as _ _ _ _ _ _ c.status.ensures n.questions) _ _ _ _ _ i n.is_seat.given a.rises (c.take.ensures.parts ∙ i.one_part)
-          (omega (arith, c.take.ensures.amount, i.adds_up, a.more, c.total.ensures.total, c.total-before.ensures.total)),
+          (omega (arith, c.take.ensures.amount, i.adds_up, a.more, holds g c, held g c)),
       stays_twice _ _ _ _ c.self.invariant.1
-          (subst (λ (k : Capacity). StaysWithin k c.self.inside.head.store c.admit-admission.new.self.store) c.self.invariant.2 a.within),
+          (subst (λ (k : Capacity). StaysWithin k (g.H.Admit.state c.self.inside.holder).store (g.H.Admit.state c.admit-admission.new.self).store) c.self.invariant.2 a.within),
       c.self.invariant.2,
     )
 
@@ -33,7 +43,7 @@ returns-clause-asked g c =
     let n = c.note.ensures in
     let counted = c.take.ensures.stored in
     asked _ _ _ _ _ _ _ _ (gives g c) (noted_as _ _ _ _ _ _ c.status.ensures n.questions) _ _ _ _ _ c.args.seat.now c.take.new.self c.self.invariant.0 n.is_seat refl a.readable a.taken a.more
-    c.total-before.ensures.total c.total.ensures.total
+    (held g c) (holds g c)
     (ap (λ (s : Seated). s.number) counted ∙ ap (λ (s : Seated). s.number) n.seat)
     (ap (λ (s : Seated). s.asked) counted ∙ ap (λ (s : Seated). s.asked) n.seat)
     (omega (arith, ap (λ (s : Seated). s.stored) counted, ap (λ (s : Seated). s.stored) n.seat))

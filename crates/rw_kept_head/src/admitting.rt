@@ -1,0 +1,18 @@
+//! A head with a journal under a lock.
+
+use crate::kept_head::KeptHead;
+use rw_head::{Admission, Capacity, Head};
+use rw_journal::Journal;
+use rw_recv_head::Admit;
+
+impl<J: Journal> Admit for KeptHead<J> {
+    ghost state = { λ k. k.head };
+
+    fn admit(&mut self, body: &[u8], capacity: &Capacity) -> Admission {
+        KeptHead::admit(self, body, capacity)
+    }
+
+    fn head(&self) -> &Head {
+        KeptHead::head(self)
+    }
+}

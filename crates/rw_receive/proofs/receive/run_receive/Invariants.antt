@@ -1,7 +1,0 @@
-use Rattle.rw_receive.proofs.receive.run_receive.Given as goal
-
-abbrev pub ghosts-receive_all-L-Ledger : goal.ghosts-receive_all-L-Ledger
-ghosts-receive_all-L-Ledger g a = record { name = a.blank.name; parts = a.blank.parts }
-
-abbrev pub ghosts-receive_all-L-Naming : goal.ghosts-receive_all-L-Naming
-ghosts-receive_all-L-Naming g a = record { opening = a.head; table = a.blank.table }

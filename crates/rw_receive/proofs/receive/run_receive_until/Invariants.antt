@@ -1,7 +1,0 @@
-use Rattle.rw_receive.proofs.receive.run_receive_until.Given as goal
-
-abbrev pub ghosts-receive_until-L-Ledger : goal.ghosts-receive_until-L-Ledger
-ghosts-receive_until-L-Ledger g a = record { name = a.blank.name; parts = a.blank.parts }
-
-abbrev pub ghosts-receive_until-L-Naming : goal.ghosts-receive_until-L-Naming
-ghosts-receive_until-L-Naming g a = record { opening = a.head; table = a.blank.table }

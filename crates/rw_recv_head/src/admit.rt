@@ -1,0 +1,53 @@
+//! What may be under the lock: a head, or something that has one.
+
+ghost use Rattle.std.specs.Prelude.{◌≡◌, ◌≢◌, ◌≤◌, true};
+ghost use Rattle.rw_head.specs.declared.capacity.Admission.TheVariants.{Full};
+ghost use Rattle.rw_head.specs.Capacity.{exceeds, told, unlimited, StaysWithin};
+ghost use Rattle.rw_head.specs.Growth.{EachRises, HasTaken};
+ghost use Rattle.rw_head.specs.Head.{State, answer, IsStatus, SpellsMessage};
+ghost use Rattle.rw_head.specs.Store.{total};
+
+use rw_head::{Admission, Capacity, Head};
+
+/// A head, or something that has one and answers bodies as it does. What it does with the samples
+/// besides, such as writing them to disk before it answers, its own contracts say.
+pub trait Admit {
+    /// The head.
+    ghost state: { Self → State };
+
+    /// Answers the body of a request, as `Head::admit` does.
+    fn admit(&mut self, body: &[u8], capacity: &Capacity) -> Admission
+        ensures status { told result ≢ 503
+            → told result ≡ (answer (state self.old) body.now).status }
+        ensures head { told result ≢ 503
+            → state self.new ≡ (answer (state self.old) body.now).head }
+        ensures unavailable { told result ≡ 503
+            → (state self.new ≡ state self.old) × ((state self.old).busy ≡ 0) }
+        ensures readable { told result ≡ 503 → SpellsMessage body.now }
+        ensures statuses { IsStatus (told result) }
+        ensures refused { told result ≢ 204 → (state self.new).store ≡ (state self.old).store }
+        ensures taken { told result ≡ 204
+            → HasTaken body.now (state self.old).store (state self.new).store }
+        ensures more { total (state self.old).store ≤ total (state self.new).store }
+        ensures rises { EachRises (state self.new).store }
+        ensures within { StaysWithin capacity.now (state self.old).store (state self.new).store }
+        ensures full { result ≡ Full → exceeds capacity.now (state self.old).store
+            (answer (state self.old) body.now).head.store ≡ true }
+        ensures limited { result ≡ Full → capacity.now ≢ unlimited };
+
+    /// Returns the head.
+    fn head(&self) -> &Head
+        ensures { result.now ≡ state self.now };
+}
+
+impl Admit for Head {
+    ghost state = { λ h. h };
+
+    fn admit(&mut self, body: &[u8], capacity: &Capacity) -> Admission {
+        Head::admit(self, body, capacity)
+    }
+
+    fn head(&self) -> &Head {
+        self
+    }
+}

@@ -1,2 +1,0 @@
-mod PlaceLemmas
-mod ReferenceLemmas

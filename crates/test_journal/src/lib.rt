@@ -1,0 +1,20 @@
+//! Tests of the log in a journal: what is appended to it, how it is opened after a crash, and a
+//! head that is kept in it.
+#![tactic(auto)]
+
+#[cfg(test)]
+mod appends;
+#[cfg(test)]
+mod entry_counter;
+#[cfg(test)]
+mod messages;
+#[cfg(test)]
+mod openings;
+#[cfg(test)]
+mod plain;
+#[cfg(test)]
+mod schedules;
+#[cfg(test)]
+mod segments;
+#[cfg(test)]
+mod torn_segments;
