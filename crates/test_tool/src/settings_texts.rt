@@ -141,7 +141,10 @@ static ROWS: [Row; 25] = [
         "[send]\nshrads = 1",
         "send.shrads: is not a known key; did you mean send.shards?\n",
     ),
-    Told("[receive]\nshards = 1", "receive.shards: is not a known key\n"),
+    Told(
+        "[receive]\nshards = 1",
+        "receive.shards: is not a known key\n",
+    ),
     Told("sned = 1", "sned: is not a known key; did you mean send?\n"),
     Told(
         "[send]\nbatch = 0\nshards = '2'\nhost = 'a b'",
