@@ -11,6 +11,9 @@ use rw_reopen::ReopenError;
 use rw_text::ToolFault;
 use rw_types::Std;
 use rw_words::{Receiving, Until};
+use std::fs;
+use std::fs::{File, TryLockError};
+use std::io::Error;
 use std::net::TcpListener;
 use std::process::ExitCode;
 use std::sync::Wait;
@@ -25,8 +28,25 @@ const PAGES: usize = 4096;
 
 /// Why the log in a folder cannot be opened.
 pub enum KeepError {
+    /// Another receiver keeps samples there.
+    InUse,
+    /// The folder cannot be locked.
+    Unlocked(Error),
     Folder(FolderError),
     Log(OpenError, Option<FolderFault>),
+}
+
+/// Locks a folder until the file is dropped, so that no second receiver writes there.
+pub fn lock_folder(rt: &HostRuntime, dir: &str) -> Result<File, KeepError> {
+    let folder = match fs::open(rt, dir) {
+        Ok(folder) => folder,
+        Err(error) => return Err(KeepError::Unlocked(error)),
+    };
+    match folder.try_lock() {
+        Ok(()) => Ok(folder),
+        Err(TryLockError::WouldBlock) => Err(KeepError::InUse),
+        Err(TryLockError::Error(error)) => Err(KeepError::Unlocked(error)),
+    }
 }
 
 /// Opens the log in a folder.
@@ -57,6 +77,8 @@ fn fault_of(error: &KeepError) -> ToolFault {
 pub fn report_keep_error(rt: &HostRuntime, dir: &str, error: KeepError) -> ExitCode {
     let status = report_result(rt, Err(fault_of(&error)));
     let _ = match error {
+        KeepError::InUse => eprintln!(rt; "  another receiver keeps samples in {dir}"),
+        KeepError::Unlocked(error) => eprintln!(rt; "  cannot lock the folder {dir}: {error}"),
         KeepError::Folder(error) => eprintln!(rt; "  cannot keep samples in {dir}: {error}"),
         KeepError::Log(_, Some(fault)) => eprintln!(rt; "  cannot keep samples in {dir}: {fault}"),
         KeepError::Log(error, None) => eprintln!(rt; "  cannot keep samples in {dir}: {error}"),

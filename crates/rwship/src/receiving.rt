@@ -2,7 +2,7 @@
 
 use crate::ending::{point_to_explain, report_result, report_settings_fault};
 use crate::keeping::{
-    FolderHead, open_head, report_keep_error, report_kept, report_opened, serve_kept,
+    FolderHead, lock_folder, open_head, report_keep_error, report_kept, report_opened, serve_kept,
 };
 use crate::reporting::{begin_reporting, end_reporting, print_listen_error};
 use crate::settings::settings_in;
@@ -164,14 +164,20 @@ fn receive_into<R: Threads + Wait + Clock + Sync>(
     receiving: &Receiving<'_>,
     dir: &str,
 ) -> ExitCode {
-    match open_head(rt, &settings.limits, dir) {
+    let lock = match lock_folder(rt, dir) {
+        Ok(lock) => lock,
+        Err(error) => return report_keep_error(rt, dir, error),
+    };
+    let status = match open_head(rt, &settings.limits, dir) {
         Ok(head) => {
             report_opened(rt, dir, &head, receiving);
             let outcome = keep(rt, threads, settings, listener, receiving, head);
             report_kept(rt, dir, outcome)
         }
         Err(error) => report_keep_error(rt, dir, error),
-    }
+    };
+    drop(lock);
+    status
 }
 
 /// Serves connections by settings, at an address.
