@@ -1,2 +1,3 @@
 mod KeptLemmas
 mod RestoringLemmas
+pub mod CapacityLemmas
