@@ -1,5 +1,6 @@
 -- What does not exceed a capacity stays within it.
-use Rattle.std.proofs.Common.{◌≡◌, ℕ, Bool, true, false, ◌&&◌, ◌||◌, nat_lt, refl, inl, inr, arith, nat_tests}
+use Rattle.std.proofs.Common.{◌≡◌, ℕ, Bool, true, false, ◌&&◌, ◌||◌, nat_lt, refl, inl, inr, arith}
+use Rattle.std.proofs.lemmas.Bool.Decides.{nat_tests}
 use Rattle.rw_head.specs.declared.capacity.Capacity.{Capacity}
 use Rattle.rw_head.specs.Capacity.{series_count, is_above, exceeds, IsWithin, StaysWithin}
 use Rattle.rw_head.specs.Store.{Store, total}

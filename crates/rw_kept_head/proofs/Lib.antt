@@ -1,3 +1,3 @@
+mod CapacityLemmas
 mod KeptLemmas
 mod RestoringLemmas
-pub mod CapacityLemmas
