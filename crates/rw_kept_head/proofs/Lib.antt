@@ -1,2 +1,3 @@
+mod AdmittedLemmas
 mod KeptLemmas
 mod RestoringLemmas

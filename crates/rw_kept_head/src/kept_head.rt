@@ -1,18 +1,20 @@
 //! A head whose log is in a journal.
 
-ghost use Rattle.std.specs.Prelude.{◌≡◌, ◌≢◌, ◌<◌, ◌⊎◌, None, Some};
+ghost use Rattle.std.specs.Prelude.{◌≡◌, ◌≢◌, ◌<◌, ◌⊎◌, true, false, None, Some};
 ghost use Rattle.rw_types.specs.Beginnings.{Begins};
 ghost use Rattle.rw_types.specs.Labels.{Labels};
 ghost use Rattle.rw_journal.specs.Journal.{LeavesOnly};
 ghost use Rattle.rw_journal.specs.declared.journal.JournalError.{JournalError};
 ghost use Rattle.rw_journal.specs.declared.journal.JournalError.TheVariants.{Failed};
+ghost use Rattle.rw_head.specs.declared.capacity.Admission.TheVariants.{Full};
+ghost use Rattle.rw_head.specs.Capacity.{exceeds, told};
 ghost use Rattle.rw_head.specs.Head.{answer, IsStatus};
 ghost use Rattle.rw_head.specs.Store.{list_of};
 ghost use Rattle.rw_kept_head.specs.Kept.{IsKept, IsLeft};
 
-use crate::answering::answer_kept;
+use crate::answering::admit_kept;
 use crate::log_writer::LogWriter;
-use rw_head::{Head, Limits};
+use rw_head::{Admission, Capacity, Head, Limits};
 use rw_journal::{Journal, JournalError};
 use std::alloc::Global;
 use std::marker::Model;
@@ -83,10 +85,60 @@ impl<J: Journal> KeptHead<J> {
         }
         let blank = Head::new(self.alloc, &self.limits);
         let head = mem::replace(&mut self.head, blank);
-        let (head, status) = answer_kept(head, &mut self.log, body);
+        let (head, admission) = admit_kept(head, &mut self.log, body, None);
         self.head = head;
         let _kept = self.log.fault();
-        status
+        admission.status()
+    }
+
+    /// Answers as `answer` does, unless the message would take the number of samples or of series
+    /// above the capacity, as `Head::admit` judges it. Then the head is full, nothing is written,
+    /// and the status is 503. Later requests are not affected.
+    pub fn admit(&mut self, body: &[u8], capacity: &Capacity) -> Admission
+        // The answer is that of a head without a journal, or 503.
+        ensures status { told result ≢ 503
+            → told result ≡ (answer self.old.head body.now).status }
+        ensures head { told result ≢ 503
+            → self.new.head ≡ (answer self.old.head body.now).head }
+        ensures unchanged { told result ≡ 503 → self.new.head ≡ self.old.head }
+        ensures statuses { IsStatus (told result) }
+
+        // The head is full only if the message takes it above the capacity, and else it does not.
+        ensures full { result ≡ Full → exceeds capacity.now self.old.head.store
+            (answer self.old.head body.now).head.store ≡ true }
+        ensures room { told result ≡ 204
+            → exceeds capacity.now self.old.head.store self.new.head.store ≡ false }
+
+        // What is held is in the journal, and survives every crash from now on.
+        ensures acknowledged { told result ≢ 503 → IsKept (J.may_leave self.new.journal)
+            (J.seen self.new.journal) self.new.head.store }
+        ensures kept { self.new.fault ≡ None → IsKept (J.may_leave self.new.journal)
+            (J.seen self.new.journal) self.new.head.store }
+
+        // A crash at any moment leaves what was held, and after it a torn part of what is to be
+        // held.
+        ensures any_moment { self.old.fault ≡ None
+            → LeavesOnly J.moment J.left_since self.old.journal self.new.journal
+            (IsLeft J.tears (answer self.old.head body.now).head.store (J.seen self.old.journal)) }
+        ensures begins { self.old.fault ≡ None → (l : Labels) → Begins
+            (list_of self.old.head.store l)
+            (list_of (answer self.old.head body.now).head.store l) }
+
+        // After a fault of the journal nothing changes any more, and there is none without a cause.
+        ensures closed { (e : JournalError) → self.old.fault ≡ Some e
+            → (told result ≡ 503) × (self.new ≡ self.old) }
+        ensures failed { self.new.fault ≡ Some Failed → (self.old.fault ≡ Some Failed)
+            ⊎ (J.faults self.old.journal < J.faults self.new.journal) }
+    {
+        if self.log.fault.is_some() {
+            return Admission::Answered(503);
+        }
+        let blank = Head::new(self.alloc, &self.limits);
+        let head = mem::replace(&mut self.head, blank);
+        let (head, admission) = admit_kept(head, &mut self.log, body, Some(*capacity));
+        self.head = head;
+        let _kept = self.log.fault();
+        admission
     }
 
     /// Returns the head.

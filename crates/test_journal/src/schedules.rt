@@ -131,9 +131,10 @@ fn reopen(
 ) -> Result<(), Wrong> {
     let limits = Limits::standard(alloc)?;
     journal.sync()?;
-    let Ok(mut kept) = KeptHead::open(alloc, &limits, journal, 4096) else {
+    let Ok(opened) = KeptHead::open(alloc, &limits, journal, 4096) else {
         return Err(Wrong::NotOpened);
     };
+    let mut kept = opened.kept;
     if !holds_part(alloc, kept.head(), &request.after, least) {
         return Err(Wrong::HeldAfterCrash);
     }
@@ -180,9 +181,10 @@ fn play(alloc: Global, seed: u64) -> Result<(), Wrong> {
     for _ in 0..5 {
         let request = request_after(alloc, &mut seed, &all, &mut clock)?;
         journal.sync()?;
-        let Ok(mut kept) = KeptHead::open(alloc, &limits, journal, 4096) else {
+        let Ok(opened) = KeptHead::open(alloc, &limits, journal, 4096) else {
             return Err(Wrong::NotOpened);
         };
+        let mut kept = opened.kept;
         if kept.answer(&request.body) != request.status {
             return Err(Wrong::Status);
         }

@@ -6,24 +6,24 @@ use Rattle.rw_kept_head.proofs.kept_head.KeptHead.answer.Goals as goal
 
 pub returns-clause-kept : goal.returns-clause-kept
 returns-clause-kept g c = λ none. record {
-  says = c.answer_kept-head.ensures.says none;
+  says = c.admit_kept-head.ensures.says none;
   whole = c.fault-kept.ensures.whole (c.fault-kept.ensures.fault ∙ none);
   synced = c.fault-kept.ensures.synced (c.fault-kept.ensures.fault ∙ none);
 }
 
 pub returns-clause-acknowledged : goal.returns-clause-acknowledged
 returns-clause-acknowledged g c = λ ne.
-    let none = c.answer_kept-head.ensures.open ne in
+    let none = c.admit_kept-head.ensures.open (λ e. ne (c.status.ensures ∙ e)) in
     record {
-      says = c.answer_kept-head.ensures.says none;
+      says = c.admit_kept-head.ensures.says none;
       whole = c.fault-kept.ensures.whole (c.fault-kept.ensures.fault ∙ none);
       synced = c.fault-kept.ensures.synced (c.fault-kept.ensures.fault ∙ none);
     }
 
 pub returns-clause-begins : goal.returns-clause-begins
 returns-clause-begins g c = λ none l.
-    subst (λ (h : State). Begins (list_of h.store l) (list_of (answer h c.args.body.now).head.store l)) (c.replace-head.ensures.value ∙ ap (λ k. k.head) c.self-inside.view_is ∙ ap (λ k. k.head) c.self.view_is) (c.answer_kept-head.ensures.begins l)
+    subst (λ (h : State). Begins (list_of h.store l) (list_of (answer h c.args.body.now).head.store l)) (c.replace-head.ensures.value ∙ ap (λ k. k.head) c.self-inside.view_is ∙ ap (λ k. k.head) c.self.view_is) (c.admit_kept-head.ensures.begins l)
 
 pub returns-clause-failed : goal.returns-clause-failed
 returns-clause-failed g c = λ e.
-    inr (subst (λ j. g.J.Journal.faults j < g.J.Journal.faults c.answer_kept-head.new.log.journal) (ap (λ k. k.log.journal) c.self-inside.view_is ∙ ap (λ k. k.journal) c.self.view_is) (c.answer_kept-head.ensures.failed e))
+    inr (subst (λ j. g.J.Journal.faults j < g.J.Journal.faults c.admit_kept-head.new.log.journal) (ap (λ k. k.log.journal) c.self-inside.view_is ∙ ap (λ k. k.journal) c.self.view_is) (c.admit_kept-head.ensures.failed e))
