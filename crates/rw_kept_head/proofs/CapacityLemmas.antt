@@ -8,15 +8,15 @@ use Rattle.rw_head.specs.Store.{Store, total}
 is_within : (limit old new : ℕ) (a b : Bool) → nat_lt old new ≡ a → nat_lt limit new ≡ b → (a && b) ≡ false → IsWithin limit old new
 is_within limit old new false b e f no = inl (grind (arith, nat_tests))
 is_within limit old new true false e f no = inr (grind (arith, nat_tests))
-is_within limit old new true true e f no = absurd no
+is_within limit old new true true e f no = absurd over
 
 neither : (a b : Bool) → (a || b) ≡ false → (a ≡ false) × (b ≡ false)
-neither false b no = (refl, no)
-neither true b no = absurd no
+neither false b no = (refl, over)
+neither true b no = absurd over
 
 pub stays_within : (capacity : Capacity) (old new : Store) → exceeds capacity old new ≡ false → StaysWithin capacity old new
 stays_within capacity old new no =
-    let both = neither (is_above capacity.max_samples (total old) (total new)) (is_above capacity.max_series (series_count old) (series_count new)) no in record {
+    let both = neither (is_above capacity.max_samples (total old) (total new)) (is_above capacity.max_series (series_count old) (series_count new)) over in record {
       samples = is_within capacity.max_samples (total old) (total new) (nat_lt (total old) (total new)) (nat_lt capacity.max_samples (total new)) refl refl both.0;
       series = is_within capacity.max_series (series_count old) (series_count new) (nat_lt (series_count old) (series_count new)) (nat_lt capacity.max_series (series_count new)) refl refl both.1;
     }

@@ -38,7 +38,13 @@ returns-then-keep-clause-within g c =
     (subst (λ (h : State). StaysWithin c.args.capacity.now c.in-Ok.staged.before.store h.store) (sym c.commit.ensures.head) within)
 
 pub returns-then-has_failed-clause-says : goal.returns-then-has_failed-clause-says
-returns-then-has_failed-clause-says g c = ?
+returns-then-has_failed-clause-says g c = λ none.
+    let same = c.abort-then-has_failed.ensures ∙ c.in-Ok.ensures.before in
+    subst (λ (h : State). SaysWhat (g.J.Journal.seen c.args.log.now.journal) h.store) (sym same) (c.requires.says none)
 
 pub returns-then-has_failed-clause-any_moment : goal.returns-then-has_failed-clause-any_moment
-returns-then-has_failed-clause-any_moment g c = ?
+returns-then-has_failed-clause-any_moment g c = λ none.
+    let new = (answer c.args.head c.args.body.now).head.store in
+    let seen = g.J.Journal.seen c.args.log.now.journal in
+    started g.J.Journal.moment g.J.Journal.left_since c.args.log.now.journal (IsLeft g.J.Journal.tears new seen)
+    (λ x left. is_unharmed g.J.Journal.tears new seen x (c.fault.ensures.synced (c.fault.ensures.fault ∙ none) x (g.met.J.Journal.only_now c.args.log.now.journal x left)))
