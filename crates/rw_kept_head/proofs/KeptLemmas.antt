@@ -1,5 +1,5 @@
 -- What a log says of a head: as it goes on, as it is written, and after a crash.
-use Rattle.std.proofs.Common.{◌≡◌, ◌⊎◌, ℕ, ℤ, ◌+◌, List, [], ◌∷◌, ◌++◌, length, map, refl, sym, ap, ◌∙◌, subst, append_assoc, append-nil, length-append, lit<, inl, inr, ⊎_elim, arith, if◌then◌else◌}
+use Rattle.std.proofs.Common.{◌≡◌, ◌⊎◌, ℕ, ℤ, ◌+◌, List, [], ◌∷◌, ◌++◌, length, map, refl, sym, ap, ◌∙◌, subst, append_assoc, append-nil, length-append, lit<, inl, inr, ⊎_elim, arith, if◌then◌else◌, Option, Some, None, is_some, true, false}
 use Rattle.std.proofs.lemmas.List.{take-take}
 use Rattle.std.specs.List.{AllByRecursion}
 use Rattle.rw_types.specs.Beginnings.{Begins}
@@ -230,3 +230,9 @@ collected_more before later l a old rest added e is all =
     ∙ append_assoc before (if labels_eq a.labels l then a.samples else []) (samples_of l rest)
     ∙ ap (λ (x : List Added). before ++ samples_of l x) (sym is)
     ∙ all
+
+-- ---- options
+
+pub unset : {A : Type 0} (o : Option A) → is_some o ≡ false → o ≡ None
+unset None e = refl
+unset (Some x) e = absurd (let h : true ≡ false = e in cc)

@@ -1,2 +1,4 @@
+mod AdmittedLemmas
+mod CapacityLemmas
 mod KeptLemmas
 mod RestoringLemmas

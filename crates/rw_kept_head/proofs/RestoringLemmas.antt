@@ -1,23 +1,33 @@
 -- The head that the entries of a log say, entry by entry.
-use Rattle.std.proofs.Common.{◌≡◌, ℕ, ℤ, ◌-◌, List, [], ◌∷◌, ◌++◌, length, map, Bool, true, false, cond, Option, Some, None, refl, sym, ap, ◌∙◌, subst, arith, append-nil, nat_eq, eqb-true}
-use Rattle.rw_types.specs.Labels.{Labels}
+use Rattle.std.proofs.Common.{◌≡◌, ◌≢◌, ℕ, ℤ, ◌+◌, ◌-◌, List, [], ◌∷◌, ◌++◌, length, map, Bool, true, false, not, ◌||◌, cond, Option, Some, None, refl, sym, ap, ◌∙◌, subst, arith, append-nil, nat_eq, eqb-true}
+use Rattle.std.specs.Prelude.{is_some, MatchOption}
+use Rattle.std.proofs.lemmas.List.{length_push}
+use Rattle.rw_types.specs.Labels.{Labels, label_fault}
 use Rattle.rw_types.specs.LabelOrder.{labels_eq, same_if_equal}
+use Rattle.rw_types.specs.Rising.{Rises}
 use Rattle.rw_types.proofs.OrderLemmas.{equal_if_same}
 use Rattle.rw_types.specs.declared.entry.Entry.{Entry}
 use Rattle.rw_types.specs.declared.entry.Entry.TheVariants.{Def, Sample}
-use Rattle.rw_wal_format.specs.Series.{defines, labels_of, has_labels}
+use Rattle.rw_types.specs.declared.label_fault.LabelFault.{LabelFault}
+use Rattle.rw_types.specs.declared.label_fault.LabelFault.TheVariants.{OutOfMemory}
+use Rattle.rw_types.specs.declared.names.Names.{Names}
+use Rattle.rw_wal_format.specs.Series.{labels_of, has_labels}
 use Rattle.rw_write_request.specs.Message.{TimeSeries, WriteRequest}
 use Rattle.rw_head.specs.declared.verdict.Verdict.{Verdict}
-use Rattle.rw_head.specs.declared.verdict.Verdict.TheVariants.{Stored}
-use Rattle.rw_head.specs.Head.{status_of}
+use Rattle.rw_head.specs.declared.verdict.Verdict.TheVariants.{Stored, BadLabels, OverLimit}
+use Rattle.rw_head.specs.Head.{State, status_of}
+use Rattle.rw_head.specs.Lists.{IsEarlier, has_samples}
 use Rattle.rw_head.specs.Order.{Point, is_later, holds}
 use Rattle.rw_head.specs.Store.{Store, list_of, with_list, total}
-use Rattle.rw_head.specs.Verdicts.{LabelLimits, refusal, accepted, taken_unless, taken, judged, apply}
+use Rattle.rw_head.specs.Verdicts.{LabelLimits, is_over, refusal, accepted, taken_unless, taken, judged, apply}
 use Rattle.rw_head.proofs.BodyLemmas.{taken_status}
 use Rattle.rw_head.proofs.StoreLemmas.{list_of-with_list, total-with_list}
 use Rattle.rw_wal_append.specs.Additions.{without_position, samples_in}
 use Rattle.rw_wal_append.proofs.AdditionLemmas.{samples_in-append, labels_of-push, no_sample}
-use Rattle.rw_kept_head.specs.Restoring.{labels_in, IsRestored, IsAdded, Defines, AddsSample}
+use Rattle.rw_kept_head.specs.Admitted.{MayHold}
+use Rattle.rw_kept_head.specs.Restoring.{StandsFor, IsRestored, IsRestoring, IsRestoredOrRefused, IsSeriesOf, IsAdded, CannotFollow, AddsOne, Defines, AddsSample, TakesSample}
+use Rattle.rw_kept_head.proofs.AdmittedLemmas.{begin_held}
+use Rattle.rw_kept_head.proofs.KeptLemmas.{samples_begin}
 
 one : Labels → ℕ → ℤ → TimeSeries
 one l w t = record { labels = l; samples = (w, t) ∷ [] }
@@ -71,74 +81,191 @@ one_added limits old new m stored is = λ l w t e q.
     ap (λ (s : Store). list_of s q) (is ∙ ap (λ (x : WriteRequest). (apply limits old x).store) e)
     ∙ unless limits l q w t old (refusal limits l) refl (ap (λ (x : WriteRequest). (apply limits old x).verdict) (sym e) ∙ stored)
 
+-- a sample that is later than all others is stored
+later_than_all : (t : ℤ) (w : ℕ) (xs : List Point) → Rises IsEarlier (xs ++ (t, w) ∷ []) → is_later t xs ≡ true
+later_than_all t w [] h = refl
+later_than_all t w (x ∷ []) h = h.0.0
+later_than_all t w (x ∷ y ∷ ys) h = later_than_all t w (y ∷ ys) h.1
+
+total_push : (l : Labels) (old : Store) (xs : List Point) (p : Point) → list_of old l ≡ xs → total (with_list l (xs ++ p ∷ []) old) ≡ total old + 1
+total_push l old [] p e = omega (arith, total-with_list l p [] old, ap length e)
+total_push l old (x ∷ xs) p e = omega (arith, total-with_list l x (xs ++ p ∷ []) old, ap length e, length_push xs p)
+
+stored : (l : Labels) (old : Store) (p : Point) (later held : Bool) → later ≡ true
+    → (judged old (accepted l old (cond later (Some (list_of old l ++ p ∷ [])) (cond held (Some (list_of old l)) None)))).verdict ≡ Stored 1
+stored l old p true held e =
+    let one_more : total (with_list l (list_of old l ++ p ∷ []) old) - total old ≡ 1 = omega (arith, total_push l old (list_of old l) p refl) in
+    ap Stored one_more
+stored l old p false held e = absurd cc
+
+cannot_follow : (limits : LabelLimits) (l : Labels) (w : ℕ) (t : ℤ) (old : Store) (r : Option Verdict) → refusal limits l ≡ r → (judged old (taken_unless r old (one l w t))).verdict ≢ Stored 1 → CannotFollow limits old l (t, w)
+unfolding one
+cannot_follow limits l w t old (Some v) is other = λ rises none. absurd (cc (is, none))
+cannot_follow limits l w t old None is other = λ rises none.
+    other (stored l old (t, w) (is_later t (list_of old l)) (holds (t, w) (list_of old l)) (later_than_all t w (list_of old l) rises))
+
+one_refused : (limits : LabelLimits) (old : Store) (m : WriteRequest) → (apply limits old m).verdict ≢ Stored 1 → (l : Labels) (w : ℕ) (t : ℤ) → m ≡ record { labels = l; samples = (w, t) ∷ [] } ∷ []
+    → CannotFollow limits old l (t, w)
+unfolding one
+one_refused limits old m other = λ l w t e.
+    cannot_follow limits l w t old (refusal limits l) refl (λ is. other (ap (λ (x : WriteRequest). (apply limits old x).verdict) e ∙ is))
+
+pub one_judged : (limits : LabelLimits) (old new : Store) (m : WriteRequest) (v : Verdict) (done : Bool) → v ≡ (apply limits old m).verdict → new ≡ (apply limits old m).store
+    → (done ≡ true → v ≡ Stored 1) → (done ≡ false → v ≢ Stored 1) → AddsOne limits old new m done
+one_judged limits old new m v true is store if_one if_other = one_added limits old new m (sym is ∙ if_one refl) store
+one_judged limits old new m v false is store if_one if_other = one_refused limits old m (λ e. if_other refl (is ∙ e))
+
 -- ---- entry by entry
 
-pub defined_next : (taken : List Entry) (lookup later : ℕ → Option TimeSeries) (store : Store) (reference : ℕ) (labels : Labels) → Defines lookup later reference labels → IsRestored taken lookup store
-    → IsRestored (taken ++ Def reference labels ∷ []) later store
-defined_next taken lookup later store reference labels defines restored = record {
-  known = λ r.
-      defines r
-      ∙ ap (λ (k : Option Labels). cond (nat_eq reference r) (Some labels) k) (restored.known r)
-      ∙ sym (labels_of-push taken (Def reference labels) r);
+defined_next : (names : Names) (taken : List Entry) (lookup later : ℕ → Option (Option TimeSeries)) (store : Store) (reference : ℕ) (labels : Labels) → Defines names lookup later reference labels
+    → IsRestored names taken lookup store → IsRestored names (taken ++ Def reference labels ∷ []) later store
+defined_next names taken lookup later store reference labels defining restored = record {
+  known = λ r. subst (StandsFor names (later r)) (sym (labels_of-push taken (Def reference labels) r)) (defining r (labels_of taken r (length taken)) (restored.known r));
   says = λ l. restored.says l ∙ sym (no_sample taken reference labels l);
 }
+
+pub defined_under : (names other : Names) → names ≡ other → (taken : List Entry) (lookup later : ℕ → Option (Option TimeSeries)) (store : Store) (reference : ℕ) (labels : Labels) → Defines names lookup later reference labels
+    → IsRestored other taken lookup store → IsRestored other (taken ++ Def reference labels ∷ []) later store
+defined_under names other same taken lookup later store reference labels defining restored =
+    defined_next other taken lookup later store reference labels (subst (λ (n : Names). Defines n lookup later reference labels) same defining) restored
 
 said : (b : Bool) (n : ℕ) (p : ℤ × ℕ) → map without_position (cond b ((n, p.0, p.1) ∷ []) []) ≡ cond b (p ∷ []) []
 said true n p = refl
 said false n p = refl
 
-pub sampled_next : (taken : List Entry) (lookup later : ℕ → Option TimeSeries) (old new : Store) (reference : ℕ) (t : ℤ) (w : ℕ) → AddsSample old new lookup later reference (t, w) → IsRestored taken lookup old
-    → IsRestored (taken ++ Sample reference t w ∷ []) later new
-sampled_next taken lookup later old new reference t w adds restored = record {
-  known = λ r. adds.same r ∙ restored.known r ∙ sym (labels_of-push taken (Sample reference t w) r);
+sampled_next : (names : Names) (taken : List Entry) (lookup later : ℕ → Option (Option TimeSeries)) (old new : Store) (reference : ℕ) (t : ℤ) (w : ℕ) → AddsSample names old new lookup later reference (t, w)
+    → IsRestored names taken lookup old → IsRestored names (taken ++ Sample reference t w ∷ []) later new
+sampled_next names taken lookup later old new reference t w adds restored = record {
+  known = λ r. subst (StandsFor names (later r)) (sym (labels_of-push taken (Sample reference t w) r)) (adds.same r (labels_of taken r (length taken)) (restored.known r));
   says = λ l.
-      adds.added l
-      ∙ ap (λ (ps : List Point). ps ++ cond (has_labels l (labels_in (lookup reference))) ((t, w) ∷ []) []) (restored.says l)
-      ∙ ap (λ (k : Option Labels). samples_in taken l ++ cond (has_labels l k) ((t, w) ∷ []) []) (restored.known reference)
+      adds.added l (labels_of taken reference (length taken)) (restored.known reference)
+      ∙ ap (λ (ps : List Point). ps ++ cond (has_labels l (labels_of taken reference (length taken))) ((t, w) ∷ []) []) (restored.says l)
       ∙ ap (λ (ps : List Point). samples_in taken l ++ ps) (sym (said (has_labels l (labels_of taken reference (length taken))) (length taken) (t, w)))
       ∙ sym (samples_in-append l taken (Sample reference t w ∷ []));
 }
 
-pub nothing_yet : (taken : List Entry) (lookup : ℕ → Option TimeSeries) (store : Store) → taken ≡ [] → ((r : ℕ) → lookup r ≡ None) → ((l : Labels) → list_of store l ≡ []) → IsRestored taken lookup store
-nothing_yet taken lookup store none unknown empty = record {
-  known = λ r. ap labels_in (unknown r) ∙ ap (λ (es : List Entry). labels_of es r (length es)) (sym none);
+some_pushed : (xs : List Point) (p : Point) → has_samples (xs ++ p ∷ []) ≡ true
+some_pushed [] p = refl
+some_pushed (x ∷ xs) p = refl
+
+refused_next : (limits : LabelLimits) (taken : List Entry) (lookup : ℕ → Option (Option TimeSeries)) (store : Store) (reference : ℕ) (t : ℤ) (w : ℕ) (l : Labels) → labels_of taken reference (length taken) ≡ Some l
+    → CannotFollow limits store l (t, w) → IsRestored limits.names taken lookup store → MayHold limits (samples_in (taken ++ Sample reference t w ∷ [])) → ⊥
+refused_next limits taken lookup store reference t w l is cannot restored may =
+    let same : samples_in (taken ++ Sample reference t w ∷ []) l ≡ list_of store l ++ (t, w) ∷ [] =
+    samples_in-append l taken (Sample reference t w ∷ [])
+    ∙ ap (λ (ps : List Point). samples_in taken l ++ ps) (said (has_labels l (labels_of taken reference (length taken))) (length taken) (t, w))
+    ∙ ap (λ (o : Option (List (List ℕ × List ℕ))). samples_in taken l ++ cond (has_labels l o) ((t, w) ∷ []) []) is
+    ∙ ap (λ (b : Bool). samples_in taken l ++ cond b ((t, w) ∷ []) []) (equal_if_same l l refl)
+    ∙ ap (λ (ps : List Point). ps ++ (t, w) ∷ []) (sym (restored.says l)) in
+    cannot (subst (Rises IsEarlier) same (may.rises l)) (may.within l (ap has_samples same ∙ some_pushed (list_of store l) (t, w)))
+
+pub sample_taken : (limits : LabelLimits) (taken : List Entry) (lookup later : ℕ → Option (Option TimeSeries)) (old new : Store) (reference : ℕ) (t : ℤ) (w : ℕ) (done : Bool)
+    → TakesSample limits old new lookup later reference (t, w) done → IsRestored limits.names taken lookup old → IsRestoredOrRefused limits (taken ++ Sample reference t w ∷ []) later new done
+sample_taken limits taken lookup later old new reference t w true takes restored = sampled_next limits.names taken lookup later old new reference t w takes restored
+sample_taken limits taken lookup later old new reference t w false takes restored = λ may.
+    let found = takes (labels_of taken reference (length taken)) (restored.known reference) in
+    refused_next limits taken lookup old reference t w found.0 found.1 found.2 restored may
+
+pub nothing_yet : (names : Names) (taken : List Entry) (lookup : ℕ → Option (Option TimeSeries)) (store : Store) → taken ≡ [] → ((r : ℕ) → lookup r ≡ None) → ((l : Labels) → list_of store l ≡ [])
+    → IsRestored names taken lookup store
+nothing_yet names taken lookup store none unknown empty = record {
+  known = λ r. subst (λ (o : Option (Option TimeSeries)). StandsFor names o (labels_of taken r (length taken))) (sym (unknown r)) (ap (λ (es : List Entry). labels_of es r (length es)) none);
   says = λ l. empty l ∙ ap (λ (es : List Entry). samples_in es l) (sym none);
+}
+
+-- ---- the whole log
+
+pub holds_nothing : (limits : LabelLimits) (lists : Labels → List Point) → ((l : Labels) → lists l ≡ []) → MayHold limits lists
+holds_nothing limits lists none = record {
+  rises = λ l. subst (Rises IsEarlier) (sym (none l)) tt;
+  within = λ l some. let nothing : has_samples (lists l) ≡ false = ap has_samples (none l) in absurd cc;
+}
+
+-- a log that goes on after what is refused is refused
+still_refused : (limits : LabelLimits) (taken : List Entry) (e : Entry) → (MayHold limits (samples_in taken) → ⊥) → MayHold limits (samples_in (taken ++ e ∷ [])) → ⊥
+still_refused limits taken e refuses may =
+    refuses (begin_held limits (samples_in taken) (samples_in (taken ++ e ∷ [])) (λ l. samples_begin taken (taken ++ e ∷ []) l (e ∷ [], refl)) may)
+
+pub restoring_next : (taken : List Entry) (e : Entry) (lookup later : ℕ → Option (Option TimeSeries)) (old new : State) (refused done : Bool) → new.limits ≡ old.limits → IsRestoring taken lookup old refused
+    → (IsRestored old.limits.names taken lookup old.store → IsRestoredOrRefused old.limits (taken ++ e ∷ []) later new.store done)
+    → (MayHold old.limits (list_of old.store) → MayHold old.limits (list_of new.store)) → IsRestoring (taken ++ e ∷ []) later new (refused || not done)
+restoring_next taken e lookup later old new true done same r next held = record {
+  restored = λ is. absurd cc;
+  refuses = λ is. subst (λ (limits : LabelLimits). MayHold limits (samples_in (taken ++ e ∷ [])) → ⊥) (sym same) (still_refused old.limits taken e (r.refuses refl));
+  holds = subst (λ (limits : LabelLimits). MayHold limits (list_of new.store)) (sym same) (held r.holds);
+}
+restoring_next taken e lookup later old new false true same r next held = record {
+  restored = λ is. subst (λ (limits : LabelLimits). IsRestored limits.names (taken ++ e ∷ []) later new.store) (sym same) (next (r.restored refl));
+  refuses = λ is. absurd cc;
+  holds = subst (λ (limits : LabelLimits). MayHold limits (list_of new.store)) (sym same) (held r.holds);
+}
+restoring_next taken e lookup later old new false false same r next held = record {
+  restored = λ is. absurd cc;
+  refuses = λ is. subst (λ (limits : LabelLimits). MayHold limits (samples_in (taken ++ e ∷ [])) → ⊥) (sym same) (next (r.restored refl));
+  holds = subst (λ (limits : LabelLimits). MayHold limits (list_of new.store)) (sym same) (held r.holds);
 }
 
 -- ---- the references
 
-defined_at : (b : Bool) (s : TimeSeries) (o : Option TimeSeries) → labels_in (cond b (Some s) o) ≡ cond b (Some s.labels) (labels_in o)
-defined_at true s o = refl
-defined_at false s o = refl
+-- labels with a fault are refused
+pub is_faulty : (o : Option LabelFault) (f : LabelFault) → MatchOption o (f ≡ OutOfMemory) (λ fault. f ≡ fault) → f ≢ OutOfMemory → is_some o ≡ true
+is_faulty None f e other = absurd (other e)
+is_faulty (Some x) f e other = refl
 
-pub defines_by : (lookup later : ℕ → Option TimeSeries) (reference : ℕ) (labels : Labels) (s : TimeSeries) → s.labels ≡ labels → ((q : ℕ) → later q ≡ cond (nat_eq reference q) (Some s) (lookup q))
-    → Defines lookup later reference labels
-defines_by lookup later reference labels s e up = λ r.
-    ap labels_in (up r) ∙ defined_at (nat_eq reference r) s (lookup r) ∙ ap (λ (l : Labels). cond (nat_eq reference r) (Some l) (labels_in (lookup r))) e
+faulty_refused : (limits : LabelLimits) (l : Labels) → is_some (label_fault limits.names l) ≡ true → refusal limits l ≡ None → ⊥
+faulty_refused limits l bad none =
+    let e : ◌≡◌ {A = Option Verdict} (Some BadLabels) None = ap (λ (b : Bool). cond b (Some BadLabels) (cond (is_over limits l) (Some OverLimit) None)) (sym bad) ∙ none in
+    cc
+
+defined_at : (names : Names) (labels : Labels) (o : Option TimeSeries) (b : Bool) (old : Option (Option TimeSeries)) (found : Option (List (List ℕ × List ℕ))) → IsSeriesOf names labels o → StandsFor names old found
+    → StandsFor names (cond b (Some o) old) (cond b (Some labels) found)
+defined_at names labels None true old found of is = (labels, refl, of)
+defined_at names labels (Some s) true old found of is = ap (λ (x : TimeSeries). Some x.labels) (sym of)
+defined_at names labels o false old found of is = is
+
+pub defines_by : (names : Names) (lookup later : ℕ → Option (Option TimeSeries)) (reference : ℕ) (labels : Labels) (o : Option TimeSeries) → IsSeriesOf names labels o
+    → ((q : ℕ) → later q ≡ cond (nat_eq reference q) (Some o) (lookup q)) → Defines names lookup later reference labels
+defines_by names lookup later reference labels o of up = λ r found is.
+    subst (λ (x : Option (Option TimeSeries)). StandsFor names x (cond (nat_eq reference r) (Some labels) found)) (sym (up r)) (defined_at names labels o (nat_eq reference r) (lookup r) found of is)
 
 -- a reference without a definition
-pub adds_none : (store : Store) (lookup later : ℕ → Option TimeSeries) (reference : ℕ) (sample : ℤ × ℕ) → lookup reference ≡ None → ((q : ℕ) → later q ≡ lookup q)
-    → AddsSample store store lookup later reference sample
-adds_none store lookup later reference sample none same = record {
-  same = λ r. ap labels_in (same r);
-  added = λ l. sym (append-nil (list_of store l)) ∙ ap (λ (o : Option TimeSeries). list_of store l ++ cond (has_labels l (labels_in o)) (sample ∷ []) []) (sym none);
+pub adds_none : (limits : LabelLimits) (store : Store) (lookup later : ℕ → Option (Option TimeSeries)) (reference : ℕ) (sample : ℤ × ℕ) → lookup reference ≡ None → ((q : ℕ) → later q ≡ lookup q)
+    → TakesSample limits store store lookup later reference sample true
+adds_none limits store lookup later reference sample none same = record {
+  same = λ r found is. subst (λ (o : Option (Option TimeSeries)). StandsFor limits.names o found) (sym (same r)) is;
+  added = λ l found is.
+      let undefined : found ≡ None = subst (λ (o : Option (Option TimeSeries)). StandsFor limits.names o found) none is in
+      sym (append-nil (list_of store l)) ∙ ap (λ (o : Option (List (List ℕ × List ℕ))). list_of store l ++ cond (has_labels l o) (sample ∷ []) []) (sym undefined);
 }
 
-put_back : (lookup mid later : ℕ → Option TimeSeries) (reference r : ℕ) (s back : TimeSeries) (b : Bool) → nat_eq reference r ≡ b → lookup reference ≡ Some s → back.labels ≡ s.labels
-    → mid r ≡ cond b None (lookup r) → later r ≡ cond b (Some back) (mid r) → labels_in (later r) ≡ labels_in (lookup r)
-put_back lookup mid later reference r s back true e found labels out again =
-    ap labels_in again ∙ ap (λ (l : Labels). Some l) labels ∙ sym (ap labels_in (ap lookup (sym (eqb-true reference r e)) ∙ found))
-put_back lookup mid later reference r s back false e found labels out again = ap labels_in (again ∙ out)
+-- a reference whose labels are no label set
+pub takes_none : (limits : LabelLimits) (old new : Store) (lookup later : ℕ → Option (Option TimeSeries)) (reference : ℕ) (sample : ℤ × ℕ) → lookup reference ≡ Some None
+    → TakesSample limits old new lookup later reference sample false
+takes_none limits old new lookup later reference sample bad = λ found is.
+    let k = subst (λ (o : Option (Option TimeSeries)). StandsFor limits.names o found) bad is in
+    (k.0, k.1, λ rises none. faulty_refused limits k.0 k.2 none)
 
-pub adds_by : (old new : Store) (lookup mid later : ℕ → Option TimeSeries) (reference w : ℕ) (t : ℤ) (s back : TimeSeries) (m : WriteRequest) → lookup reference ≡ Some s
-    → ((q : ℕ) → mid q ≡ cond (nat_eq reference q) None (lookup q)) → ((q : ℕ) → later q ≡ cond (nat_eq reference q) (Some back) (mid q)) → back ≡ record { labels = s.labels; samples = (w, t) ∷ [] }
-    → m ≡ back ∷ [] → IsAdded old new m → AddsSample old new lookup later reference (t, w)
-adds_by old new lookup mid later reference w t s back m found out again is single added = record {
-  same = λ r. put_back lookup mid later reference r s back (nat_eq reference r) refl found (ap (λ (x : TimeSeries). x.labels) is) (out r) (again r);
-  added = λ l.
-      added s.labels w t (single ∙ ap (λ (x : TimeSeries). x ∷ []) is) l
-      ∙ ap (λ (o : Option TimeSeries). list_of old l ++ cond (has_labels l (labels_in o)) ((t, w) ∷ []) []) (sym found);
+put_back : (names : Names) (lookup mid later : ℕ → Option (Option TimeSeries)) (reference r : ℕ) (s back : TimeSeries) (b : Bool) (found : Option (List (List ℕ × List ℕ))) → nat_eq reference r ≡ b
+    → lookup reference ≡ Some (Some s) → back.labels ≡ s.labels → mid r ≡ cond b None (lookup r) → later r ≡ cond b (Some (Some back)) (mid r) → StandsFor names (lookup r) found → StandsFor names (later r) found
+put_back names lookup mid later reference r s back true found e there labels out again is =
+    let was : found ≡ Some s.labels = subst (λ (o : Option (Option TimeSeries)). StandsFor names o found) (ap lookup (sym (eqb-true reference r e)) ∙ there) is in
+    subst (λ (o : Option (Option TimeSeries)). StandsFor names o found) (sym again) (was ∙ ap (λ (l : Labels). Some l) (sym labels))
+put_back names lookup mid later reference r s back false found e there labels out again is =
+    subst (λ (o : Option (Option TimeSeries)). StandsFor names o found) (sym (again ∙ out)) is
+
+pub takes_by : (limits : LabelLimits) (old new : Store) (lookup mid later : ℕ → Option (Option TimeSeries)) (reference w : ℕ) (t : ℤ) (s back : TimeSeries) (m : WriteRequest) (done : Bool) → lookup reference ≡ Some (Some s)
+    → ((q : ℕ) → mid q ≡ cond (nat_eq reference q) None (lookup q)) → ((q : ℕ) → later q ≡ cond (nat_eq reference q) (Some (Some back)) (mid q)) → back ≡ record { labels = s.labels; samples = (w, t) ∷ [] }
+    → m ≡ back ∷ [] → AddsOne limits old new m done → TakesSample limits old new lookup later reference (t, w) done
+takes_by limits old new lookup mid later reference w t s back m true there out again is single adds = record {
+  same = λ r found was. put_back limits.names lookup mid later reference r s back (nat_eq reference r) found refl there (ap (λ (x : TimeSeries). x.labels) is) (out r) (again r) was;
+  added = λ l found was.
+      let named : found ≡ Some s.labels = subst (λ (o : Option (Option TimeSeries)). StandsFor limits.names o found) there was in
+      adds s.labels w t (single ∙ ap (λ (x : TimeSeries). x ∷ []) is) l
+      ∙ ap (λ (o : Option (List (List ℕ × List ℕ))). list_of old l ++ cond (has_labels l o) ((t, w) ∷ []) []) (sym named);
 }
+takes_by limits old new lookup mid later reference w t s back m false there out again is single adds = λ found was.
+    let named : found ≡ Some s.labels = subst (λ (o : Option (Option TimeSeries)). StandsFor limits.names o found) there was in
+    (s.labels, named, adds s.labels w t (single ∙ ap (λ (x : TimeSeries). x ∷ []) is))
 
 -- the only one of a list is its last one
 pub only_one : (rest : List TimeSeries) (a b : TimeSeries) (all : List TimeSeries) → all ≡ a ∷ [] → all ≡ rest ++ b ∷ [] → b ≡ a

@@ -1,12 +1,15 @@
 -- How the log of a head is opened.
-use Rattle.std.specs.Prelude.{◌≡◌}
+use Rattle.std.specs.Prelude.{◌≡◌, ◌≤◌, ◌^◌}
 use Rattle.rw_journal.specs.Journal.{Segments}
 use Rattle.rw_wal_format.specs.Pieces.{page_size}
 use Rattle.rw_journal.specs.Logs.{entries_of}
 use Rattle.rw_reopen.specs.declared.error.ReopenError.TheVariants.{OutOfMemory, Failed, Damaged}
+use Rattle.rw_reopen.specs.Reading.{greatest_after}
 use Rattle.rw_reopen.specs.Reopening.{IsDamage}
+use Rattle.rw_head.specs.Verdicts.{LabelLimits}
+use Rattle.rw_kept_head.specs.Admitted.{IsAdmitted}
 use Rattle.rw_kept_head.specs.declared.open_error.OpenError.{OpenError}
-use Rattle.rw_kept_head.specs.declared.open_error.OpenError.TheVariants.{Log, Foreign}
+use Rattle.rw_kept_head.specs.declared.open_error.OpenError.TheVariants.{Log, Foreign, NoReferenceLeft}
 
 -- the log is said to be damaged only if it has that damage, and a log that is refused is as it was
 abbrev pub IsRefusedRightly : Segments → Segments → OpenError → Type 0
@@ -14,6 +17,14 @@ IsRefusedRightly old new (Log OutOfMemory) = Unit {0}
 IsRefusedRightly old new (Log Failed) = Unit {0}
 IsRefusedRightly old new (Log (Damaged d)) = IsDamage old d × (new ≡ old)
 IsRefusedRightly old new Foreign = new ≡ old
+IsRefusedRightly old new NoReferenceLeft = new ≡ old
+
+-- a log is said to be foreign only if no head with these limits holds its samples, and to have no
+-- reference left only if it has one from 2^63 on
+abbrev pub HasCause : LabelLimits → Segments → OpenError → Type 0
+HasCause limits segments (Log e) = Unit {0}
+HasCause limits segments Foreign = IsAdmitted limits segments → ⊥
+HasCause limits segments NoReferenceLeft = 2 ^ 63 ≤ greatest_after 0 (entries_of page_size segments)
 
 -- these segments have the same entries
 abbrev pub HasSameEntries : Segments → Segments → Type 0

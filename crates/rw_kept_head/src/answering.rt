@@ -64,7 +64,10 @@ pub(crate) fn admit_kept<J: Journal>(
     if staged.exceeds(capacity) {
         return (staged.abort(), Admission::Full);
     }
-    if !has_failed && log.keep(&staged) {
+    if has_failed {
+        return (staged.abort(), Admission::Answered(503));
+    }
+    if log.keep(&staged) {
         (staged.commit(), Admission::Answered(204))
     } else {
         (staged.abort(), Admission::Answered(503))

@@ -108,6 +108,13 @@ impl<J: Journal> KeptHead<J> {
         &self.head
     }
 
+    /// Returns the journal.
+    pub fn journal(&self) -> &J
+        ensures { result.now ≡ self.now.journal }
+    {
+        &self.log.journal
+    }
+
     /// Returns the journal, for a caller that opens it again.
     pub fn into_journal(self) -> J
         ensures { result ≡ self.journal }

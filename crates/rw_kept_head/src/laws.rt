@@ -1,15 +1,19 @@
 //! Laws of a head that is kept in a journal. Each function does nothing: its contract is the law.
 
-ghost use Rattle.std.specs.Prelude.{List};
+ghost use Rattle.std.specs.Prelude.{ℕ, List};
 ghost use Rattle.std.specs.List.{AllByRecursion};
 ghost use Rattle.rw_types.specs.Beginnings.{Begins};
 ghost use Rattle.rw_types.specs.Labels.{Labels};
 ghost use Rattle.rw_types.specs.declared.entry.Entry.{Entry};
 ghost use Rattle.rw_wal_format.specs.Pieces.{page_size};
+ghost use Rattle.rw_head.specs.Head.{State, answer};
 ghost use Rattle.rw_head.specs.Store.{Store, list_of};
+ghost use Rattle.rw_head.specs.Verdicts.{LabelLimits};
 ghost use Rattle.rw_journal.specs.Journal.{Segments};
 ghost use Rattle.rw_journal.specs.Logs.{IsWhole};
 ghost use Rattle.rw_wal_append.specs.Additions.{samples_in};
+ghost use Rattle.rw_kept_head.specs.Admitted.{MayHold, IsAdmitted};
+ghost use Rattle.rw_kept_head.specs.Opening.{HasSameEntries};
 ghost use Rattle.rw_kept_head.specs.Kept.{SaysWhat, LiesBetween, IsLeft, HasNoChance};
 
 use rw_journal::Journal;
@@ -33,3 +37,21 @@ pub fn what_is_left_lies_between<J: Journal>()
 {
     segments_add_up();
 }
+
+/// Law: whatever a head is asked, it holds what a head with its limits may hold, if it did so
+/// before.
+pub fn a_head_stays_within_its_limits()
+    ensures { (h : State) (body : List ℕ) → MayHold h.limits (list_of h.store)
+        → MayHold h.limits (list_of (answer h body).head.store) }
+{}
+
+/// Law: a head with the same limits takes the log of what a head may hold, also if a crash left it
+/// while a request was answered, or while it was opened.
+pub fn a_kept_log_is_admitted()
+    ensures kept { (limits : LabelLimits) (store : Store) (segments : Segments)
+        → SaysWhat segments store → MayHold limits (list_of store) → IsAdmitted limits segments }
+    ensures answering { (limits : LabelLimits) (old new : Store) (left : Segments)
+        → LiesBetween old new left → MayHold limits (list_of new) → IsAdmitted limits left }
+    ensures opening { (limits : LabelLimits) (segments left : Segments)
+        → HasSameEntries segments left → IsAdmitted limits segments → IsAdmitted limits left }
+{}

@@ -14,3 +14,4 @@ mod spelling;
 
 pub use kept_head::KeptHead;
 pub use open_error::OpenError;
+pub use opening::Opened;

@@ -14,9 +14,11 @@ use std::fmt;
 pub enum OpenError {
     /// The log cannot be opened.
     Log(ReopenError),
-    /// The log has an entry that no head with these limits writes: labels that are refused, a
-    /// sample out of order or a repeat, or a reference from 2^63 on.
+    /// The log has samples that no head with these limits holds: their labels are refused, or their
+    /// timestamps do not rise.
     Foreign,
+    /// The log has a reference from 2^63 on, so there may be none left after it.
+    NoReferenceLeft,
 }
 
 impl From<ReopenError> for OpenError {
@@ -40,6 +42,7 @@ impl fmt::Display for OpenError {
         match self {
             OpenError::Log(error) => write!(f, "{error}"),
             OpenError::Foreign => f.write_str("the log has an entry that this head does not take"),
+            OpenError::NoReferenceLeft => f.write_str("the log has a reference from 2^63 on"),
         }
     }
 }

@@ -1,11 +1,14 @@
 //! A head, opened from the log in a journal.
 
-ghost use Rattle.std.specs.Prelude.{◌≡◌, ◌<◌, ◌≤◌, ◌^◌, None, IfOk, IfErr, IsErrOf};
-ghost use Rattle.rw_journal.specs.Journal.{Only, LeavesOnly};
+ghost use Rattle.std.specs.Prelude.{◌≡◌, ◌<◌, ◌≤◌, ◌^◌, ◌++◌, [], ◌∷◌, length, take, None, IfOk, IfErr, IsErrOf};
+ghost use Rattle.rw_journal.specs.Journal.{on_last, Only, LeavesOnly};
 ghost use Rattle.rw_wal_append.specs.Ends.{EndsAt};
+ghost use Rattle.rw_reopen.specs.Reopening.{IsEnd};
 ghost use Rattle.rw_reopen.specs.declared.error.ReopenError.TheVariants.{Failed};
 ghost use Rattle.rw_kept_head.specs.Kept.{SaysWhat, IsKept};
-ghost use Rattle.rw_kept_head.specs.Opening.{HasSameEntries, IsRefusedRightly};
+ghost use Rattle.rw_head.specs.Store.{list_of};
+ghost use Rattle.rw_kept_head.specs.Admitted.{MayHold, label_limits};
+ghost use Rattle.rw_kept_head.specs.Opening.{HasCause, HasSameEntries, IsRefusedRightly};
 ghost use Rattle.rw_kept_head.specs.declared.open_error.OpenError.TheVariants.{Log};
 
 use crate::kept_head::KeptHead;
@@ -14,7 +17,7 @@ use crate::open_error::OpenError;
 use crate::restoring::Restoring;
 use rw_head::{Head, Limits};
 use rw_journal::{Journal, close_torn};
-use rw_reopen::{ReopenError, read_log};
+use rw_reopen::{LogEnd as ReadEnd, ReopenError, read_log};
 use rw_types::RequestPath;
 use rw_wal_append::laws::an_empty_segment_ends_at_0;
 use rw_wal_append::{LogEnd, References};
@@ -24,21 +27,28 @@ use std::alloc::{AllocError, Global};
 const MAX_REFERENCE: u64 = 1 << 63;
 
 /// Reads a log, closes what a crash left of a write, and begins a next segment. Returns the head
-/// that the log says, and its first free reference.
+/// that the log says, and how the log ended.
 fn open_log<J: Journal>(
     alloc: Global,
     limits: &Limits,
     journal: &mut J,
-) -> Result<(Head, u64), OpenError>
+) -> Result<(Head, ReadEnd), OpenError>
     requires synced { Only (J.seen journal.old) (J.may_leave journal.old) }
     ensures says { IfOk result (λ r. SaysWhat (J.seen journal.old) r.0.store) }
     ensures says_still { IfOk result (λ r. SaysWhat (J.seen journal.new) r.0.store) }
-    ensures free { IfOk result (λ r. r.1 ≤ 2 ^ 63) }
+    ensures limits { IfOk result (λ r. r.0.limits ≡ label_limits limits.now) }
+    ensures busy { IfOk result (λ r. r.0.busy ≡ limits.now.busy_first) }
+    ensures holds { IfOk result (λ r. MayHold r.0.limits (list_of r.0.store)) }
+    ensures free { IfOk result (λ r. r.1.greatest < 2 ^ 63) }
+    ensures end { IfOk result (λ r. IsEnd (J.seen journal.old) r.1) }
+    ensures segments { IfOk result (λ r. J.seen journal.new
+        ≡ on_last (take r.1.whole) (J.seen journal.old) ++ [] ∷ []) }
     ensures ends { IfOk result (λ r. EndsAt (J.seen journal.new) 0) }
     ensures synced { IfOk result (λ r. Only (J.seen journal.new) (J.may_leave journal.new)) }
     ensures any_moment { LeavesOnly J.moment J.left_since journal.old journal.new
         (HasSameEntries (J.seen journal.old)) }
     ensures refused { IfErr result (IsRefusedRightly (J.seen journal.old) (J.seen journal.new)) }
+    ensures cause { IfErr result (HasCause (label_limits limits.now) (J.seen journal.old)) }
     ensures failed { IsErrOf result (Log Failed) → J.faults journal.old < J.faults journal.new }
 {
     an_empty_segment_ends_at_0();
@@ -48,10 +58,10 @@ fn open_log<J: Journal>(
         return Err(OpenError::Foreign);
     };
     if end.greatest >= MAX_REFERENCE {
-        return Err(OpenError::Foreign);
+        return Err(OpenError::NoReferenceLeft);
     }
     close_torn(journal, end.whole)?;
-    Ok((head, end.greatest + 1))
+    Ok((head, end))
 }
 
 /// Returns limits that make the same heads as these.
@@ -66,6 +76,16 @@ fn limits_of(alloc: Global, limits: &Limits) -> Result<Limits, AllocError> {
     })
 }
 
+/// A head that was opened, and what was read of its log.
+#[derive(Drop)]
+pub struct Opened<J: Journal> {
+    pub kept: KeptHead<J>,
+    /// How many segments were read.
+    pub segments: usize,
+    /// How the log ended: what a crash had left of a write, which was cut off, and where.
+    pub end: ReadEnd,
+}
+
 impl<J: Journal> KeptHead<J> {
     /// Opens a journal with the log of a head: reads the log, makes the head that it says, cuts off
     /// what a crash left of a write, and begins a next segment. A segment has at most `pages` pages
@@ -78,41 +98,55 @@ impl<J: Journal> KeptHead<J> {
         limits: &Limits,
         journal: J,
         pages: usize,
-    ) -> Result<KeptHead<J>, (OpenError, J)>
+    ) -> Result<Opened<J>, (OpenError, J)>
         // After a restart, what is read is what is on the disk.
         requires synced { Only (J.seen journal) (J.may_leave journal) }
         requires some { 1 ≤ pages }
         requires most { pages ≤ 4096 }
 
         // The head has what the log had, and the log still has it.
-        ensures says { IfOk result (λ k. SaysWhat (J.seen journal) k.head.store) }
-        ensures kept { IfOk result (λ k. IsKept (J.may_leave k.journal) (J.seen k.journal)
-            k.head.store) }
-        ensures open { IfOk result (λ k. k.fault ≡ None) }
+        ensures says { IfOk result (λ o. SaysWhat (J.seen journal) o.kept.head.store) }
+        ensures kept { IfOk result (λ o. IsKept (J.may_leave o.kept.journal)
+            (J.seen o.kept.journal) o.kept.head.store) }
+        ensures open { IfOk result (λ o. o.kept.fault ≡ None) }
+
+        // The head has the limits that it was given, and holds what a head with them may hold.
+        ensures limits { IfOk result (λ o. o.kept.head.limits ≡ label_limits limits.now) }
+        ensures busy { IfOk result (λ o. o.kept.head.busy ≡ limits.now.busy_first) }
+        ensures holds { IfOk result (λ o. MayHold o.kept.head.limits (list_of o.kept.head.store)) }
+
+        // What is reported: how many segments there were, and what was cut off.
+        ensures count { IfOk result (λ o. o.segments ≡ length (J.seen journal)) }
+        ensures end { IfOk result (λ o. IsEnd (J.seen journal) o.end) }
+        ensures segments { IfOk result (λ o. J.seen o.kept.journal
+            ≡ on_last (take o.end.whole) (J.seen journal) ++ [] ∷ []) }
 
         // A crash at any moment leaves a log with the same entries, also if it is not opened.
-        ensures any_moment { IfOk result (λ k. LeavesOnly J.moment J.left_since journal k.journal
-            (HasSameEntries (J.seen journal))) }
+        ensures any_moment { IfOk result (λ o. LeavesOnly J.moment J.left_since journal
+            o.kept.journal (HasSameEntries (J.seen journal))) }
         ensures any_moment_before_an_error { IfErr result (λ e. LeavesOnly J.moment J.left_since
             journal e.1 (HasSameEntries (J.seen journal))) }
 
-        // A log that is refused is as it was, and a fault of the journal has a cause.
+        // A log that is refused is as it was, and has the cause that the error says.
         ensures refused { IfErr result
             (λ e. IsRefusedRightly (J.seen journal) (J.seen e.1) e.0) }
+        ensures cause { IfErr result
+            (λ e. HasCause (label_limits limits.now) (J.seen journal) e.0) }
         ensures failed { IfErr result
             (λ e. e.0 ≡ Log Failed → J.faults journal < J.faults e.1) }
     {
         let mut journal = journal;
+        let segments = journal.count();
         let own = match limits_of(alloc, limits) {
             Ok(own) => own,
             Err(_) => return Err((OpenError::Log(ReopenError::OutOfMemory), journal)),
         };
         match open_log(alloc, limits, &mut journal) {
-            Ok((head, first)) => {
+            Ok((head, end)) => {
                 let log = LogWriter {
                     alloc,
                     journal,
-                    references: References::new(alloc, first),
+                    references: References::new(alloc, end.greatest + 1),
                     end: LogEnd::new(pages),
                     pages,
                     fault: None,
@@ -124,7 +158,11 @@ impl<J: Journal> KeptHead<J> {
                     log,
                 };
                 let _kept = kept.fault();
-                Ok(kept)
+                Ok(Opened {
+                    kept,
+                    segments,
+                    end,
+                })
             }
             Err(error) => Err((error, journal)),
         }

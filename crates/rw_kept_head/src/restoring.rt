@@ -1,12 +1,14 @@
 //! The head that a log says.
 
-ghost use Rattle.std.specs.Prelude.{◌≡◌, ◌∷◌, ◌++◌, [], List, true, nat_eq, map, IfOk, OnOk, IfSome};
+ghost use Rattle.std.specs.Prelude.{◌≡◌, ◌≢◌, ◌∷◌, ◌++◌, [], List, true, false, not, ◌||◌, nat_eq, map, IfOk, OnOk, IfSome, None};
 ghost use Rattle.std.specs.HashMap.{get};
 ghost use Rattle.rw_types.specs.Labels.{Labels, text_label};
 ghost use Rattle.rw_types.specs.declared.entry.Entry.{Entry};
 ghost use Rattle.rw_wal_append.specs.Additions.{samples_in};
+ghost use Rattle.rw_head.specs.declared.verdict.Verdict.TheVariants.{Stored};
 ghost use Rattle.rw_head.specs.Store.{list_of};
-ghost use Rattle.rw_kept_head.specs.Restoring.{IsAdded, Defines, AddsSample, IsRestored};
+ghost use Rattle.rw_kept_head.specs.Admitted.{MayHold, label_limits};
+ghost use Rattle.rw_kept_head.specs.Restoring.{AddsOne, Defines, TakesSample, IsRestored, IsRestoredOrRefused, IsSeriesOf};
 
 use indexmap::IndexMap;
 use rw_head::{Head, Limits, Verdict};
@@ -29,11 +31,14 @@ fn copy_of(alloc: Global, labels: &[(String, String)]) -> Result<Vec<(String, St
 }
 
 /// Returns a series with these labels and no samples; `None` if they are not a label set.
-fn empty_series(alloc: Global, labels: &RawLabels) -> Result<Option<Series>, AllocError>
-    ensures { IfOk result (λ found. IfSome found (λ s. s
-        ≡ record { labels = labels.now; samples = [] })) }
+fn empty_series(
+    alloc: Global,
+    names: Names,
+    labels: &RawLabels,
+) -> Result<Option<Series>, AllocError>
+    ensures { IfOk result (IsSeriesOf names labels.now) }
 {
-    let set = match LabelSet::check_as(alloc, Names::Utf8, labels) {
+    let set = match LabelSet::check_as(alloc, names, labels) {
         Ok(set) => set,
         Err(LabelFault::OutOfMemory) => return Err(AllocError),
         Err(_) => return Ok(None),
@@ -55,63 +60,80 @@ fn set_sample(series: &mut Series, t: i64, word: Word) -> Result<(), AllocError>
     Ok(())
 }
 
-/// Appends the one sample of a message of one series to what a head holds, and returns whether it
-/// did. A sample that the head holds already, or refuses, is not appended.
-fn append_one(head: &mut Head, message: &Message) -> Result<bool, AllocError>
-    ensures { IfOk result (λ done. done ≡ true
-        → IsAdded head.old.store head.new.store message.now) }
+/// Returns whether a message of one sample was taken, and the sample is new.
+fn is_new(verdict: Verdict) -> bool
+    ensures one { result ≡ true → verdict ≡ Stored 1 }
+    ensures other { result ≡ false → verdict ≢ Stored 1 }
 {
-    match head.apply(message) {
-        Verdict::Stored(1) => Ok(true),
-        Verdict::NoMemory => Err(AllocError),
-        _ => Ok(false),
+    match verdict {
+        Verdict::Stored(count) => count == 1,
+        _ => false,
     }
 }
 
-/// Takes a definition, and returns whether it is one of a label set.
+/// Appends the one sample of a message of one series to what a head holds, and returns whether it
+/// did. A sample that the head holds already, or refuses, is not appended.
+fn append_one(head: &mut Head, message: &Message) -> Result<bool, AllocError>
+    ensures done { IfOk result
+        (AddsOne head.old.limits head.old.store head.new.store message.now) }
+    ensures held { OnOk result (MayHold head.old.limits (list_of head.old.store)
+        → MayHold head.old.limits (list_of head.new.store)) }
+    ensures limits { head.new.limits ≡ head.old.limits }
+    ensures busy { head.new.busy ≡ head.old.busy }
+{
+    match head.apply(message) {
+        Verdict::NoMemory => Err(AllocError),
+        verdict => Ok(is_new(verdict)),
+    }
+}
+
+/// Takes a definition. If its labels are not a label set, the head cannot hold samples of the
+/// reference.
 fn define(
     alloc: Global,
-    series: &mut IndexMap<u64, Series>,
+    names: Names,
+    series: &mut IndexMap<u64, Option<Series>>,
     reference: u64,
     labels: &RawLabels,
-) -> Result<bool, AllocError>
-    ensures { IfOk result (λ done. done ≡ true
-        → Defines (λ n. get nat_eq series.old n) (λ n. get nat_eq series.new n) reference
-        labels.now) }
+) -> Result<(), AllocError>
+    ensures { OnOk result (Defines names (λ n. get nat_eq series.old n)
+        (λ n. get nat_eq series.new n) reference labels.now) }
 {
-    match empty_series(alloc, labels)? {
-        Some(found) => {
-            series.insert(reference, found)?;
-            Ok(true)
-        }
-        None => Ok(false),
-    }
+    let found = empty_series(alloc, names, labels)?;
+    series.insert(reference, found)?;
+    Ok(())
 }
 
 /// Takes a sample, and returns whether the head appended it. One without a definition is passed
 /// over.
 fn add_sample(
     head: &mut Head,
-    series: &mut IndexMap<u64, Series>,
+    series: &mut IndexMap<u64, Option<Series>>,
     message: &mut Message,
     reference: u64,
     sample: (i64, Word),
 ) -> Result<bool, AllocError>
-    ensures { IfOk result (λ done. done ≡ true
-        → AddsSample head.old.store head.new.store (λ n. get nat_eq series.old n)
-        (λ n. get nat_eq series.new n) reference sample) }
+    ensures done { IfOk result (TakesSample head.old.limits head.old.store head.new.store
+        (λ n. get nat_eq series.old n) (λ n. get nat_eq series.new n) reference sample) }
+    ensures held { OnOk result (MayHold head.old.limits (list_of head.old.store)
+        → MayHold head.old.limits (list_of head.new.store)) }
+    ensures limits { head.new.limits ≡ head.old.limits }
+    ensures busy { head.new.busy ≡ head.old.busy }
 {
-    let Some(mut found) = series.swap_remove(&reference) else {
+    let Some(known) = series.swap_remove(&reference) else {
         return Ok(true);
+    };
+    let Some(mut found) = known else {
+        return Ok(false);
     };
     set_sample(&mut found, sample.0, sample.1)?;
     message.series.clear();
     message.series.push(found)?;
     let done = append_one(head, message)?;
     let Some(found) = message.series.pop() else {
-        return Ok(false);
+        return Err(AllocError);
     };
-    series.insert(reference, found)?;
+    series.insert(reference, Some(found))?;
     Ok(done)
 }
 
@@ -119,18 +141,25 @@ fn add_sample(
 fn take_entry(
     alloc: Global,
     head: &mut Head,
-    series: &mut IndexMap<u64, Series>,
+    names: Names,
+    series: &mut IndexMap<u64, Option<Series>>,
     message: &mut Message,
     entry: &Entry,
 ) -> Result<bool, AllocError>
-    ensures { IfOk result (λ done. done ≡ true → (taken : List Entry)
-        → IsRestored taken (λ n. get nat_eq series.old n) head.old.store
-        → IsRestored (taken ++ entry.now ∷ []) (λ n. get nat_eq series.new n) head.new.store) }
+    requires names { names ≡ head.old.limits.names }
+    ensures done { IfOk result (λ done. (taken : List Entry)
+        → IsRestored head.old.limits.names taken (λ n. get nat_eq series.old n) head.old.store
+        → IsRestoredOrRefused head.old.limits (taken ++ entry.now ∷ [])
+        (λ n. get nat_eq series.new n) head.new.store done) }
+    ensures held { OnOk result (MayHold head.old.limits (list_of head.old.store)
+        → MayHold head.old.limits (list_of head.new.store)) }
+    ensures limits { head.new.limits ≡ head.old.limits }
+    ensures busy { head.new.busy ≡ head.old.busy }
 {
     match entry {
         Entry::Def { reference, labels } => {
-            let done = define(alloc, series, *reference, labels)?;
-            Ok(done)
+            define(alloc, names, series, *reference, labels)?;
+            Ok(true)
         }
         Entry::Sample { reference, t, word } => {
             let done = add_sample(head, series, message, *reference, (*t, *word))?;
@@ -139,17 +168,27 @@ fn take_entry(
     }
 }
 
-/// Makes the head that a log says, as its entries come. Contracts see the entries, and what the
-/// head holds.
+/// Returns whether an entry was refused, with one more that was `done` or not.
+fn is_refused(before: bool, done: bool) -> bool
+    ensures { result ≡ (before || not done) }
+{
+    before || !done
+}
+
+/// Makes the head that a log says, as its entries come. Contracts see the entries, what the head
+/// holds, whether an entry was refused, and whether memory ran out.
 #[derive(Drop)]
 pub(crate) struct Restoring {
     alloc: Global,
     taken: History<Entry>,
     head: Head,
-    series: IndexMap<u64, Series>,
+    names: Names,
+    series: IndexMap<u64, Option<Series>>,
     message: Message,
     /// Whether there is an entry that no head like this one was given.
     refused: bool,
+    /// Whether memory ran out while an entry was taken.
+    failed: bool,
 }
 
 impl Model for Restoring {
@@ -157,7 +196,7 @@ impl Model for Restoring {
     ghost use Rattle.std.specs.Coded.{codes};
     ghost use Rattle.std.specs.FinMap as map;
     ghost use Rattle.std.specs.HashMap.{get};
-    ghost use Rattle.rw_kept_head.specs.Restoring.{Restored, IsRestored};
+    ghost use Rattle.rw_kept_head.specs.Restoring.{Restored, IsRestoring};
 
     ghost Value = { Restored };
 
@@ -167,61 +206,85 @@ impl Model for Restoring {
       taken = r.taken;
       head = r.head;
       refused = r.refused;
+      failed = r.failed;
     } };
 
-    ghost invariant = { λ r. r.refused ≡ false
-        → IsRestored r.taken (λ n. get nat_eq r.series n) r.head.store };
+    ghost invariant = { λ r. (r.names ≡ r.head.limits.names) × (r.failed ≡ false
+        → IsRestoring r.taken (λ n. get nat_eq r.series n) r.head r.refused) };
 }
 
 impl Restoring {
     /// Begins with a head without samples, with these limits.
     pub(crate) fn new(alloc: Global, limits: &Limits) -> Restoring
         ensures taken { result.taken ≡ [] }
+        ensures limits { result.head.limits ≡ label_limits limits.now }
+        ensures busy { result.head.busy ≡ limits.now.busy_first }
+        ensures whole { result.failed ≡ false }
     {
         Restoring {
             alloc,
             taken: History::new(),
             head: Head::new(alloc, limits),
+            names: limits.names,
             series: IndexMap::new(alloc),
             message: Message {
                 series: Vec::new(alloc),
             },
             refused: false,
+            failed: false,
         }
     }
 
     /// Returns the head, which holds what the entries say; `None` if one of them was refused.
     pub(crate) fn into_head(self) -> Option<Head>
-        ensures { IfSome result (λ h. (l : Labels)
+        requires whole { self.failed ≡ false }
+        ensures says { IfSome result (λ h. (l : Labels)
             → list_of h.store l ≡ samples_in self.taken l) }
+        ensures holds { IfSome result (λ h. MayHold h.limits (list_of h.store)) }
+        ensures same { IfSome result (λ h. h ≡ self.head) }
+        ensures refused { result ≡ None → MayHold self.head.limits (samples_in self.taken) → ⊥ }
     {
         let Restoring {
             alloc: _,
             taken: _,
             head,
+            names: _,
             series: _,
             message: _,
             refused,
+            failed: _,
         } = self;
         if refused { None } else { Some(head) }
     }
 }
 
 impl EntrySink for Restoring {
+    ghost use Rattle.rw_kept_head.specs.Restoring.{Setting};
+
     ghost taken = { λ r. r.taken };
 
+    ghost Fixed = { Setting };
+
+    ghost fixed = { λ r. record {
+      limits = r.head.limits;
+      busy = r.head.busy;
+      failed = r.failed;
+    } };
+
     fn take(&mut self, entry: Entry) -> Result<(), AllocError> {
-        let was_refused = self.refused;
-        self.refused = true;
+        let had_failed = self.failed;
+        self.failed = true;
         let done = take_entry(
             self.alloc,
             &mut self.head,
+            self.names,
             &mut self.series,
             &mut self.message,
             &entry,
         )?;
         self.taken.push(&entry);
-        self.refused = was_refused || !done;
+        self.refused = is_refused(self.refused, done);
+        self.failed = had_failed;
         Ok(())
     }
 }

@@ -12,9 +12,15 @@ pub trait EntrySink {
     /// The entries that were taken.
     ghost taken: { Self → List Entry };
 
+    /// What stays as it is while entries are taken, unless memory runs out.
+    ghost Fixed: { Type 0 };
+
+    ghost fixed: { Self → Self.Fixed };
+
     /// Takes the next entry.
     fn take(&mut self, entry: Entry) -> Result<(), AllocError>
-        ensures { OnOk result (taken self.new ≡ taken self.old ++ entry ∷ []) };
+        ensures taken { OnOk result (taken self.new ≡ taken self.old ++ entry ∷ []) }
+        ensures fixed { OnOk result (Self.fixed self.new ≡ Self.fixed self.old) };
 }
 
 /// Drops the entries that it takes. Only contracts see them.
@@ -25,6 +31,10 @@ pub(crate) struct Discard {
 
 impl EntrySink for Discard {
     ghost taken = { λ d. d.past };
+
+    ghost Fixed = { Unit {0} };
+
+    ghost fixed = { λ _. tt };
 
     fn take(&mut self, entry: Entry) -> Result<(), AllocError> {
         self.past.push(&entry);

@@ -57,6 +57,7 @@ fn read_earlier<J: Journal, S: EntrySink>(
         ≡ greatest_after greatest.old (entries_of page_size (take count (J.seen journal.old)))) }
     ensures whole { OnOk result
         (AllByRecursion (IsWhole page_size) (take count (J.seen journal.old))) }
+    ensures fixed { OnOk result (S.fixed sink.new ≡ S.fixed sink.old) }
     ensures journal { IsOnlyRead J.seen J.may_leave J.moment J.left_since J.faults journal.old
         journal.new }
     ensures failed { IsErrOf result ReopenError.Failed
@@ -85,6 +86,7 @@ fn read_last<J: Journal, S: EntrySink>(
     requires within { segment < length (J.seen journal.old) }
     ensures read { IfOk result (λ r. IsLast (get_or (J.seen journal.old) segment []) r.0
         r.1.items (S.taken sink.old) (S.taken sink.new) greatest.old greatest.new) }
+    ensures fixed { OnOk result (S.fixed sink.new ≡ S.fixed sink.old) }
     ensures journal { IsOnlyRead J.seen J.may_leave J.moment J.left_since J.faults journal.old
         journal.new }
     ensures failed { IsErrOf result ReopenError.Failed
@@ -117,6 +119,7 @@ pub fn read_log<J: Journal, S: EntrySink>(
         ≡ S.taken sink.old ++ entries_of page_size (J.seen journal.old)) }
     ensures end { IfOk result (IsEnd (J.seen journal.old)) }
     ensures whole { OnOk result (AllBefore (IsWhole page_size) (J.seen journal.old)) }
+    ensures fixed { OnOk result (S.fixed sink.new ≡ S.fixed sink.old) }
 
     // Nothing is changed, at any moment.
     ensures journal { IsOnlyRead J.seen J.may_leave J.moment J.left_since J.faults journal.old
@@ -157,6 +160,7 @@ pub fn reopen<J: Journal, S: EntrySink>(
 
     ensures taken { OnOk result (S.taken sink.new
         ≡ S.taken sink.old ++ entries_of page_size (J.seen journal.old)) }
+    ensures fixed { OnOk result (S.fixed sink.new ≡ S.fixed sink.old) }
     ensures end { IfOk result (IsEnd (J.seen journal.old)) }
     ensures segments { IfOk result (λ end. J.seen journal.new
         ≡ on_last (take end.whole) (J.seen journal.old) ++ [] ∷ []) }

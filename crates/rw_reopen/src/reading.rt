@@ -76,9 +76,10 @@ fn take_all<S: EntrySink>(
     greatest: &mut u64,
 ) -> Result<Option<TailFault>, AllocError>
     requires { tail.old.given ≤ length (entries tail.old.pieces) }
-    ensures { IfOk result
+    ensures all { IfOk result
         (TakesAll tail.old tail.new (S.taken sink.old) (S.taken sink.new) greatest.old
         greatest.new) }
+    ensures fixed { OnOk result (S.fixed sink.new ≡ S.fixed sink.old) }
 {
     for _ in 0..u64::MAX {
         match read_next(tail)? {
@@ -100,8 +101,9 @@ fn feed_text<S: EntrySink>(
     greatest: &mut u64,
 ) -> Result<(), AllocError>
     requires { tail.old ≡ record { pieces = []; given = 0; skipped = []; fault = None } }
-    ensures { OnOk result
+    ensures fed { OnOk result
         (HasFed text.now tail.new (S.taken sink.old) (S.taken sink.new) greatest.old greatest.new) }
+    ensures fixed { OnOk result (S.fixed sink.new ≡ S.fixed sink.old) }
 {
     let mut rest = text;
     while !rest.is_empty() {
@@ -151,9 +153,10 @@ pub(crate) fn read_segment<S: EntrySink>(
     sink: &mut S,
     greatest: &mut u64,
 ) -> Result<SegmentRead, AllocError>
-    ensures { IfOk result
+    ensures read { IfOk result
         (λ read. ReadsSegment text.now read (S.taken sink.old) (S.taken sink.new) greatest.old
         greatest.new) }
+    ensures fixed { OnOk result (S.fixed sink.new ≡ S.fixed sink.old) }
 {
     let mut tail = Tail::new(alloc);
     feed_text(&mut tail, text, sink, greatest)?;

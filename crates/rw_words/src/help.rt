@@ -99,13 +99,18 @@ Example:
 
   rwship receive --listen 127.0.0.1:9090 --until-eof --stop-file stop --progress --metrics 127.0.0.1:9201 > held
 
+  rwship receive --listen 127.0.0.1:9090 --until-eof --stop-file stop --dir kept --quiet
+
 With --until-eof it serves any number of connections, at most 1000 at once, until standard input ends
 or, with --stop-file, until FILE exists. Requests that have begun are finished, unless the line 'hard'
 comes, on standard input or as the first line of FILE. If one more client comes, a few connections are
 closed that are silent for a second, or whose requests come slower than 1000 bytes a second. With
 --connections N it ends when N connections have ended; each attempt of a sender is one. What it holds
-is in memory only, and is printed at the end. docs/OPERATING.md explains more, and docs/SETTINGS.md the
-settings.
+is printed at the end.
 
-Exit status: 0; 2 for bad options or settings; 3 out of memory; 4 if a file, the network or standard
-output failed.";
+With --dir each request is written to the log in DIR and synced before it is acknowledged, and at its
+start the receiver holds what DIR has. DIR must exist, and may be empty. Without --dir what it holds is
+in memory only. docs/OPERATING.md explains more, and docs/SETTINGS.md the settings.
+
+Exit status: 0; 1 if the log in DIR has a fault; 2 for bad options or settings; 3 out of memory; 4 if a
+file, the folder DIR, the network or standard output failed.";

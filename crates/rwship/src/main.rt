@@ -6,6 +6,7 @@ mod engines;
 mod explaining;
 mod input;
 mod inspecting;
+mod keeping;
 mod receiving;
 mod reporting;
 mod sending;

@@ -1,6 +1,9 @@
 //! The command `receive`.
 
 use crate::ending::{point_to_explain, report_result, report_settings_fault};
+use crate::keeping::{
+    FolderHead, lock_folder, open_head, report_keep_error, report_kept, report_opened, serve_kept,
+};
 use crate::reporting::{begin_reporting, end_reporting, print_listen_error};
 use crate::settings::settings_in;
 use crate::stopping::stop_signal;
@@ -26,59 +29,38 @@ fn capacity_of(receiving: &Receiving<'_>) -> Capacity {
     }
 }
 
+/// Returns the bounds of a service, and its counters.
+fn service_of<'a>(receiving: &Receiving<'_>, counters: &'a ReceiveCounters) -> Service<'a> {
+    let most = match &receiving.until {
+        Until::Connections(most) => *most,
+        _ => Bounded::new(1_000),
+    };
+    Service {
+        most,
+        idle_ms: receiving.idle_ms,
+        request_ms: receiving.request_ms,
+        capacity: capacity_of(receiving),
+        counters,
+    }
+}
+
 /// Serves connections until a stop is requested, and prints what they left.
 fn serve_until<R: Threads + Wait + Clock + Sync>(
     rt: &HostRuntime,
     threads: &R,
     settings: &Settings,
     listener: TcpListener,
-    receiving: &Receiving<'_>,
+    service: Service<'_>,
     stop_file: Option<&str>,
-    counters: &ReceiveCounters,
 ) -> Result<(), ToolFault> {
     let signal = stop_signal(rt, threads, stop_file, None)?;
     let mut output = Std::new(rt.stdout());
-    let service = Service {
-        most: Bounded::new(1_000),
-        idle_ms: receiving.idle_ms,
-        request_ms: receiving.request_ms,
-        capacity: capacity_of(receiving),
-        counters,
-    };
     run_receive_until(
         threads,
         rt.alloc(),
         settings,
         service,
         &signal,
-        listener,
-        &mut output,
-    )
-}
-
-/// Serves `most` connections, and prints what they left.
-fn serve_some<R: Threads + Wait + Clock + Sync>(
-    rt: &HostRuntime,
-    threads: &R,
-    settings: &Settings,
-    listener: TcpListener,
-    receiving: &Receiving<'_>,
-    most: Bounded<1, 1_000>,
-    counters: &ReceiveCounters,
-) -> Result<(), ToolFault> {
-    let mut output = Std::new(rt.stdout());
-    let service = Service {
-        most,
-        idle_ms: receiving.idle_ms,
-        request_ms: receiving.request_ms,
-        capacity: capacity_of(receiving),
-        counters,
-    };
-    run_receive(
-        threads,
-        rt.alloc(),
-        settings,
-        service,
         listener,
         &mut output,
     )
@@ -93,16 +75,23 @@ fn serve<R: Threads + Wait + Clock + Sync>(
     receiving: &Receiving<'_>,
     counters: &ReceiveCounters,
 ) -> Result<(), ToolFault> {
+    let service = service_of(receiving, counters);
     let stop_file = match &receiving.until {
-        Until::Connections(most) => {
-            return serve_some(rt, threads, settings, listener, receiving, *most, counters);
+        Until::Connections(_) => {
+            let mut output = Std::new(rt.stdout());
+            return run_receive(
+                threads,
+                rt.alloc(),
+                settings,
+                service,
+                listener,
+                &mut output,
+            );
         }
         Until::InputEnds => None,
         Until::FileIs(path) => Some(*path),
     };
-    serve_until(
-        rt, threads, settings, listener, receiving, stop_file, counters,
-    )
+    serve_until(rt, threads, settings, listener, service, stop_file)
 }
 
 /// Returns counters that have counted nothing.
@@ -141,6 +130,56 @@ fn serve_and_report<R: Threads + Wait + Clock + Sync>(
     outcome
 }
 
+/// Serves connections over a head whose log is in a folder, and reports how that goes as far as it
+/// is asked for.
+fn keep<R: Threads + Wait + Clock + Sync>(
+    rt: &HostRuntime,
+    threads: &R,
+    settings: &Settings,
+    listener: TcpListener,
+    receiving: &Receiving<'_>,
+    head: FolderHead,
+) -> Result<FolderHead, ToolFault> {
+    let counters = reported_counters(rt, threads, receiving)?;
+    let service = service_of(receiving, &counters);
+    let outcome = serve_kept(
+        rt,
+        threads,
+        &settings.limits,
+        service,
+        listener,
+        receiving,
+        head,
+    );
+    end_reporting(rt, &receiving.reporting, &Counters::Receive(counters));
+    outcome
+}
+
+/// Opens the log in a folder, and serves connections over it.
+fn receive_into<R: Threads + Wait + Clock + Sync>(
+    rt: &HostRuntime,
+    threads: &R,
+    settings: &Settings,
+    listener: TcpListener,
+    receiving: &Receiving<'_>,
+    dir: &str,
+) -> ExitCode {
+    let lock = match lock_folder(rt, dir) {
+        Ok(lock) => lock,
+        Err(error) => return report_keep_error(rt, dir, error),
+    };
+    let status = match open_head(rt, &settings.limits, dir) {
+        Ok(head) => {
+            report_opened(rt, dir, &head, receiving);
+            let outcome = keep(rt, threads, settings, listener, receiving, head);
+            report_kept(rt, dir, outcome)
+        }
+        Err(error) => report_keep_error(rt, dir, error),
+    };
+    drop(lock);
+    status
+}
+
 /// Serves connections by settings, at an address.
 fn receive_by<R: Threads + Wait + Clock + Sync>(
     rt: &HostRuntime,
@@ -150,11 +189,8 @@ fn receive_by<R: Threads + Wait + Clock + Sync>(
     is_explained: bool,
 ) -> ExitCode {
     let listen = receiving.listen;
-    match TcpListener::bind(rt, (listen.name(), listen.port)) {
-        Ok(listener) => {
-            let outcome = serve_and_report(rt, threads, settings, listener, receiving);
-            report_result(rt, outcome)
-        }
+    let listener = match TcpListener::bind(rt, (listen.name(), listen.port)) {
+        Ok(listener) => listener,
         Err(error) => {
             let status = report_result(rt, Err(ToolFault::Device));
             if is_explained {
@@ -162,7 +198,14 @@ fn receive_by<R: Threads + Wait + Clock + Sync>(
             } else {
                 point_to_explain(rt);
             }
-            status
+            return status;
+        }
+    };
+    match receiving.dir {
+        Some(dir) => receive_into(rt, threads, settings, listener, receiving, dir),
+        None => {
+            let outcome = serve_and_report(rt, threads, settings, listener, receiving);
+            report_result(rt, outcome)
         }
     }
 }

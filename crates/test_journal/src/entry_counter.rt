@@ -34,6 +34,10 @@ impl Counter {
 impl EntrySink for Counter {
     ghost taken = { λ c. c.past };
 
+    ghost Fixed = { Unit {0} };
+
+    ghost fixed = { λ _. tt };
+
     fn take(&mut self, entry: Entry) -> Result<(), AllocError> {
         self.past.push(&entry);
         self.count = self.count.wrapping_add(1);

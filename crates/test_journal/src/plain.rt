@@ -1,6 +1,8 @@
 //! Samples as plain lists, the bodies that bring them, and whether a head holds them.
 
-use rw_head::Head;
+use rw_head::{Capacity, Head};
+use rw_journal::MemoryJournal;
+use rw_kept_head::KeptHead;
 use rw_types::{LabelFault, LabelSet, Names, Word};
 use rw_write_request::{Message, Series, encode};
 use std::alloc::{AllocError, Global};
@@ -79,4 +81,9 @@ pub(crate) fn holds_part(alloc: Global, head: &Head, all: &[Sample], least: usiz
         }
     }
     true
+}
+
+/// Returns the status with which a head without limits on its size answers a body.
+pub(crate) fn answer(kept: &mut KeptHead<MemoryJournal>, body: &[u8]) -> u16 {
+    kept.admit(body, &Capacity::unlimited()).status()
 }

@@ -1,6 +1,6 @@
 //! Schedules of requests, each of which is crashed at each byte that it writes.
 
-use crate::plain::{Sample, body_of, holds_part};
+use crate::plain::{Sample, answer, body_of, holds_part};
 use crate::segments::{PAGE, texts_of, torn_at};
 use rw_head::Limits;
 use rw_journal::{Journal, JournalError, MemoryJournal};
@@ -131,13 +131,14 @@ fn reopen(
 ) -> Result<(), Wrong> {
     let limits = Limits::standard(alloc)?;
     journal.sync()?;
-    let Ok(mut kept) = KeptHead::open(alloc, &limits, journal, 4096) else {
+    let Ok(opened) = KeptHead::open(alloc, &limits, journal, 4096) else {
         return Err(Wrong::NotOpened);
     };
+    let mut kept = opened.kept;
     if !holds_part(alloc, kept.head(), &request.after, least) {
         return Err(Wrong::HeldAfterCrash);
     }
-    if kept.answer(&request.body) != request.status {
+    if answer(&mut kept, &request.body) != request.status {
         return Err(Wrong::Status);
     }
     if !holds_part(alloc, kept.head(), &request.after, request.after.len()) {
@@ -180,10 +181,11 @@ fn play(alloc: Global, seed: u64) -> Result<(), Wrong> {
     for _ in 0..5 {
         let request = request_after(alloc, &mut seed, &all, &mut clock)?;
         journal.sync()?;
-        let Ok(mut kept) = KeptHead::open(alloc, &limits, journal, 4096) else {
+        let Ok(opened) = KeptHead::open(alloc, &limits, journal, 4096) else {
             return Err(Wrong::NotOpened);
         };
-        if kept.answer(&request.body) != request.status {
+        let mut kept = opened.kept;
+        if answer(&mut kept, &request.body) != request.status {
             return Err(Wrong::Status);
         }
         if !holds_part(alloc, kept.head(), &request.after, request.after.len()) {

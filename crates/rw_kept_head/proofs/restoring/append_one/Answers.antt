@@ -1,9 +1,18 @@
-use Rattle.std.proofs.Common.{◌≡◌, rules, sym, ap, ◌∙◌}
-use Rattle.rw_head.specs.declared.verdict.Verdict.TheVariants.{Stored}
-use Rattle.rw_kept_head.proofs.RestoringLemmas.{one_added}
+use Rattle.std.proofs.Common.{◌≢◌, rules, sym, subst}
+use Rattle.rw_head.specs.declared.verdict.Verdict.TheVariants.{NoMemory}
+use Rattle.rw_head.specs.Store.{Store, list_of}
+use Rattle.rw_kept_head.specs.Admitted.{MayHold}
+use Rattle.rw_kept_head.proofs.AdmittedLemmas.{applied_held}
+use Rattle.rw_kept_head.proofs.RestoringLemmas.{one_judged}
 use Rattle.rw_kept_head.proofs.restoring.append_one.Goals as goal
 
-pub returns-in-Stored-eq1 : goal.returns-in-Stored-eq1
-returns-in-Stored-eq1 c =
-    let one : c.in-Stored-eq1.field-0 ≡ 1 = search rules in
-    λ _. one_added c.args.head.now.limits c.args.head.now.store c.apply.new.self.store c.args.message.now (sym (c.in-Stored-eq1.ensures.verdict (λ e. cc)) ∙ ap Stored one) (c.in-Stored-eq1.ensures.store (λ e. cc))
+pub returns-in_default : goal.returns-in_default
+returns-in_default c =
+    let known : c.apply.result ≢ NoMemory = search rules in
+    let store = c.apply.ensures.store known in
+    record {
+      done = one_judged c.args.head.now.limits c.args.head.now.store c.apply.new.self.store c.args.message.now c.apply.result c.is_new.result (c.apply.ensures.verdict known) store c.is_new.ensures.one c.is_new.ensures.other;
+      held = λ may. subst (λ (s : Store). MayHold c.args.head.now.limits (list_of s)) (sym store) (applied_held c.args.head.now.limits c.args.head.now.store c.args.message.now may);
+      limits = c.apply.ensures.limits;
+      busy = c.apply.ensures.busy;
+    }

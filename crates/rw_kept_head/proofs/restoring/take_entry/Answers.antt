@@ -4,19 +4,21 @@ use Rattle.std.specs.HashMap.{get}
 use Rattle.std.specs.Prelude.{FitsSigned}
 use Rattle.rw_types.specs.declared.entry.Entry.{Entry}
 use Rattle.rw_types.specs.declared.entry.Entry.TheVariants.{Sample}
-use Rattle.rw_kept_head.specs.Restoring.{IsRestored}
-use Rattle.rw_kept_head.proofs.RestoringLemmas.{defined_next, sampled_next}
+use Rattle.rw_kept_head.specs.Restoring.{IsRestored, IsRestoredOrRefused}
+use Rattle.rw_kept_head.proofs.RestoringLemmas.{defined_under, sample_taken}
 use Rattle.rw_kept_head.proofs.restoring.take_entry.Goals as goal
 
-pub returns-in_ok-done-in-Def : goal.returns-in_ok-done-in-Def
-returns-in_ok-done-in-Def c = λ done taken restored.
-    subst (λ (e : Entry). IsRestored (taken ++ e ∷ []) (λ n. get nat_eq c.define.new.series n) c.args.head.now.store) (sym c.in-Def.is)
-    (defined_next taken (λ n. get nat_eq c.args.series.now n) (λ n. get nat_eq c.define.new.series n) c.args.head.now.store _ _ (c.in_ok-done-in-Def.ensures done) restored)
+pub returns-in_ok-define-in-Def-clause-done : goal.returns-in_ok-define-in-Def-clause-done
+returns-in_ok-define-in-Def-clause-done c = λ taken restored.
+    subst (λ (e : Entry). IsRestored c.args.head.now.limits.names (taken ++ e ∷ []) (λ n. get nat_eq c.define.new.series n) c.args.head.now.store) (sym c.in-Def.is)
+    (defined_under c.args.names c.args.head.now.limits.names c.requires.names taken (λ n. get nat_eq c.args.series.now n) (λ n. get nat_eq c.define.new.series n) c.args.head.now.store _ _ c.in_ok-define-in-Def.ensures restored)
 
-pub returns-in_ok-done-in-Sample : goal.returns-in_ok-done-in-Sample
-returns-in_ok-done-in-Sample c =
+pub returns-in_ok-done-in-Sample-clause-done : goal.returns-in_ok-done-in-Sample-clause-done
+returns-in_ok-done-in-Sample-clause-done c =
     let fits : FitsSigned w64 c.in-Sample.t = search rules in
-    λ done taken restored.
-    subst (λ (e : Entry). IsRestored (taken ++ e ∷ []) (λ n. get nat_eq c.add_sample.new.series n) c.add_sample.new.head.store) (sym c.in-Sample.is)
-    (subst (λ (z : ℤ). IsRestored (taken ++ Sample c.in-Sample.reference z c.in-Sample.word ∷ []) (λ n. get nat_eq c.add_sample.new.series n) c.add_sample.new.head.store) (to_z-of_z w64 c.in-Sample.t fits)
-    (sampled_next taken (λ n. get nat_eq c.args.series.now n) (λ n. get nat_eq c.add_sample.new.series n) c.args.head.now.store c.add_sample.new.head.store _ _ _ (c.in_ok-done-in-Sample.ensures done) restored))
+    λ taken restored.
+    subst (λ (e : Entry). IsRestoredOrRefused c.args.head.now.limits (taken ++ e ∷ []) (λ n. get nat_eq c.add_sample.new.series n) c.add_sample.new.head.store c.in_ok-done-in-Sample.done) (sym c.in-Sample.is)
+    (subst
+    (λ (z : ℤ). IsRestoredOrRefused c.args.head.now.limits (taken ++ Sample c.in-Sample.reference z c.in-Sample.word ∷ []) (λ n. get nat_eq c.add_sample.new.series n) c.add_sample.new.head.store c.in_ok-done-in-Sample.done)
+    (to_z-of_z w64 c.in-Sample.t fits)
+    (sample_taken c.args.head.now.limits taken (λ n. get nat_eq c.args.series.now n) (λ n. get nat_eq c.add_sample.new.series n) c.args.head.now.store c.add_sample.new.head.store _ _ _ c.in_ok-done-in-Sample.done c.in_ok-done-in-Sample.ensures.done restored))

@@ -1,9 +1,12 @@
-use Rattle.std.proofs.Common.{length}
+use Rattle.std.proofs.Common.{◌≡◌, length}
 use Rattle.rw_reopen.proofs.ReadingLemmas.{FedSome}
 use Rattle.rw_reopen.proofs.reading.feed_text.Given as goal
 
 abbrev pub invariant-loop-rest : goal.invariant-loop-rest
-invariant-loop-rest g l = FedSome l.text l.rest l.tail (g.S.EntrySink.taken l.fn.sink) (g.S.EntrySink.taken l.sink) l.fn.greatest l.greatest
+invariant-loop-rest g l = record {
+  some : FedSome l.text l.rest l.tail (g.S.EntrySink.taken l.fn.sink) (g.S.EntrySink.taken l.sink) l.fn.greatest l.greatest;
+  fixed : g.S.EntrySink.fixed l.sink ≡ g.S.EntrySink.fixed l.fn.sink;
+}
 
 abbrev pub decreases-loop-rest : goal.decreases-loop-rest
 decreases-loop-rest g l = length l.rest

@@ -1,0 +1,26 @@
+-- What a head with given limits may hold, and the logs that it takes.
+use Rattle.std.specs.Prelude.{◌≡◌, List, true, None}
+use Rattle.rw_types.specs.Labels.{Labels}
+use Rattle.rw_types.specs.Rising.{Rises}
+use Rattle.rw_wal_format.specs.Pieces.{page_size}
+use Rattle.rw_head.specs.declared.limits.Limits.{Limits}
+use Rattle.rw_head.specs.Lists.{IsEarlier, has_samples}
+use Rattle.rw_head.specs.Order.{Point}
+use Rattle.rw_head.specs.Verdicts.{LabelLimits, refusal}
+use Rattle.rw_journal.specs.Journal.{Segments}
+use Rattle.rw_journal.specs.Logs.{entries_of}
+use Rattle.rw_wal_append.specs.Additions.{samples_in}
+
+-- the limits on label sets
+abbrev pub label_limits : Limits → LabelLimits
+label_limits limits = record { names = limits.names; max_labels = limits.max_labels; max_label_bytes = limits.max_label_bytes }
+
+-- A head with these limits may hold these samples of each label set: their timestamps rise, and no
+-- label set that has samples is refused.
+pub record MayHold (limits : LabelLimits) (lists : Labels → List Point) : Type 0 where
+  pub rises : (l : Labels) → Rises IsEarlier (lists l)
+  pub within : (l : Labels) → has_samples (lists l) ≡ true → refusal limits l ≡ None
+
+-- a head with these limits may hold the samples of this log
+abbrev pub IsAdmitted : LabelLimits → Segments → Type 0
+IsAdmitted limits segments = MayHold limits (samples_in (entries_of page_size segments))

@@ -1,0 +1,170 @@
+//! The command `receive` with a folder in which it keeps what it takes.
+
+use crate::ending::report_result;
+use crate::reporting::is_watched;
+use crate::stopping::stop_signal;
+use rw_head::Limits;
+use rw_kept_folder::{FolderError, FolderFault, FolderJournal, OpenFolder, open_folder};
+use rw_kept_head::{KeptHead, OpenError};
+use rw_receive::{FinalHead, Service, serve_connections, serve_until_stop};
+use rw_reopen::ReopenError;
+use rw_text::ToolFault;
+use rw_types::Std;
+use rw_words::{Receiving, Until};
+use std::fs;
+use std::fs::{File, TryLockError};
+use std::io::Error;
+use std::net::TcpListener;
+use std::process::ExitCode;
+use std::sync::Wait;
+use std::thread::Threads;
+use std::time::Clock;
+
+/// A head whose log is in the files of a folder.
+pub type FolderHead = KeptHead<FolderJournal<OpenFolder<HostRuntime>>>;
+
+/// The most pages of a segment: 128 MiB, as a segment of Prometheus has.
+const PAGES: usize = 4096;
+
+/// Why the log in a folder cannot be opened.
+pub enum KeepError {
+    /// Another receiver keeps samples there.
+    InUse,
+    /// The folder cannot be locked.
+    Unlocked(Error),
+    Folder(FolderError),
+    Log(OpenError, Option<FolderFault>),
+}
+
+/// Locks a folder until the file is dropped, so that no second receiver writes there.
+pub fn lock_folder(rt: &HostRuntime, dir: &str) -> Result<File, KeepError> {
+    let folder = match fs::open(rt, dir) {
+        Ok(folder) => folder,
+        Err(error) => return Err(KeepError::Unlocked(error)),
+    };
+    match folder.try_lock() {
+        Ok(()) => Ok(folder),
+        Err(TryLockError::WouldBlock) => Err(KeepError::InUse),
+        Err(TryLockError::Error(error)) => Err(KeepError::Unlocked(error)),
+    }
+}
+
+/// Opens the log in a folder.
+pub fn open_head(rt: &HostRuntime, limits: &Limits, dir: &str) -> Result<FolderHead, KeepError> {
+    let journal = match open_folder(rt, dir) {
+        Ok(journal) => journal,
+        Err(error) => return Err(KeepError::Folder(error)),
+    };
+    match KeptHead::open(rt.alloc(), limits, journal, PAGES) {
+        Ok(head) => Ok(head),
+        Err((error, journal)) => Err(KeepError::Log(error, journal.files().fault())),
+    }
+}
+
+/// Returns the fault that stands for an error in the exit status.
+fn fault_of(error: &KeepError) -> ToolFault {
+    match error {
+        KeepError::Folder(FolderError::OutOfMemory)
+        | KeepError::Log(OpenError::Log(ReopenError::OutOfMemory), _) => ToolFault::OutOfMemory,
+        KeepError::Log(OpenError::Log(ReopenError::Damaged(damage)), _) => {
+            ToolFault::from(damage.fault)
+        }
+        _ => ToolFault::Device,
+    }
+}
+
+/// Reports why the log in a folder cannot be opened, and returns the exit status.
+pub fn report_keep_error(rt: &HostRuntime, dir: &str, error: KeepError) -> ExitCode {
+    let status = report_result(rt, Err(fault_of(&error)));
+    let _ = match error {
+        KeepError::InUse => eprintln!(rt; "  another receiver keeps samples in {dir}"),
+        KeepError::Unlocked(error) => eprintln!(rt; "  cannot lock the folder {dir}: {error}"),
+        KeepError::Folder(error) => eprintln!(rt; "  cannot keep samples in {dir}: {error}"),
+        KeepError::Log(_, Some(fault)) => eprintln!(rt; "  cannot keep samples in {dir}: {fault}"),
+        KeepError::Log(error, None) => eprintln!(rt; "  cannot keep samples in {dir}: {error}"),
+    };
+    status
+}
+
+/// Reports what a folder holds, if somebody may read that.
+pub fn report_opened(rt: &HostRuntime, dir: &str, head: &FolderHead, receiving: &Receiving<'_>) {
+    if is_watched(rt, &receiving.reporting) {
+        let (samples, series) = (head.head().total(), head.head().places());
+        let _ = eprintln!(rt; "rwship: {dir} holds {samples} samples of {series} series");
+    }
+}
+
+/// Serves connections for as long as asked for, over a head whose log is in a folder.
+fn serve_head<R: Threads + Wait + Clock + Sync>(
+    rt: &HostRuntime,
+    threads: &R,
+    limits: &Limits,
+    service: Service<'_>,
+    listener: TcpListener,
+    until: &Until<'_>,
+    head: FolderHead,
+) -> Result<FinalHead<FolderHead>, ToolFault> {
+    let stop_file = match until {
+        Until::Connections(_) => {
+            return serve_connections(threads, rt.alloc(), limits, service, listener, head);
+        }
+        Until::InputEnds => None,
+        Until::FileIs(path) => Some(*path),
+    };
+    let signal = stop_signal(rt, threads, stop_file, None)?;
+    serve_until_stop(
+        threads,
+        rt.alloc(),
+        limits,
+        service,
+        &signal,
+        listener,
+        head,
+    )
+}
+
+/// Serves connections over a head whose log is in a folder, and prints what it then holds if that
+/// is wanted. Returns the head.
+pub fn serve_kept<R: Threads + Wait + Clock + Sync>(
+    rt: &HostRuntime,
+    threads: &R,
+    limits: &Limits,
+    service: Service<'_>,
+    listener: TcpListener,
+    receiving: &Receiving<'_>,
+    head: FolderHead,
+) -> Result<FolderHead, ToolFault> {
+    let served = serve_head(
+        rt,
+        threads,
+        limits,
+        service,
+        listener,
+        &receiving.until,
+        head,
+    )?;
+    if !receiving.is_quiet {
+        served.print(rt.alloc(), &mut Std::new(rt.stdout()))?;
+    }
+    Ok(served.into_holder())
+}
+
+/// Reports how keeping ended, and returns the exit status.
+pub fn report_kept(
+    rt: &HostRuntime,
+    dir: &str,
+    outcome: Result<FolderHead, ToolFault>,
+) -> ExitCode {
+    let head = match outcome {
+        Ok(head) => head,
+        Err(fault) => return report_result(rt, Err(fault)),
+    };
+    if head.fault().is_none() {
+        return ExitCode::SUCCESS;
+    }
+    let status = report_result(rt, Err(ToolFault::Device));
+    if let Some(fault) = head.journal().files().fault() {
+        let _ = eprintln!(rt; "  cannot keep samples in {dir}: {fault}");
+    }
+    status
+}
