@@ -71,9 +71,9 @@ impl<R: Files<File = File>> Open for SegmentFile<R> {
 
 /// The name of a segment's file, and its number.
 #[derive(Drop)]
-pub(crate) struct SegmentName {
-    pub(crate) number: u64,
-    pub(crate) name: String,
+pub struct SegmentName {
+    pub number: u64,
+    pub name: String,
 }
 
 /// Returns the number of a segment by the name of its file, or `None` if the name is not that of a
@@ -103,18 +103,17 @@ pub(crate) fn fault_of(error: &io::Error) -> ToolFault {
     }
 }
 
-/// Returns the names of a folder's segments, in order.
-pub(crate) fn names_in<R: Files + AllocGlobal + Copy>(
+/// Returns the names of a folder's segments, in order: those of one to eight decimal digits, by
+/// number, and of two names of one number the shorter first. Other names are skipped. An `Err` says
+/// why the folder cannot be read.
+pub fn segment_names<R: Files + AllocGlobal + Copy>(
     rt: &R,
     dir: &str,
-) -> Result<Vec<SegmentName>, ToolFault>
+) -> io::Result<Vec<SegmentName>>
     ensures { IfOk result (λ names. IsSortedBy comes_before names.items) }
 {
     let alloc = rt.alloc();
-    let entries = match fs::read_dir(rt, dir) {
-        Ok(entries) => entries,
-        Err(error) => return Err(fault_of(&error)),
-    };
+    let entries = fs::read_dir(rt, dir)?;
     let mut names = Vec::new(alloc);
     for entry in entries {
         match entry {
@@ -122,18 +121,29 @@ pub(crate) fn names_in<R: Files + AllocGlobal + Copy>(
                 let name = entry.file_name();
                 if let Some(number) = number_of(name) {
                     let name = String::from_str(alloc, name)?;
-                    if names.push(SegmentName { number, name }).is_err() {
-                        return Err(ToolFault::OutOfMemory);
-                    }
+                    names.push(SegmentName { number, name })?;
                 }
             }
             // The name is not UTF-8.
             Err(error) if error.kind() == ErrorKind::InvalidFilename => {}
-            Err(error) => return Err(fault_of(&error)),
+            Err(error) => return Err(error),
         }
     }
     put_in_order(&mut names);
     Ok(names)
+}
+
+/// Returns the names of a folder's segments, in order.
+pub(crate) fn names_in<R: Files + AllocGlobal + Copy>(
+    rt: &R,
+    dir: &str,
+) -> Result<Vec<SegmentName>, ToolFault>
+    ensures { IfOk result (λ names. IsSortedBy comes_before names.items) }
+{
+    match segment_names(rt, dir) {
+        Ok(names) => Ok(names),
+        Err(error) => Err(fault_of(&error)),
+    }
 }
 
 /// Returns the file of a segment. The counters count it when it is opened.

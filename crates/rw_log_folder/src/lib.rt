@@ -14,7 +14,7 @@ mod opened;
 mod order;
 
 pub use checkpoint::{LogFiles, has_checkpoint, log_files};
-pub use files::{SegmentFile, segment_files};
+pub use files::{SegmentFile, SegmentName, segment_files, segment_names};
 pub use folder::Folder;
 pub use listing::{Checkpoint, Listing, Name, Place};
 pub use newest_segment::watch_newest_segment;

@@ -1,0 +1,3 @@
+mod LengthLemmas
+mod NotedLemmas
+mod TwiceLemmas

@@ -1,0 +1,126 @@
+-- What the files of a folder hold, and what a crash may leave of them, by what was asked of the
+-- operating system so far. That it keeps to this is a premise.
+use Rattle.std.specs.Prelude.{◌≡◌, ◌⊎◌, ℕ, zero, suc, List, [], ◌∷◌, ◌++◌, length, take, drop, map, Option, Some, None, Vec}
+use Rattle.std.specs.declared.alloc.Global.{Global}
+use Rattle.std.proofs.Common.{inr, refl}
+use Rattle.std.proofs.Math.Nat.{le_refl}
+use Rattle.rw_journal.specs.Journal.{Segments, on_last, with_more, IsTornEnd, IsCutEnd, IsBegun}
+use Rattle.rw_kept_folder.specs.declared.file_call.FileCall.{FileCall}
+use Rattle.rw_kept_folder.specs.declared.file_call.FileCall.TheVariants.{Append, SetLen, CreateNext, SyncData, SyncFolder}
+
+-- what was loaded, what was asked since then, and how often a call has failed
+pub record Noted : Type 0 where
+  pub loaded : Segments
+  pub calls : List FileCall
+  pub faults : ℕ
+
+-- the segments on the disk, and the call whose change may still be under way
+pub record State : Type 0 where
+  pub on_disk : Segments
+  pub under_way : Option FileCall
+
+-- the segments after a change
+abbrev pub changed : Option FileCall → Segments → Segments
+changed (Some (Append bytes)) segments = with_more segments bytes
+changed (Some (SetLen len)) segments = on_last (take len) segments
+changed (Some CreateNext) segments = segments ++ [] ∷ []
+changed _ segments = segments
+
+-- bytes that are being written may be torn in any way
+abbrev pub Tears : List ℕ → List ℕ → Type 0
+Tears bytes torn = Unit {0}
+
+-- what a crash may leave while a change is under way
+abbrev pub Leaves : Option FileCall → Segments → Segments → Type 0
+Leaves (Some (Append bytes)) segments c = IsTornEnd Tears bytes segments c
+Leaves (Some (SetLen len)) segments c = IsCutEnd len segments c
+Leaves (Some CreateNext) segments c = IsBegun segments c
+Leaves _ segments c = c ≡ segments
+
+-- what a read returns
+abbrev pub seen_in : State → Segments
+seen_in s = changed s.under_way s.on_disk
+
+-- what a crash may leave
+abbrev pub LeftIn : State → Segments → Type 0
+LeftIn s c = Leaves s.under_way s.on_disk c
+
+-- the change is on the disk
+abbrev pub settled : State → State
+settled s = record { on_disk = seen_in s; under_way = None }
+
+-- The bytes were synced: then all is on the disk, but a file that was just created may be missing
+-- in the folder.
+abbrev pub data_synced : Option FileCall → State → State
+data_synced (Some CreateNext) s = s
+data_synced _ s = settled s
+
+-- The folder was synced: then it has the file that was created.
+abbrev pub folder_synced : Option FileCall → State → State
+folder_synced (Some CreateNext) s = settled s
+folder_synced _ s = s
+
+-- A call: a change, which is under way from then on, or a sync that succeeded. A change is asked
+-- only while all that is seen is on the disk.
+abbrev pub step : FileCall → State → State
+step SyncData s = data_synced s.under_way s
+step SyncFolder s = folder_synced s.under_way s
+step call s = record { on_disk = seen_in s; under_way = Some call }
+
+-- after these calls, in order
+abbrev pub after : State → List FileCall → State
+after s [] = s
+after s (call ∷ calls) = after (step call s) calls
+
+-- what a crash may have left at the moment t, the number of calls before it, or later
+abbrev pub LeftFrom : State → List FileCall → ℕ → Segments → Type 0
+LeftFrom s [] t c = LeftIn s c
+LeftFrom s (call ∷ calls) zero c = LeftIn s c ⊎ LeftFrom (step call s) calls zero c
+LeftFrom s (call ∷ calls) (suc t) c = LeftFrom (step call s) calls t c
+
+-- what was loaded is on the disk
+abbrev pub opened : Noted → State
+opened noted = record { on_disk = noted.loaded; under_way = None }
+
+abbrev pub seen_of : Noted → Segments
+seen_of noted = seen_in (after (opened noted) noted.calls)
+
+abbrev pub MayLeave : Noted → Segments → Type 0
+MayLeave noted c = LeftIn (after (opened noted) noted.calls) c
+
+abbrev pub LeftSince : Noted → ℕ → Segments → Type 0
+LeftSince noted t c = LeftFrom (opened noted) noted.calls t c
+
+-- the bytes that were loaded and not yet returned, if there are any, are those of the segments
+-- from this number on
+abbrev pub AreUnread : Noted → ℕ → List (Vec ℕ Global) → Type 0
+AreUnread noted read unread = (unread ≡ []) ⊎ (map (λ v. v.items) unread ≡ drop read (seen_of noted))
+
+now_in : (s : State) (calls : List FileCall) (t : ℕ) (c : Segments) → LeftIn (after s calls) c → LeftFrom s calls t c
+now_in s [] t c now = now
+now_in s (call ∷ calls) zero c now = inr (now_in (step call s) calls zero c now)
+now_in s (call ∷ calls) (suc t) c now = now_in (step call s) calls t c now
+
+-- the current moment is one of those since an earlier one
+pub counts_now : (noted : Noted) (t : ℕ) (c : Segments) → MayLeave noted c → LeftSince noted t c
+counts_now noted t c now = now_in (opened noted) noted.calls t c now
+
+only_in : (s : State) (calls : List FileCall) (c : Segments) → LeftFrom s calls (length calls) c → LeftIn (after s calls) c
+only_in s [] c left = left
+only_in s (call ∷ calls) c left = only_in (step call s) calls c left
+
+-- since the current moment there is no other one
+pub only_now : (noted : Noted) (c : Segments) → LeftSince noted (length noted.calls) c → MayLeave noted c
+only_now noted c left = only_in (opened noted) noted.calls c left
+
+pub all_written : (u : Option FileCall) (segments : Segments) → Leaves u segments (changed u segments)
+all_written None segments = refl
+all_written (Some (Append bytes)) segments = record { more = bytes; torn = tt; no_longer = le_refl (length bytes); folder = refl }
+all_written (Some (SetLen len)) segments = record { at = len; no_shorter = le_refl len; folder = refl }
+all_written (Some CreateNext) segments = inr refl
+all_written (Some SyncData) segments = refl
+all_written (Some SyncFolder) segments = refl
+
+-- a crash may leave all that was asked
+pub leaves_seen : (noted : Noted) → MayLeave noted (seen_of noted)
+leaves_seen noted = all_written (after (opened noted) noted.calls).under_way (after (opened noted) noted.calls).on_disk

@@ -1,0 +1,97 @@
+//! Why a call on the files of a folder failed.
+
+use std::error::Error;
+use std::io::ErrorKind;
+use std::{fmt, io};
+
+/// What was to be done when a call failed.
+#[derive(Clone, Copy, Debug, PartialEq, Eq)]
+pub enum FolderCall {
+    Open,
+    Read,
+    Write,
+    Sync,
+    SyncFolder,
+    Create,
+    SetAside,
+    Cut,
+}
+
+/// Why it failed, as the operating system says.
+#[derive(Clone, Copy, Debug, PartialEq, Eq)]
+pub enum FaultCause {
+    OutOfMemory,
+    NotFound,
+    NotAFolder,
+    NoPermission,
+    DiskFull,
+    ReadOnly,
+    /// A file that was to be created exists.
+    Exists,
+    Other,
+}
+
+/// A call that failed, on a folder or on one of its segments.
+#[derive(Clone, Copy, Debug, PartialEq, Eq)]
+pub struct FolderFault {
+    pub call: FolderCall,
+    /// The number of the segment that was read, or of the last one.
+    pub segment: u64,
+    pub cause: FaultCause,
+}
+
+/// Returns the cause that an error of the operating system names.
+pub(crate) fn cause_of(error: &io::Error) -> FaultCause {
+    match error.kind() {
+        ErrorKind::OutOfMemory => FaultCause::OutOfMemory,
+        ErrorKind::NotFound => FaultCause::NotFound,
+        ErrorKind::NotADirectory => FaultCause::NotAFolder,
+        ErrorKind::PermissionDenied => FaultCause::NoPermission,
+        ErrorKind::StorageFull | ErrorKind::QuotaExceeded => FaultCause::DiskFull,
+        ErrorKind::ReadOnlyFilesystem => FaultCause::ReadOnly,
+        ErrorKind::AlreadyExists => FaultCause::Exists,
+        _ => FaultCause::Other,
+    }
+}
+
+impl fmt::Display for FolderCall {
+    fn fmt<W: fmt::Write>(&self, f: &mut fmt::Formatter<W>) -> fmt::Result {
+        f.write_str(match self {
+            FolderCall::Open => "open",
+            FolderCall::Read => "read",
+            FolderCall::Write => "write",
+            FolderCall::Sync => "sync",
+            FolderCall::SyncFolder => "sync the folder of",
+            FolderCall::Create => "create",
+            FolderCall::SetAside => "copy the torn end of",
+            FolderCall::Cut => "cut",
+        })
+    }
+}
+
+impl fmt::Display for FaultCause {
+    fn fmt<W: fmt::Write>(&self, f: &mut fmt::Formatter<W>) -> fmt::Result {
+        f.write_str(match self {
+            FaultCause::OutOfMemory => "out of memory",
+            FaultCause::NotFound => "no such file or folder",
+            FaultCause::NotAFolder => "not a folder",
+            FaultCause::NoPermission => "permission denied",
+            FaultCause::DiskFull => "no space left on the device",
+            FaultCause::ReadOnly => "the file system is read-only",
+            FaultCause::Exists => "the file exists",
+            FaultCause::Other => "the device failed",
+        })
+    }
+}
+
+impl fmt::Display for FolderFault {
+    fn fmt<W: fmt::Write>(&self, f: &mut fmt::Formatter<W>) -> fmt::Result {
+        write!(
+            f,
+            "cannot {} segment {}: {}",
+            self.call, self.segment, self.cause
+        )
+    }
+}
+
+impl Error for FolderFault {}

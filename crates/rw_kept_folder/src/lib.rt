@@ -1,0 +1,19 @@
+//! A journal in the files of a folder.
+#![tactic(auto)]
+
+mod fault;
+mod file_call;
+mod folder_error;
+mod folder_handle;
+mod folder_journal;
+mod open_folder;
+mod opening;
+mod record;
+mod segment_files;
+
+pub use fault::{FaultCause, FolderCall, FolderFault};
+pub use folder_error::FolderError;
+pub use folder_journal::FolderJournal;
+pub use open_folder::OpenFolder;
+pub use opening::open_journal;
+pub use segment_files::SegmentFiles;

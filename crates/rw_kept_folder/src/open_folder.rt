@@ -1,0 +1,174 @@
+//! The files of a folder of a runtime, with a record of what was asked of them.
+
+ghost use Rattle.std.specs.Prelude.{◌≡◌, ◌+◌, [], length, map};
+ghost use Rattle.rw_journal.specs.Journal.{Only};
+ghost use Rattle.rw_kept_folder.specs.Noted.{seen_of, MayLeave, LeftSince, Tears, counts_now, only_now, leaves_seen};
+
+use crate::fault::{FaultCause, FolderFault};
+use crate::file_call::FileCall;
+use crate::folder_handle::FolderHandle;
+use crate::record::Record;
+use crate::segment_files::SegmentFiles;
+use rw_history::History;
+use rw_journal::JournalError;
+use std::collections::VecDeque;
+use std::marker::Model;
+use std::rt::Files;
+
+/// The files of a folder. Contracts see what was loaded, and what was asked of the operating system
+/// since then; what the files hold and what a crash may leave of them is defined by that.
+#[derive(Drop)]
+pub struct OpenFolder<R: Files> {
+    handle: FolderHandle<R>,
+    /// The segments that were loaded and not yet taken.
+    unread: VecDeque<Vec<u8>>,
+    /// How many were taken.
+    read: usize,
+    count: usize,
+    record: Record,
+}
+
+impl<R: Files> Model for OpenFolder<R> {
+    ghost use Rattle.std.specs.Prelude.{◌≡◌, length};
+    ghost use Rattle.rw_kept_folder.specs.Noted.{Noted, seen_of, AreUnread};
+
+    ghost Value = { Noted };
+
+    ghost view = { λ f. f.record };
+
+    ghost invariant = { λ f. (f.count ≡ length (seen_of f.record))
+        × AreUnread f.record f.read f.unread.items };
+}
+
+/// Returns the error of a call that failed, and adds the fault to the record.
+fn fail(record: &mut Record, fault: FolderFault) -> JournalError
+    ensures { record.new ≡ record record.old { faults = record.old.faults + 1 } }
+{
+    record.fail(&fault);
+    match fault.cause {
+        FaultCause::OutOfMemory => JournalError::OutOfMemory,
+        _ => JournalError::Failed,
+    }
+}
+
+impl<R: Files + AllocGlobal + Copy> OpenFolder<R> {
+    /// Returns the files of a folder whose segments have these texts, which the record says were
+    /// loaded.
+    pub(crate) fn new(
+        handle: FolderHandle<R>,
+        texts: VecDeque<Vec<u8>>,
+        noted: Record,
+    ) -> OpenFolder<R>
+        requires loaded { map (λ v. v.items) texts.items ≡ noted.loaded }
+        requires calls { noted.calls ≡ [] }
+        ensures noted { result ≡ noted }
+        ensures synced { Only (seen_of result) (MayLeave result) }
+    {
+        OpenFolder {
+            handle,
+            count: texts.len(),
+            unread: texts,
+            read: 0,
+            record: noted,
+        }
+    }
+
+    /// Returns the fault after which each call fails, if there was one.
+    pub fn fault(&self) -> Option<FolderFault> {
+        self.handle.fault()
+    }
+}
+
+impl<R: Files + AllocGlobal + Copy> SegmentFiles for OpenFolder<R> {
+    ghost seen = { λ f. seen_of f };
+
+    ghost may_leave = { λ f c. MayLeave f c };
+
+    ghost moment = { λ f. length f.calls };
+
+    ghost left_since = { λ f t c. LeftSince f t c };
+
+    ghost tears = { Tears };
+
+    ghost faults = { λ f. f.faults };
+
+    ghost counts_now = { λ f t c le now. counts_now f t c now };
+
+    ghost only_now = { λ f c left. only_now f c left };
+
+    ghost leaves_seen = { λ f. leaves_seen f };
+
+    fn count(&self) -> usize {
+        self.count
+    }
+
+    fn take_loaded(&mut self, segment: usize) -> Result<Vec<u8>, JournalError> {
+        if segment == self.read {
+            if let Some(bytes) = self.unread.pop_front() {
+                self.read += 1;
+                return Ok(bytes);
+            }
+        }
+        let fault = self.handle.cannot_read(segment as u64);
+        Err(fail(&mut self.record, fault))
+    }
+
+    fn append(&mut self, bytes: &[u8]) -> Result<(), JournalError> {
+        self.unread.clear();
+        self.record.note(&FileCall::Append(History::of(bytes)));
+        match self.handle.append(bytes) {
+            Ok(()) => Ok(()),
+            Err(fault) => Err(fail(&mut self.record, fault)),
+        }
+    }
+
+    fn set_aside(&mut self, len: usize) -> Result<(), JournalError> {
+        match self.handle.set_aside(len as u64) {
+            Ok(()) => Ok(()),
+            Err(fault) => Err(fail(&mut self.record, fault)),
+        }
+    }
+
+    fn set_len(&mut self, len: usize) -> Result<(), JournalError> {
+        self.unread.clear();
+        self.record.note(&FileCall::SetLen(len));
+        match self.handle.set_len(len as u64) {
+            Ok(()) => Ok(()),
+            Err(fault) => Err(fail(&mut self.record, fault)),
+        }
+    }
+
+    fn sync_data(&mut self) -> Result<(), JournalError> {
+        match self.handle.sync_data() {
+            Ok(()) => {
+                self.record.note(&FileCall::SyncData);
+                Ok(())
+            }
+            Err(fault) => Err(fail(&mut self.record, fault)),
+        }
+    }
+
+    fn create_next(&mut self) -> Result<(), JournalError> {
+        if self.count >= usize::MAX {
+            let fault = self.handle.cannot_create();
+            return Err(fail(&mut self.record, fault));
+        }
+        self.unread.clear();
+        self.record.note(&FileCall::CreateNext);
+        self.count += 1;
+        match self.handle.create_next() {
+            Ok(()) => Ok(()),
+            Err(fault) => Err(fail(&mut self.record, fault)),
+        }
+    }
+
+    fn sync_folder(&mut self) -> Result<(), JournalError> {
+        match self.handle.sync_folder() {
+            Ok(()) => {
+                self.record.note(&FileCall::SyncFolder);
+                Ok(())
+            }
+            Err(fault) => Err(fail(&mut self.record, fault)),
+        }
+    }
+}

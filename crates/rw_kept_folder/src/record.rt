@@ -1,0 +1,59 @@
+//! A record of what was asked of the files of a folder, for contracts alone.
+
+ghost use Rattle.std.specs.Prelude.{◌≡◌, ◌+◌, [], ◌∷◌, ◌++◌};
+
+use crate::fault::FolderFault;
+use crate::file_call::FileCall;
+use rw_history::History;
+use std::marker::Model;
+
+/// What was loaded, what was asked since then, and the faults. It takes no bytes.
+#[derive(Drop)]
+pub(crate) struct Record {
+    loaded: History<History<u8>>,
+    calls: History<FileCall>,
+    faults: History<FolderFault>,
+}
+
+impl Model for Record {
+    ghost use Rattle.std.specs.Prelude.{length};
+    ghost use Rattle.rw_kept_folder.specs.Noted.{Noted};
+
+    ghost Value = { Noted };
+
+    ghost view = { λ r. record { loaded = r.loaded; calls = r.calls; faults = length r.faults } };
+}
+
+impl Record {
+    /// Returns a record in which nothing was loaded and nothing was asked.
+    pub(crate) fn new() -> Record
+        ensures { result ≡ record { loaded = []; calls = []; faults = 0 } }
+    {
+        Record {
+            loaded: History::new(),
+            calls: History::new(),
+            faults: History::new(),
+        }
+    }
+
+    /// Adds a segment that was loaded.
+    pub(crate) fn load(&mut self, text: &[u8])
+        ensures { self.new ≡ record self.old { loaded = self.old.loaded ++ text.now ∷ [] } }
+    {
+        self.loaded.push(&History::of(text));
+    }
+
+    /// Adds a call.
+    pub(crate) fn note(&mut self, call: &FileCall)
+        ensures { self.new ≡ record self.old { calls = self.old.calls ++ call.now ∷ [] } }
+    {
+        self.calls.push(call);
+    }
+
+    /// Adds a fault.
+    pub(crate) fn fail(&mut self, fault: &FolderFault)
+        ensures { self.new ≡ record self.old { faults = self.old.faults + 1 } }
+    {
+        self.faults.push(fault);
+    }
+}
