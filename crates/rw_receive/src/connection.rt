@@ -29,7 +29,13 @@ pub(crate) enum Connection<L: Naming> {
 
 /// Serves a connection in a thread of the scope, or in this one if no thread can be made. A
 /// connection for which memory runs out is closed.
-pub(crate) fn start_connection<'s, E, L: Naming + Send + Sync + 's, H: Admit + Send + 's, R: Wait + Clock + Sync>(
+pub(crate) fn start_connection<
+    's,
+    E,
+    L: Naming + Send + Sync + 's,
+    H: Admit + Send + 's,
+    R: Wait + Clock + Sync,
+>(
     scope: &Scope<'s, E>,
     rt: &'s R,
     context: &'s ServerContext<'s>,

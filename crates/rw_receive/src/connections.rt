@@ -26,7 +26,13 @@ fn accept(listener: &TcpListener) -> Result<TcpStream, ToolFault>
 }
 
 /// Begins to serve a connection in a thread of the scope.
-fn spawn_connection<'s, E, L: Naming + Send + Sync + 's, H: Admit + Send + 's, R: Wait + Clock + Sync>(
+fn spawn_connection<
+    's,
+    E,
+    L: Naming + Send + Sync + 's,
+    H: Admit + Send + 's,
+    R: Wait + Clock + Sync,
+>(
     scope: &Scope<'s, E>,
     rt: &'s R,
     context: &'s ServerContext<'s>,
@@ -105,7 +111,11 @@ fn serve_each<L: Naming + Send + Sync, H: Admit + Send, R: Threads + Wait + Cloc
 }
 
 /// Serves `connections` connections over one head. Returns the head that they leave.
-pub(crate) fn receive_all<L: Naming + Send + Sync, H: Admit + Send, R: Threads + Wait + Clock + Sync>(
+pub(crate) fn receive_all<
+    L: Naming + Send + Sync,
+    H: Admit + Send,
+    R: Threads + Wait + Clock + Sync,
+>(
     rt: &R,
     context: &ServerContext<'_>,
     blank: Blank,
@@ -121,7 +131,8 @@ pub(crate) fn receive_all<L: Naming + Send + Sync, H: Admit + Send, R: Threads +
     ensures received { IfOk result (λ head. HasReceived L.opening connections (H.state head).store) }
     ensures faults { IfErr result (λ e. (e ≡ OutOfMemory) ⊎ (e ≡ Device)) }
 {
-    let Ok((shared, seats)) = SharedHead::<L, H>::seats(context.alloc, blank, head, connections) else {
+    let Ok((shared, seats)) = SharedHead::<L, H>::seats(context.alloc, blank, head, connections)
+    else {
         return Err(ToolFault::OutOfMemory);
     };
     let seats = serve_each(rt, listener, context, &shared, seats)?;

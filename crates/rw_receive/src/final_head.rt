@@ -32,10 +32,7 @@ impl<H: Admit> Model for FinalHead<H> {
 impl<H: Admit> FinalHead<H> {
     /// Returns the head once all seats were returned. It holds what it held at first, and what was
     /// stored from each seat over all its connections.
-    pub(crate) fn gather<L: Naming>(
-        shared: SharedHead<L, H>,
-        seats: Vec<Seat<L>>,
-    ) -> FinalHead<H>
+    pub(crate) fn gather<L: Naming>(shared: SharedHead<L, H>, seats: Vec<Seat<L>>) -> FinalHead<H>
         requires { vec_len seats ≡ shared.seats }
         ensures gathered { HasGathered L.opening seats.items (H.state result).store }
         ensures adds_up { total (H.state result).store

@@ -110,7 +110,13 @@ impl<L: Naming> SeatPool<L> {
 
 /// Serves the next connection in a thread of the scope, if one comes within a tick. If no seat is
 /// free, it waits for one; if a stop is requested before, the connection is closed.
-fn serve_next<'s, E, L: Naming + Send + Sync + 's, H: Admit + Send + 's, R: Threads + Wait + Clock + Sync>(
+fn serve_next<
+    's,
+    E,
+    L: Naming + Send + Sync + 's,
+    H: Admit + Send + 's,
+    R: Threads + Wait + Clock + Sync,
+>(
     pool: &mut SeatPool<L>,
     scope: &Scope<'s, E>,
     rt: &'s R,
@@ -135,7 +141,13 @@ fn serve_next<'s, E, L: Naming + Send + Sync + 's, H: Admit + Send + 's, R: Thre
 }
 
 /// Serves connection after connection until a stop is requested.
-pub fn serve_until_stopped<'s, E, L: Naming + Send + Sync + 's, H: Admit + Send + 's, R: Threads + Wait + Clock + Sync>(
+pub fn serve_until_stopped<
+    's,
+    E,
+    L: Naming + Send + Sync + 's,
+    H: Admit + Send + 's,
+    R: Threads + Wait + Clock + Sync,
+>(
     pool: &mut SeatPool<L>,
     scope: &Scope<'s, E>,
     rt: &'s R,

@@ -44,7 +44,11 @@ fn serve_until<L: Naming + Send + Sync, H: Admit + Send, R: Threads + Wait + Clo
 
 /// Serves at most `most` connections at once over one head, until a stop is requested. Returns the
 /// head that they leave.
-pub(crate) fn receive_until<L: Naming + Send + Sync, H: Admit + Send, R: Threads + Wait + Clock + Sync>(
+pub(crate) fn receive_until<
+    L: Naming + Send + Sync,
+    H: Admit + Send,
+    R: Threads + Wait + Clock + Sync,
+>(
     rt: &R,
     context: &ServerContext<'_>,
     blank: Blank,

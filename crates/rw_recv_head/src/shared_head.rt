@@ -56,8 +56,8 @@ impl<L: Naming, H: Admit> SharedHead<L, H> {
         requires table { blank.table ≡ L.table }
         requires opening { H.state head ≡ L.opening }
         ensures shared { IfOk result (λ r. r.0 ≡ record {
-            start = total (H.state head).store;
-            seats = n;
+          start = total (H.state head).store;
+          seats = n;
         }) }
         ensures seats { IfOk result (λ r. vec_len r.1 ≡ n) }
         ensures numbered { IfOk result (λ r. (k : ℕ) (s : Seated) → slice_get r.1.items k ≡ Some s

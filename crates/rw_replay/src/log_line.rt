@@ -69,9 +69,7 @@ fn note_on(alloc: Global, line: &[u8]) -> Result<&'static str, AllocError> {
     match word {
         b"series" => note_on_series(alloc, rest),
         b"sample" => Ok(note_on_sample(rest)),
-        b"raw" => Ok(
-            "HEX must be pairs of hexadecimal digits: at least one byte, at most 16 MiB",
-        ),
+        b"raw" => Ok("HEX must be pairs of hexadecimal digits: at least one byte, at most 16 MiB"),
         _ => Ok(FORMS),
     }
 }

@@ -8,8 +8,7 @@ use crate::log_line::log_line_note;
 use rw_text::{TextFault, split_at_byte};
 use std::alloc::{AllocError, Global};
 
-const EVENTS: &str =
-    "this is not an event. The events are: log LINE, feed HEX, segment, place, \
+const EVENTS: &str = "this is not an event. The events are: log LINE, feed HEX, segment, place, \
 flush N, take N, freeze N, send N, arrive N HOW, reply N, lost N, restart, reshard N, close, kill, settle";
 
 const NUMBER: &str = "the word must be followed by a whole number from 0 to 18446744073709551615";
@@ -25,7 +24,9 @@ fn note_on(alloc: Global, line: &[u8]) -> Result<&'static str, AllocError> {
             None => Ok(EVENTS),
         },
         b"feed" => Ok("'feed' must be followed by pairs of hexadecimal digits"),
-        b"arrive" => Ok("'arrive' must be followed by a whole number and 'plain', 'busy' or 'short'"),
+        b"arrive" => Ok(
+            "'arrive' must be followed by a whole number and 'plain', 'busy' or 'short'",
+        ),
         b"flush" | b"take" | b"freeze" | b"send" | b"reply" | b"lost" | b"reshard" => Ok(NUMBER),
         _ => Ok(EVENTS),
     }

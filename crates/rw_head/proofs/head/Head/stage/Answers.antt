@@ -47,5 +47,5 @@ returns-in-Ok-clause-message c =
     let m = c.in-Ok.ensures.staged in
     let staged = c.stage_body.new.table.staged in
     let few : total staged ≤ total c.self.inside.table.kept + sample_count m.0
-        = (kept_grown c.self.inside.bounds m.0 c.self.inside.table staged staged c.self.invariant.0 m.2 refl).few in
+    = (kept_grown c.self.inside.bounds m.0 c.self.inside.table staged staged c.self.invariant.0 m.2 refl).few in
     (m.0, m.1, rw (← c.self.view_is) few)
