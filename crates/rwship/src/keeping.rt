@@ -4,7 +4,7 @@ use crate::ending::report_result;
 use crate::reporting::is_watched;
 use crate::stopping::stop_signal;
 use rw_head::Limits;
-use rw_kept_folder::{FolderError, FolderFault, FolderJournal, OpenFolder, open_folder};
+use rw_kept_folder::{FolderError, FolderFault, FolderJournal, OpenFolder, open_journal};
 use rw_kept_head::{KeptHead, OpenError};
 use rw_receive::{FinalHead, Service, serve_connections, serve_until_stop};
 use rw_reopen::ReopenError;
@@ -51,7 +51,7 @@ pub fn lock_folder(rt: &HostRuntime, dir: &str) -> Result<File, KeepError> {
 
 /// Opens the log in a folder.
 pub fn open_head(rt: &HostRuntime, limits: &Limits, dir: &str) -> Result<FolderHead, KeepError> {
-    let journal = match open_folder(rt, dir) {
+    let journal = match open_journal(rt, dir) {
         Ok(journal) => journal,
         Err(error) => return Err(KeepError::Folder(error)),
     };

@@ -1,9 +1,7 @@
-//! Tests of folders: which files of a log are read, what a crash leaves of a journal, and what a
-//! journal writes into the files of a folder; and of the pages for people.
+//! Tests of folders: which files of a log are read, what a crash leaves of a journal, and in which
+//! folders a journal is opened; and of the pages for people.
 #![tactic(auto)]
 
-#[cfg(test)]
-mod failing_files;
 #[cfg(test)]
 mod files;
 #[cfg(test)]
