@@ -5,7 +5,7 @@ use crate::reporting::is_watched;
 use crate::stopping::stop_signal;
 use rw_head::Limits;
 use rw_kept_folder::{FolderError, FolderFault, FolderJournal, OpenFolder, open_journal};
-use rw_kept_head::{KeptHead, OpenError};
+use rw_kept_head::{KeptHead, OpenError, Opened};
 use rw_receive::{FinalHead, Service, serve_connections, serve_until_stop};
 use rw_reopen::ReopenError;
 use rw_text::ToolFault;
@@ -20,8 +20,11 @@ use std::sync::Wait;
 use std::thread::Threads;
 use std::time::Clock;
 
+/// A log in the files of a folder.
+type Log = FolderJournal<OpenFolder<HostRuntime>>;
+
 /// A head whose log is in the files of a folder.
-pub type FolderHead = KeptHead<FolderJournal<OpenFolder<HostRuntime>>>;
+pub type FolderHead = KeptHead<Log>;
 
 /// The most pages of a segment: 128 MiB, as a segment of Prometheus has.
 const PAGES: usize = 4096;
@@ -50,13 +53,13 @@ pub fn lock_folder(rt: &HostRuntime, dir: &str) -> Result<File, KeepError> {
 }
 
 /// Opens the log in a folder.
-pub fn open_head(rt: &HostRuntime, limits: &Limits, dir: &str) -> Result<FolderHead, KeepError> {
+pub fn open_head(rt: &HostRuntime, limits: &Limits, dir: &str) -> Result<Opened<Log>, KeepError> {
     let journal = match open_journal(rt, dir) {
         Ok(journal) => journal,
         Err(error) => return Err(KeepError::Folder(error)),
     };
     match KeptHead::open(rt.alloc(), limits, journal, PAGES) {
-        Ok(head) => Ok(head),
+        Ok(opened) => Ok(opened),
         Err((error, journal)) => Err(KeepError::Log(error, journal.files().fault())),
     }
 }
@@ -86,11 +89,20 @@ pub fn report_keep_error(rt: &HostRuntime, dir: &str, error: KeepError) -> ExitC
     status
 }
 
-/// Reports what a folder holds, if somebody may read that.
-pub fn report_opened(rt: &HostRuntime, dir: &str, head: &FolderHead, receiving: &Receiving<'_>) {
+/// Reports what a folder holds, if somebody may read that, and in any case what was cut off.
+pub fn report_opened(rt: &HostRuntime, dir: &str, opened: &Opened<Log>, receiving: &Receiving<'_>) {
+    let torn = opened.end.torn.len();
+    if torn > 0 {
+        let _ = eprintln!(rt;
+            "rwship: the last write to {dir} was torn: {torn} bytes are cut off, and copied to torn-NNNNNNNN there"
+        );
+    }
     if is_watched(rt, &receiving.reporting) {
-        let (samples, series) = (head.head().total(), head.head().places());
-        let _ = eprintln!(rt; "rwship: {dir} holds {samples} samples of {series} series");
+        let (head, segments) = (opened.kept.head(), opened.segments);
+        let (samples, series) = (head.total(), head.places());
+        let _ = eprintln!(rt;
+            "rwship: {dir} holds {samples} samples of {series} series in {segments} segments"
+        );
     }
 }
 

@@ -169,9 +169,9 @@ fn receive_into<R: Threads + Wait + Clock + Sync>(
         Err(error) => return report_keep_error(rt, dir, error),
     };
     let status = match open_head(rt, &settings.limits, dir) {
-        Ok(head) => {
-            report_opened(rt, dir, &head, receiving);
-            let outcome = keep(rt, threads, settings, listener, receiving, head);
+        Ok(opened) => {
+            report_opened(rt, dir, &opened, receiving);
+            let outcome = keep(rt, threads, settings, listener, receiving, opened.kept);
             report_kept(rt, dir, outcome)
         }
         Err(error) => report_keep_error(rt, dir, error),
