@@ -33,7 +33,7 @@ pub(crate) fn start_connection<
     's,
     E,
     L: Naming + Send + Sync + 's,
-    H: Admit + Send + 's,
+    H: Admit + Drop + Send + 's,
     R: Wait + Clock + Sync,
 >(
     scope: &Scope<'s, E>,

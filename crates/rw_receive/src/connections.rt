@@ -30,7 +30,7 @@ fn spawn_connection<
     's,
     E,
     L: Naming + Send + Sync + 's,
-    H: Admit + Send + 's,
+    H: Admit + Drop + Send + 's,
     R: Wait + Clock + Sync,
 >(
     scope: &Scope<'s, E>,
@@ -49,7 +49,13 @@ fn spawn_connection<
 }
 
 /// Accepts a connection for each seat, and begins to serve it in a thread of the scope.
-fn start_each<'s, E, L: Naming + Send + Sync + 's, H: Admit + Send + 's, R: Wait + Clock + Sync>(
+fn start_each<
+    's,
+    E,
+    L: Naming + Send + Sync + 's,
+    H: Admit + Drop + Send + 's,
+    R: Wait + Clock + Sync,
+>(
     scope: &Scope<'s, E>,
     rt: &'s R,
     listener: &TcpListener,
@@ -86,7 +92,7 @@ fn join_each<L: Naming, R: Threads>(
 /// Serves one connection from each seat, each in its own thread, and returns the seats. The
 /// listener is closed once the last connection has come, or none can be served any more: whoever
 /// comes then is refused at once, and does not wait for those being served.
-fn serve_each<L: Naming + Send + Sync, H: Admit + Send, R: Threads + Wait + Clock + Sync>(
+fn serve_each<L: Naming + Send + Sync, H: Admit + Drop + Send, R: Threads + Wait + Clock + Sync>(
     rt: &R,
     listener: TcpListener,
     context: &ServerContext<'_>,
@@ -113,7 +119,7 @@ fn serve_each<L: Naming + Send + Sync, H: Admit + Send, R: Threads + Wait + Cloc
 /// Serves `connections` connections over one head. Returns the head that they leave.
 pub(crate) fn receive_all<
     L: Naming + Send + Sync,
-    H: Admit + Send,
+    H: Admit + Drop + Send,
     R: Threads + Wait + Clock + Sync,
 >(
     rt: &R,

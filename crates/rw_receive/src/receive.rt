@@ -42,7 +42,7 @@ pub struct Service<'a> {
 
 /// Serves `most` connections, each in its own thread, over this head, or over what has it, and
 /// returns it as they leave it. `run_receive` does this with a new head, and says more about it.
-pub fn serve_connections<R: Threads + Wait + Clock + Sync, H: Admit + Send>(
+pub fn serve_connections<R: Threads + Wait + Clock + Sync, H: Admit + Drop + Send>(
     rt: &R,
     alloc: Global,
     limits: &Limits,
@@ -73,7 +73,7 @@ pub fn serve_connections<R: Threads + Wait + Clock + Sync, H: Admit + Send>(
 /// Serves any number of connections over this head, or over what has it, until a stop is requested,
 /// and returns it as they leave it. `run_receive_until` does this with a new head, and says more
 /// about it.
-pub fn serve_until_stop<R: Threads + Wait + Clock + Sync, H: Admit + Send>(
+pub fn serve_until_stop<R: Threads + Wait + Clock + Sync, H: Admit + Drop + Send>(
     rt: &R,
     alloc: Global,
     limits: &Limits,

@@ -114,7 +114,7 @@ fn serve_next<
     's,
     E,
     L: Naming + Send + Sync + 's,
-    H: Admit + Send + 's,
+    H: Admit + Drop + Send + 's,
     R: Threads + Wait + Clock + Sync,
 >(
     pool: &mut SeatPool<L>,
@@ -145,7 +145,7 @@ pub fn serve_until_stopped<
     's,
     E,
     L: Naming + Send + Sync + 's,
-    H: Admit + Send + 's,
+    H: Admit + Drop + Send + 's,
     R: Threads + Wait + Clock + Sync,
 >(
     pool: &mut SeatPool<L>,

@@ -19,7 +19,7 @@ use std::time::Clock;
 
 /// Serves from all seats until a stop is requested, waits for the connections being served, and
 /// returns the seats. The listener is closed first.
-fn serve_until<L: Naming + Send + Sync, H: Admit + Send, R: Threads + Wait + Clock + Sync>(
+fn serve_until<L: Naming + Send + Sync, H: Admit + Drop + Send, R: Threads + Wait + Clock + Sync>(
     rt: &R,
     listener: TcpListener,
     context: &ServerContext<'_>,
@@ -46,7 +46,7 @@ fn serve_until<L: Naming + Send + Sync, H: Admit + Send, R: Threads + Wait + Clo
 /// head that they leave.
 pub(crate) fn receive_until<
     L: Naming + Send + Sync,
-    H: Admit + Send,
+    H: Admit + Drop + Send,
     R: Threads + Wait + Clock + Sync,
 >(
     rt: &R,
