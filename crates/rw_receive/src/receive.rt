@@ -138,7 +138,15 @@ pub fn run_receive<R: Threads + Wait + Clock + Sync, W: Sink>(
         (W.contents writer.old) (W.contents writer.new)) }
 {
     let head = Head::new(alloc, &settings.limits);
-    let head = serve_connections(rt, alloc, &settings.limits, service, listener, head)?;
+    // A copy: the borrow checker of the prover does not follow `service` through `?`.
+    let bounds = Service {
+        most: service.most,
+        idle_ms: service.idle_ms,
+        request_ms: service.request_ms,
+        capacity: service.capacity,
+        counters: service.counters,
+    };
+    let head = serve_connections(rt, alloc, &settings.limits, bounds, listener, head)?;
     head.print(alloc, writer)
 }
 
@@ -181,6 +189,14 @@ pub fn run_receive_until<R: Threads + Wait + Clock + Sync, W: Sink>(
         (W.contents writer.old) (W.contents writer.new)) }
 {
     let head = Head::new(alloc, &settings.limits);
-    let head = serve_until_stop(rt, alloc, &settings.limits, service, signal, listener, head)?;
+    // A copy: the borrow checker of the prover does not follow `service` through `?`.
+    let bounds = Service {
+        most: service.most,
+        idle_ms: service.idle_ms,
+        request_ms: service.request_ms,
+        capacity: service.capacity,
+        counters: service.counters,
+    };
+    let head = serve_until_stop(rt, alloc, &settings.limits, bounds, signal, listener, head)?;
     head.print(alloc, writer)
 }
