@@ -1,12 +1,14 @@
 //! The command `receive` with a folder in which it keeps what it takes.
 
+use crate::bounds::service_of;
 use crate::ending::report_result;
 use crate::reporting::is_watched;
 use crate::stopping::stop_signal;
 use rw_head::Limits;
 use rw_kept_folder::{FolderError, FolderFault, FolderJournal, OpenFolder, open_journal};
 use rw_kept_head::{KeptHead, OpenError, Opened};
-use rw_receive::{FinalHead, Service, serve_connections, serve_until_stop};
+use rw_metrics::ReceiveCounters;
+use rw_receive::{FinalHead, serve_connections, serve_until_stop};
 use rw_reopen::ReopenError;
 use rw_text::ToolFault;
 use rw_types::Std;
@@ -106,24 +108,36 @@ pub fn report_opened(rt: &HostRuntime, dir: &str, opened: &Opened<Log>, receivin
     }
 }
 
-/// Serves connections for as long as asked for, over a head whose log is in a folder.
-fn serve_head<R: Threads + Wait + Clock + Sync>(
+/// Serves as many connections as asked for, over a head whose log is in a folder.
+fn serve_some<R: Threads + Wait + Clock + Sync>(
     rt: &HostRuntime,
     threads: &R,
     limits: &Limits,
-    service: Service<'_>,
     listener: TcpListener,
-    until: &Until<'_>,
+    receiving: &Receiving<'_>,
+    counters: &ReceiveCounters,
     head: FolderHead,
 ) -> Result<FinalHead<FolderHead>, ToolFault> {
-    let stop_file = match until {
-        Until::Connections(_) => {
-            return serve_connections(threads, rt.alloc(), limits, service, listener, head);
-        }
-        Until::InputEnds => None,
+    let service = service_of(receiving, counters);
+    serve_connections(threads, rt.alloc(), limits, service, listener, head)
+}
+
+/// Serves connections until a stop is requested, over a head whose log is in a folder.
+fn serve_until<R: Threads + Wait + Clock + Sync>(
+    rt: &HostRuntime,
+    threads: &R,
+    limits: &Limits,
+    listener: TcpListener,
+    receiving: &Receiving<'_>,
+    counters: &ReceiveCounters,
+    head: FolderHead,
+) -> Result<FinalHead<FolderHead>, ToolFault> {
+    let stop_file = match &receiving.until {
         Until::FileIs(path) => Some(*path),
+        _ => None,
     };
     let signal = stop_signal(rt, threads, stop_file, None)?;
+    let service = service_of(receiving, counters);
     serve_until_stop(
         threads,
         rt.alloc(),
@@ -135,26 +149,23 @@ fn serve_head<R: Threads + Wait + Clock + Sync>(
     )
 }
 
-/// Serves connections over a head whose log is in a folder, and prints what it then holds if that
-/// is wanted. Returns the head.
+/// Serves connections for as long as asked for, over a head whose log is in a folder, and prints
+/// what it then holds if that is wanted. Returns the head.
 pub fn serve_kept<R: Threads + Wait + Clock + Sync>(
     rt: &HostRuntime,
     threads: &R,
     limits: &Limits,
-    service: Service<'_>,
     listener: TcpListener,
     receiving: &Receiving<'_>,
+    counters: &ReceiveCounters,
     head: FolderHead,
 ) -> Result<FolderHead, ToolFault> {
-    let served = serve_head(
-        rt,
-        threads,
-        limits,
-        service,
-        listener,
-        &receiving.until,
-        head,
-    )?;
+    let served = match &receiving.until {
+        Until::Connections(_) => {
+            serve_some(rt, threads, limits, listener, receiving, counters, head)?
+        }
+        _ => serve_until(rt, threads, limits, listener, receiving, counters, head)?,
+    };
     if !receiving.is_quiet {
         served.print(rt.alloc(), &mut Std::new(rt.stdout()))?;
     }

@@ -1,6 +1,7 @@
 //! The program `rwship`.
 #![tactic(auto)]
 
+mod bounds;
 mod ending;
 mod engines;
 mod explaining;

@@ -1,5 +1,6 @@
 //! The command `receive`.
 
+use crate::bounds::service_of;
 use crate::ending::{point_to_explain, report_result, report_settings_fault};
 use crate::keeping::{
     FolderHead, lock_folder, open_head, report_keep_error, report_kept, report_opened, serve_kept,
@@ -7,12 +8,11 @@ use crate::keeping::{
 use crate::reporting::{begin_reporting, end_reporting, print_listen_error};
 use crate::settings::settings_in;
 use crate::stopping::stop_signal;
-use rw_head::Capacity;
 use rw_metrics::{Counters, ReceiveCounters};
-use rw_receive::{Service, run_receive, run_receive_until};
+use rw_receive::{run_receive, run_receive_until};
 use rw_settings::Settings;
 use rw_text::ToolFault;
-use rw_types::{Bounded, Std};
+use rw_types::Std;
 use rw_words::{Receiving, SettingsFile, Until};
 use std::alloc::{AllocError, Global};
 use std::net::TcpListener;
@@ -21,46 +21,46 @@ use std::sync::{Arc, Wait};
 use std::thread::Threads;
 use std::time::Clock;
 
-/// Returns how much the head may hold.
-fn capacity_of(receiving: &Receiving<'_>) -> Capacity {
-    Capacity {
-        max_samples: receiving.max_samples.unwrap_or(u64::MAX),
-        max_series: receiving.max_series.unwrap_or(u64::MAX),
-    }
-}
-
-/// Returns the bounds of a service, and its counters.
-fn service_of<'a>(receiving: &Receiving<'_>, counters: &'a ReceiveCounters) -> Service<'a> {
-    let most = match &receiving.until {
-        Until::Connections(most) => *most,
-        _ => Bounded::new(1_000),
-    };
-    Service {
-        most,
-        idle_ms: receiving.idle_ms,
-        request_ms: receiving.request_ms,
-        capacity: capacity_of(receiving),
-        counters,
-    }
-}
-
 /// Serves connections until a stop is requested, and prints what they left.
 fn serve_until<R: Threads + Wait + Clock + Sync>(
     rt: &HostRuntime,
     threads: &R,
     settings: &Settings,
     listener: TcpListener,
-    service: Service<'_>,
+    receiving: &Receiving<'_>,
     stop_file: Option<&str>,
+    counters: &ReceiveCounters,
 ) -> Result<(), ToolFault> {
     let signal = stop_signal(rt, threads, stop_file, None)?;
     let mut output = Std::new(rt.stdout());
+    let service = service_of(receiving, counters);
     run_receive_until(
         threads,
         rt.alloc(),
         settings,
         service,
         &signal,
+        listener,
+        &mut output,
+    )
+}
+
+/// Serves as many connections as asked for, and prints what they left.
+fn serve_some<R: Threads + Wait + Clock + Sync>(
+    rt: &HostRuntime,
+    threads: &R,
+    settings: &Settings,
+    listener: TcpListener,
+    receiving: &Receiving<'_>,
+    counters: &ReceiveCounters,
+) -> Result<(), ToolFault> {
+    let mut output = Std::new(rt.stdout());
+    let service = service_of(receiving, counters);
+    run_receive(
+        threads,
+        rt.alloc(),
+        settings,
+        service,
         listener,
         &mut output,
     )
@@ -75,23 +75,16 @@ fn serve<R: Threads + Wait + Clock + Sync>(
     receiving: &Receiving<'_>,
     counters: &ReceiveCounters,
 ) -> Result<(), ToolFault> {
-    let service = service_of(receiving, counters);
     let stop_file = match &receiving.until {
         Until::Connections(_) => {
-            let mut output = Std::new(rt.stdout());
-            return run_receive(
-                threads,
-                rt.alloc(),
-                settings,
-                service,
-                listener,
-                &mut output,
-            );
+            return serve_some(rt, threads, settings, listener, receiving, counters);
         }
         Until::InputEnds => None,
         Until::FileIs(path) => Some(*path),
     };
-    serve_until(rt, threads, settings, listener, service, stop_file)
+    serve_until(
+        rt, threads, settings, listener, receiving, stop_file, counters,
+    )
 }
 
 /// Returns counters that have counted nothing.
@@ -141,14 +134,13 @@ fn keep<R: Threads + Wait + Clock + Sync>(
     head: FolderHead,
 ) -> Result<FolderHead, ToolFault> {
     let counters = reported_counters(rt, threads, receiving)?;
-    let service = service_of(receiving, &counters);
     let outcome = serve_kept(
         rt,
         threads,
         &settings.limits,
-        service,
         listener,
         receiving,
+        &counters,
         head,
     );
     end_reporting(rt, &receiving.reporting, &Counters::Receive(counters));
