@@ -73,7 +73,7 @@ fn asks(
 ) -> Result<bool, AllocError> {
     for (count, status) in row.counts.iter().zip(row.statuses.iter()) {
         let samples = samples_after(alloc, all.len(), *count)?;
-        if answer(&mut kept, &body_of(alloc, &samples)?) != *status {
+        if answer(kept, &body_of(alloc, &samples)?) != *status {
             return Ok(false);
         }
         if *status == 204 {
