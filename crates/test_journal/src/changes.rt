@@ -52,13 +52,14 @@ static ROWS: [Row; 4] = [
 /// Returns samples of the first series, one for each millisecond after those before.
 fn samples_after(alloc: Global, before: usize, count: usize) -> Result<Vec<Sample>, AllocError> {
     let mut samples = Vec::with_capacity(alloc, count)?;
+    let mut time = i64::try_from(before).unwrap_or(i64::MAX);
     for i in 0..count {
-        let time = before as i64 + i as i64;
         samples.push(Sample {
             series: 0,
             time,
             value: i as u64,
         })?;
+        time = time.saturating_add(1);
     }
     Ok(samples)
 }
