@@ -5,8 +5,6 @@
 #[cfg(test)]
 mod appends;
 #[cfg(test)]
-mod changes;
-#[cfg(test)]
 mod entry_counter;
 #[cfg(test)]
 mod messages;
