@@ -19,9 +19,10 @@ use Rattle.rw_text.specs.LabelText.{labels_text}
 use Rattle.rw_series_cache.proofs.KnownLemmas.{definitions_of-definition, definitions_of-sample}
 use Rattle.rw_types.proofs.GatherLemmas.{gather-push}
 use Rattle.rw_inspect.specs.Finding.{Finds, IsFinder, any_names, entry_text, fault_text, labels_or, sample_text, set_text, is_asked, is_missing, line_of, name_at, not_there_text, there_text, note_if, note_of, noted_at, notes_in, position_text, text_at, text_from, told}
-use Rattle.rw_inspect.specs.Inspecting.{ReadsFirst, ReadsInto, fault_in}
+use Rattle.rw_log_read.proofs.LogLemmas.{reads_first}
+use Rattle.rw_log_read.specs.Logs.{ReadsFirst, ReadsInto, fault_in}
 use Rattle.rw_inspect.specs.declared.finding.Found.{Found}
-use Rattle.rw_inspect.specs.declared.report.Segment.{Segment}
+use Rattle.rw_log_read.specs.declared.log_read.Segment.{Segment}
 use Rattle.rw_types.specs.Gathering.{gather_from, gather}
 
 -- a note of another position is skipped
@@ -129,11 +130,11 @@ pub defined_sample : (cache : Taken) (e : Entry) (reference : ℕ) (t : ℤ) (wo
 defined_sample cache e reference t word is before h = rw is (definitions_of-sample before reference t word ∙ h)
 
 -- what was found
-pub finds : (lefts : List (Option (List ℕ))) (positions asked : List ℕ) (taken : List Entry) (rows segments : List Segment) (r : Found) → ReadsInto lefts taken rows (fault_in r.damage) → asked ≡ positions → segments ≡ rows
+pub finds : (lefts before after : List (Option (List ℕ))) (positions asked : List ℕ) (taken : List Entry) (rows segments : List Segment) (r : Found) → before ≡ lefts → ReadsInto true before after taken rows (fault_in r.damage) → asked ≡ positions → segments ≡ rows
     → r.text.items ≡ flat_map (position_text segments taken) asked → r.missing ≡ count_by (is_missing taken) asked → Finds lefts positions r
-finds lefts positions asked taken rows segments r h same seen text missing = record {
+finds lefts before after positions asked taken rows segments r left h same seen text missing = record {
   texts = h.texts;
-  read = subst (ReadsFirst lefts h.texts) h.fault_is h.read;
+  read = subst (ReadsFirst lefts h.texts) h.fault_is (subst (λ ls. ReadsFirst ls h.texts (fault_in r.damage)) left (reads_first _ _ _ _ h.read));
   segments = rows;
   segments_are = h.rows_are;
   text_is =

@@ -14,9 +14,9 @@ use Rattle.rw_series_cache.specs.Cached.{Taken}
 use Rattle.rw_series_cache.specs.Known.{Standing, Unknown, Bad, Filtered, Kept, known, definitions_of}
 use Rattle.rw_text.specs.LabelText.{labels_text}
 use Rattle.rw_text.specs.ValueText.{value_text}
-use Rattle.rw_inspect.specs.Inspecting.{AreRows, ReadsFirst, fault_in, log_of}
+use Rattle.rw_log_read.specs.Logs.{AreRows, ReadsFirst, fault_in, log_of}
 use Rattle.rw_inspect.specs.declared.finding.Found.{Found}
-use Rattle.rw_inspect.specs.declared.report.Segment.{Segment}
+use Rattle.rw_log_read.specs.declared.log_read.Segment.{Segment}
 use Rattle.rw_types.specs.Gathering.{gather}
 
 -- all label sets, with any UTF-8 names
@@ -129,8 +129,7 @@ pub record IsFinder (positions : List ℕ) (es : List Entry) (count : ℕ) (cach
   pub defined : definitions_of es ≡ cache.definitions
   pub noted : map told notes ≡ gather (note_of positions) es
 
--- the positions, all entries so far, and those of the current segment
+-- the positions and the entries
 pub record Finding : Type 0 where
   pub positions : Vec ℕ Global
   pub entries : List Entry
-  pub here : List Entry

@@ -1,0 +1,4 @@
+pub mod Left
+pub mod Logs
+pub mod Reading
+pub mod Sums
