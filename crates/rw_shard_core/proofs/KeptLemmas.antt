@@ -1,6 +1,5 @@
 -- What a shard's core keeps, as samples are taken and batches are frozen.
-use Rattle.std.proofs.Common.{◌≡◌, ℕ, zero, suc, ◌+◌, ◌-◌, ◌<◌, Bool, true, false, cond, not, ◌&&◌, ◌||◌, nat_le, List, [], ◌∷◌, ◌++◌, length, map, Option, None, Some, All, IfSome, refl, sym, subst, ap, ap₂, ◌∙◌, append_assoc, length-append, arith}
-use Rattle.std.proofs.lemmas.Bool.Decides.{nat_tests}
+use Rattle.std.proofs.Common.{◌≡◌, ℕ, zero, suc, ◌+◌, ◌-◌, ◌<◌, Bool, true, false, cond, not, List, [], ◌∷◌, ◌++◌, length, map, Option, None, Some, All, IfSome, refl, sym, subst, ap, ap₂, ◌∙◌, append_assoc, length-append, arith}
 use Rattle.std.proofs.lemmas.List.{map-append, length-map}
 use Rattle.std.proofs.lemmas.List.Elements.{All-append}
 use Rattle.std.specs.Prelude.{slice_get, option_map}
@@ -15,26 +14,11 @@ use Rattle.rw_ledger.specs.Names.{Named}
 use Rattle.rw_ledger.specs.declared.ledger.Reason.{Reason}
 use Rattle.rw_types.specs.declared.place.Place.{Place}
 use Rattle.rw_plain_queue.specs.Items.{Placed}
-use Rattle.rw_shard_core.specs.Shard.{Core, is_empty, can_take, can_freeze, freeze, freeze_room, last_of, IsNext, AreInRow, places_of, labelled, body_of, IsReadAgain}
+use Rattle.rw_shard_core.specs.Shard.{Core, is_empty, can_freeze, freeze, freeze_room, last_of, IsNext, AreInRow, places_of, labelled, body_of, IsReadAgain}
 use Rattle.rw_shard_core.specs.SentRequest.{request_of}
 use Rattle.rw_shard_core.specs.Inside.{batch_part, builder_part, is_waiting, IsKept, SpellsMessageOf}
 use Rattle.rw_shard_core.specs.declared.config.Target.{Target}
 use Rattle.rw_shard_core.specs.declared.shard.OpenBatch.{OpenBatch}
-
--- a guard that holds
-guard_parts : (killed empty full marked : Bool) → (not killed && (empty && not (full || marked))) ≡ true → (empty ≡ true) × (full ≡ false)
-guard_parts true e f m h = absurd (cc)
-guard_parts false false f m h = absurd (cc)
-guard_parts false true true m h = absurd (cc)
-guard_parts false true false m h = (refl, refl)
-
-below : (n m : ℕ) → nat_le n m ≡ false → m < n
-below n m h = grind (arith, nat_tests)
-
-pub can_take_parts : (c : Core) → can_take c ≡ true → (is_empty c.batch ≡ true) × (length c.builder < c.full)
-can_take_parts c h =
-    let p = guard_parts c.killed (is_empty c.batch) (nat_le c.full (length c.builder)) c.marked h in
-    (p.0, below c.full (length c.builder) p.1)
 
 -- the last place is that of the last sample
 last_placed : (xs : List Placed) (p : Place) → slice_get (places_of xs) (length (places_of xs) - 1) ≡ Some p →

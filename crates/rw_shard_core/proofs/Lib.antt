@@ -3,3 +3,4 @@ pub mod NamingLemmas
 pub mod ReplyLemmas
 pub mod RequestLemmas
 pub mod EmptyLemmas
+pub mod StepGuards

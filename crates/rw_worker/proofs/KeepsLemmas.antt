@@ -1,6 +1,6 @@
 -- What holds of a worker's shard after each step.
-use Rattle.std.proofs.Common.{◌≡◌, ℕ, ◌+◌, ◌-◌, ◌<◌, ◌≤◌, Bool, true, false, true≢false, not, ◌&&◌, ◌||◌, nat_le, List, [], ◌∷◌, ◌++◌, length, Result, Ok, Err, refl, sym, ap, ◌∙◌, subst, append_assoc, append-nil, length-append, zero-add, arith, cond}
-use Rattle.std.proofs.lemmas.Bool.{eq-eqb, not-true}
+use Rattle.std.proofs.Common.{◌≡◌, ℕ, ◌+◌, ◌-◌, ◌<◌, ◌≤◌, Bool, true, false, true≢false, not, ◌||◌, nat_le, List, [], ◌∷◌, ◌++◌, length, Result, Ok, Err, refl, sym, ap, ◌∙◌, subst, append_assoc, append-nil, length-append, zero-add, arith, cond}
+use Rattle.std.proofs.lemmas.Bool.{not-true}
 use Rattle.std.proofs.lemmas.Bool.Decides.{nat_tests}
 use Rattle.std.specs.Ordering.{nat_cmp}
 use Rattle.std.specs.FinMap.{FinMap, empty}
@@ -10,11 +10,10 @@ use Rattle.rw_ledger.specs.declared.ledger.Reason.{Reason}
 use Rattle.rw_retry.specs.Judgements.{judgement_of}
 use Rattle.rw_retry.specs.declared.judgement.Judgement.{Judgement}
 use Rattle.rw_retry.specs.declared.judgement.Judgement.TheVariants.{Done, Again, Refused}
-use Rattle.rw_batch.specs.declared.batch.BatchId.{BatchId}
 use Rattle.rw_plain_queue.specs.Items.{Placed, samples_in}
 use Rattle.rw_plain_queue.specs.declared.item.Item.{Item}
 use Rattle.rw_plain_queue.specs.declared.item.Item.TheVariants.{Sample, Flush, End}
-use Rattle.rw_shard_core.specs.Shard.{Core, is_empty, is_due, can_take, take_item, placed, can_freeze, freeze, freeze_room, can_send, send, request_for, batch_id, same_id, is_answer, awaits, lose, settle, settle_names, reply, reply_names}
+use Rattle.rw_shard_core.specs.Shard.{Core, is_empty, is_due, can_take, take_item, placed, can_freeze, freeze, freeze_room, can_send, send, request_for, batch_id, is_answer, awaits, lose, settle, settle_names, reply, reply_names}
 use Rattle.rw_shard_core.specs.declared.config.Target.{Target}
 use Rattle.rw_worker.specs.declared.transport.Reply.{Reply}
 use Rattle.rw_worker.specs.declared.transport.Lost.{Lost}
@@ -25,6 +24,7 @@ use Rattle.rw_worker.proofs.StepLemmas.{items-append, exchanges-append}
 use Rattle.rw_worker.proofs.CutLemmas.{fill}
 use Rattle.rw_worker.proofs.TranscriptLemmas.{transcript-take, transcript-again, transcript-settle}
 use Rattle.rw_shard_core.proofs.EmptyLemmas.{nil_from_empty, is_empty-push}
+use Rattle.rw_shard_core.proofs.StepGuards.{take_parts, freeze_parts, send_parts, sent_core, send-is, sent-awaits, sent-answers}
 use Rattle.rw_plain_queue.proofs.Histories.{samples_in-append}
 
 pub record Keeps (target : Target) (epoch shard n : ℕ) (items : List Item) (exchanges : List Exchange) (w : Working) : Type 0 where
@@ -62,31 +62,6 @@ unsettled-open c e = rw e refl
 pub growing-open : (c : Core) → is_empty c.batch ≡ false → growing c ≡ []
 growing-open c e = rw e refl
 
--- the guards
-take_parts : (killed empty full marked : Bool) → (not killed && (empty && not (full || marked))) ≡ true → (empty ≡ true) × (full ≡ false) × (marked ≡ false)
-take_parts true e f m h = absurd (cc)
-take_parts false false f m h = absurd (cc)
-take_parts false true true m h = absurd (cc)
-take_parts false true false true h = absurd (cc)
-take_parts false true false false h = (refl, refl, refl)
-
-pub can_take-parts : (c : Core) → can_take c ≡ true → (is_empty c.batch ≡ true) × (nat_le c.full (length c.builder) ≡ false) × (c.marked ≡ false)
-can_take-parts c h = take_parts c.killed (is_empty c.batch) (nat_le c.full (length c.builder)) c.marked h
-
-pub can_take-not_due : (c : Core) → can_take c ≡ true → is_due c ≡ false
-can_take-not_due c h = let p = can_take-parts c h in rw (p.1, p.2) refl
-
-freeze_parts : (killed empty none : Bool) → (not killed && (empty && not none)) ≡ true → (empty ≡ true) × (none ≡ false)
-freeze_parts true e n h = absurd (cc)
-freeze_parts false false n h = absurd (cc)
-freeze_parts false true true h = absurd (cc)
-freeze_parts false true false h = (refl, refl)
-
-send_parts : (killed empty waiting : Bool) → (not killed && (not empty && not waiting)) ≡ true → (killed ≡ false) × (empty ≡ false)
-send_parts true e w h = absurd (cc)
-send_parts false true w h = absurd (cc)
-send_parts false false w h = (refl, refl)
-
 -- a builder that a mark closes
 closed : (xs : List Placed) → cond (not (is_empty xs)) xs [] ≡ xs
 closed [] = refl
@@ -123,14 +98,9 @@ mark_growing c ended e f = rw e (ap (λ b. cond b [] c.builder) (mark_due c ende
 -- the transcript if nothing is due
 still : (n : ℕ) (items : List Item) (es : List Exchange) (w : Working) → IsWorked n items es w → can_take w.core ≡ true → IsTranscriptOf w.core.target n items es [] w.core.builder w.core.resolved w.ledger.names
 still n items es w h can =
-    let p = can_take-parts w.core can in
-    let d = can_take-not_due w.core can in
-    subst (λ (r : List Placed). IsTranscriptOf w.core.target n items es [] r w.core.resolved w.ledger.names) (growing-not w.core p.0 d)
-    (subst (λ (u : List Placed). IsTranscriptOf w.core.target n items es u (growing w.core) w.core.resolved w.ledger.names) (unsettled-not w.core p.0 d) h)
-
--- one sample more fits a builder that is not full
-room_left : (full n k : ℕ) → full ≡ n → nat_le full k ≡ false → k < n
-room_left full n k e h = grind (arith, nat_tests)
+    let p = take_parts w.core can in
+    subst (λ (r : List Placed). IsTranscriptOf w.core.target n items es [] r w.core.resolved w.ledger.names) (growing-not w.core p.none p.not_due)
+    (subst (λ (u : List Placed). IsTranscriptOf w.core.target n items es u (growing w.core) w.core.resolved w.ledger.names) (unsettled-not w.core p.none p.not_due) h)
 
 module _ (target : Target) (epoch shard n : ℕ) (items : List Item) (es : List Exchange) (c : Core) (l : Named) where
   abbrev Before : Type 0
@@ -139,7 +109,7 @@ module _ (target : Target) (epoch shard n : ℕ) (items : List Item) (es : List 
   keeps_mark : (x : Item) (ended : Bool) → Before → can_take c ≡ true → samples_in (x ∷ []) ≡ [] → ((bs : List (List Placed)) (r : List Placed) → cut_by n (cutting bs r) x ≡ close (cutting bs r))
       → Keeps target epoch shard n (items ++ x ∷ []) es (working (with_mark c ended) l)
   keeps_mark x ended h can none by =
-      let p = can_take-parts c can in record {
+      let p = take_parts c can in record {
         some = h.some;
         target_is = h.target_is;
         epoch_is = h.epoch_is;
@@ -151,20 +121,20 @@ module _ (target : Target) (epoch shard n : ℕ) (items : List Item) (es : List 
         whole = h.whole;
         fits = h.fits;
         one = h.one;
-        due_some = λ d. not-true (is_empty c.builder) (sym (mark_due c ended p.1) ∙ d);
+        due_some = λ d. not-true (is_empty c.builder) (sym (mark_due c ended p.not_full) ∙ d);
         room = h.room;
         worked = transcript-take c.target n items es c.builder c.resolved l.names x (unsettled (with_mark c ended)) (growing (with_mark c ended)) (still n items es (working c l) h.worked can)
-            (λ bs. by bs c.builder ∙ ap (λ ys. cutting (bs ++ one_of ys) []) (sym (mark_unsettled c ended p.0 p.1)) ∙ ap (λ r. cutting (bs ++ one_of (unsettled (with_mark c ended))) r) (sym (mark_growing c ended p.0 p.1)));
+            (λ bs. by bs c.builder ∙ ap (λ ys. cutting (bs ++ one_of ys) []) (sym (mark_unsettled c ended p.none p.not_full)) ∙ ap (λ r. cutting (bs ++ one_of (unsettled (with_mark c ended))) r) (sym (mark_growing c ended p.none p.not_full)));
       }
 
   keeps_sample : (x : Item) (y : Placed) → Before → can_take c ≡ true → samples_in (x ∷ []) ≡ y ∷ []
       → ((bs : List (List Placed)) (r : List Placed) → cut_by n (cutting bs r) x ≡ cond (nat_le n (length (r ++ y ∷ []))) (close (cutting bs (r ++ y ∷ []))) (cutting bs (r ++ y ∷ [])))
       → Keeps target epoch shard n (items ++ x ∷ []) es (working (with_sample c y) l)
   keeps_sample x y h can sample by =
-      let p = can_take-parts c can in
+      let p = take_parts c can in
       let ys = c.builder ++ y ∷ [] in
-      let u = sample_unsettled c y n p.0 h.full_is p.2 in
-      let g = sample_growing c y n p.0 h.full_is p.2 in record {
+      let u = sample_unsettled c y n p.none h.full_is p.unmarked in
+      let g = sample_growing c y n p.none h.full_is p.unmarked in record {
         some = h.some;
         target_is = h.target_is;
         epoch_is = h.epoch_is;
@@ -174,8 +144,8 @@ module _ (target : Target) (epoch shard n : ℕ) (items : List Item) (es : List 
         idle = h.idle;
         taken_is = ap (λ xs. xs ++ y ∷ []) h.taken_is ∙ ap (λ zs. samples_in items ++ zs) (sym sample) ∙ sym (samples_in-append items (x ∷ []));
         whole = ap (λ xs. xs ++ y ∷ []) h.whole ∙ append_assoc c.resolved (c.batch ++ c.builder) (y ∷ []) ∙ ap (λ zs. c.resolved ++ zs) (append_assoc c.batch c.builder (y ∷ []));
-        fits = let none = ap length (nil_from_empty c.batch p.0) in let left = room_left c.full n (length c.builder) h.full_is p.1 in let longer = length-append c.builder (y ∷ []) in omega arith;
-        one = λ e. absurd (true≢false (sym p.0 ∙ e));
+        fits = let none = ap length (nil_from_empty c.batch p.none) in let left = p.room in let full = h.full_is in let longer = length-append c.builder (y ∷ []) in omega arith;
+        one = λ e. absurd (true≢false (sym p.none ∙ e));
         due_some = λ d. is_empty-push c.builder y;
         room = h.room;
         worked = transcript-take c.target n items es c.builder c.resolved l.names x (unsettled (with_sample c y)) (growing (with_sample c y)) (still n items es (working c l) h.worked can)
@@ -203,10 +173,10 @@ module _ (target : Target) (epoch shard n : ℕ) (items : List Item) (es : List 
   -- the builder was frozen, which was due
   pub keeps-freeze : Before → is_due c ≡ true → can_freeze c ≡ true → Keeps target epoch shard n items es (working (freeze c) (freeze_room c l))
   keeps-freeze h due can =
-      let p = freeze_parts c.killed (is_empty c.batch) (is_empty c.builder) can in
-      let none = nil_from_empty c.batch p.0 in
-      let same : unsettled frozen.core ≡ unsettled c = unsettled-open frozen.core p.1 ∙ sym (unsettled-due c p.0 due) in
-      let rest : growing frozen.core ≡ growing c = growing-open frozen.core p.1 ∙ sym (growing-due c p.0 due) in
+      let p = freeze_parts c can in
+      let none = nil_from_empty c.batch p.none in
+      let same : unsettled frozen.core ≡ unsettled c = unsettled-open frozen.core p.some ∙ sym (unsettled-due c p.none due) in
+      let rest : growing frozen.core ≡ growing c = growing-open frozen.core p.some ∙ sym (growing-due c p.none due) in
       subst (λ (w : Working). Keeps target epoch shard n items es w) (sym (frozen_is can)) (record {
         some = h.some;
         target_is = h.target_is;
@@ -226,26 +196,11 @@ module _ (target : Target) (epoch shard n : ℕ) (items : List Item) (es : List 
       })
 
   -- an attempt
-  abbrev sent : Core
-  sent = record c { waiting = true }
-
-  same-id : (id : BatchId) → same_id id id ≡ true
-  same-id id = rw (eq-eqb id.epoch id.epoch refl, eq-eqb id.shard id.shard refl, eq-eqb id.seq id.seq refl) refl
-
-  pub sent-is : can_send c ≡ true → send c ≡ sent
-  sent-is can = rw can refl
-
-  pub sent-awaits : can_send c ≡ true → awaits sent ≡ true
-  sent-awaits can = let p = send_parts c.killed (is_empty c.batch) c.waiting can in rw (p.0, p.1) refl
-
-  sent_answers : can_send c ≡ true → is_answer (batch_id c.batch) sent ≡ true
-  sent_answers can = rw (sent-awaits can) (same-id (batch_id c.batch))
-
   abbrev settled_by : Judgement → ℕ → Working
-  settled_by j status = working (settle j sent) (settle_names j status c.batch l)
+  settled_by j status = working (settle j (sent_core c)) (settle_names j status c.batch l)
 
-  replied : (status : ℕ) → can_send c ≡ true → working (reply (batch_id c.batch) status sent) (reply_names (batch_id c.batch) status sent l) ≡ settled_by (judgement_of status) status
-  replied status can = rw (sent_answers can) refl
+  replied : (status : ℕ) → can_send c ≡ true → working (reply (batch_id c.batch) status (sent_core c)) (reply_names (batch_id c.batch) status (sent_core c) l) ≡ settled_by (judgement_of status) status
+  replied status can = rw (sent-answers c can) refl
 
   -- the transcript if a batch is open
   open' : IsWorked n items es (working c l) → is_empty c.batch ≡ false → IsTranscriptOf c.target n items es c.batch [] c.resolved l.names
@@ -262,9 +217,9 @@ module _ (target : Target) (epoch shard n : ℕ) (items : List Item) (es : List 
   keeps_settle : (status room : ℕ) (names : FinMap nat_cmp Reason) → Before → can_send c ≡ true → (judgement_of status ≡ Again → ⊥) → room ≡ l.room - length c.batch → names ≡ with_names l.names (record { samples = c.batch; status = status })
       → Keeps target epoch shard n items (es ++ exchange (status_of status) ∷ []) (working settled_core (record { names = names; room = room }))
   keeps_settle status room names h can final room_is names_is =
-      let p = send_parts c.killed (is_empty c.batch) c.waiting can in
-      let none = h.one p.1 in
-      let later = transcript-settle c.target n items es c.batch c.resolved l.names status (open' h.worked p.1) p.1 final in
+      let p = send_parts c can in
+      let none = h.one p.some in
+      let later = transcript-settle c.target n items es c.batch c.resolved l.names status (open' h.worked p.some) p.some final in
       let idle : is_due settled_core ≡ true → is_empty c.builder ≡ false = h.due_some in record {
         some = h.some;
         target_is = h.target_is;
@@ -299,7 +254,7 @@ module _ (target : Target) (epoch shard n : ℕ) (items : List Item) (es : List 
   -- the batch was sent in vain
   keeps_lost : (answer : Result Reply Lost) → IsAgain answer → Before → can_send c ≡ true → AfterAnswer answer (working (record c { waiting = false }) l)
   keeps_lost answer again h can =
-      let p = send_parts c.killed (is_empty c.batch) c.waiting can in record {
+      let p = send_parts c can in record {
         some = h.some;
         target_is = h.target_is;
         epoch_is = h.epoch_is;
@@ -314,9 +269,9 @@ module _ (target : Target) (epoch shard n : ℕ) (items : List Item) (es : List 
         due_some = h.due_some;
         room = h.room;
         worked =
-            subst (λ (r : List Placed). IsTranscriptOf c.target n items (es ++ exchange answer ∷ []) (unsettled c) r c.resolved l.names) (sym (growing-open c p.1))
-            (subst (λ (u : List Placed). IsTranscriptOf c.target n items (es ++ exchange answer ∷ []) u [] c.resolved l.names) (sym (unsettled-open c p.1))
-            (transcript-again c.target n items es c.batch [] c.resolved l.names answer (open' h.worked p.1) p.1 again));
+            subst (λ (r : List Placed). IsTranscriptOf c.target n items (es ++ exchange answer ∷ []) (unsettled c) r c.resolved l.names) (sym (growing-open c p.some))
+            (subst (λ (u : List Placed). IsTranscriptOf c.target n items (es ++ exchange answer ∷ []) u [] c.resolved l.names) (sym (unsettled-open c p.some))
+            (transcript-again c.target n items es c.batch [] c.resolved l.names answer (open' h.worked p.some) p.some again));
       }
 
   keeps_judged : (status : ℕ) (j : Judgement) → judgement_of status ≡ j → Before → can_send c ≡ true → AfterAnswer (status_of status) (settled_by j status)
@@ -330,18 +285,18 @@ module _ (target : Target) (epoch shard n : ℕ) (items : List Item) (es : List 
       not_again x = cc
   keeps_judged status Again e h can = keeps_lost (status_of status) e h can
 
-  keeps_answered : (answer : Result Reply Lost) → Before → can_send c ≡ true → AfterAnswer answer (answered answer (working sent l))
+  keeps_answered : (answer : Result Reply Lost) → Before → can_send c ≡ true → AfterAnswer answer (answered answer (working (sent_core c) l))
   keeps_answered (Ok r) h can = subst (λ (w : Working). AfterAnswer (Ok r) w) (sym (replied r.status can)) (keeps_judged r.status (judgement_of r.status) refl h can)
   keeps_answered (Err lost) h can = subst (λ (w : Working). AfterAnswer (Err lost) w) (sym (lost_is can)) (keeps_lost (Err lost) tt h can)
     where
-      lost_is : can_send c ≡ true → working (lose sent) l ≡ working (record c { waiting = false }) l
-      lost_is s = rw (sent-awaits s) refl
+      lost_is : can_send c ≡ true → working (lose (sent_core c)) l ≡ working (record c { waiting = false }) l
+      lost_is s = rw (sent-awaits c s) refl
 
   -- the request of the open batch was sent
   pub keeps-send : (e : Exchange) → Before → can_send c ≡ true → e.request ≡ request_for c → Keeps target epoch shard n items (es ++ e ∷ []) (answered e.answer (working (send c) l))
   keeps-send e h can request =
-      subst (λ (s : Core). Keeps target epoch shard n items (es ++ e ∷ []) (answered e.answer (working s l))) (sym (sent-is can))
-      (subst (λ (r : List ℕ). Keeps target epoch shard n items (es ++ exchange_of r e.answer ∷ []) (answered e.answer (working sent l))) (sym request) (keeps_answered e.answer h can))
+      subst (λ (s : Core). Keeps target epoch shard n items (es ++ e ∷ []) (answered e.answer (working s l))) (sym (send-is c can))
+      (subst (λ (r : List ℕ). Keeps target epoch shard n items (es ++ exchange_of r e.answer ∷ []) (answered e.answer (working (sent_core c) l))) (sym request) (keeps_answered e.answer h can))
 
 pub frozen-builder : (c : Core) → can_freeze c ≡ true → (freeze c).builder ≡ []
 frozen-builder c can = rw can refl

@@ -1,5 +1,5 @@
 -- A worker that made one step more, and what it reports.
-use Rattle.std.proofs.Common.{◌≡◌, ◌⊎◌, ℕ, ◌+◌, ◌<◌, ◌≤◌, ◌^◌, Bool, true, false, true≢false, not, ◌&&◌, ◌||◌, nat_le, List, [], ◌∷◌, ◌++◌, length, Option, None, Some, IsSome, inl, refl, sym, ap, ◌∙◌, subst, append-nil, length-append, arith, cond}
+use Rattle.std.proofs.Common.{◌≡◌, ◌⊎◌, ℕ, ◌+◌, ◌<◌, ◌≤◌, ◌^◌, Bool, true, false, true≢false, not, ◌||◌, nat_le, List, [], ◌∷◌, ◌++◌, length, Option, None, Some, IsSome, inl, refl, sym, ap, ◌∙◌, subst, append-nil, length-append, arith, cond}
 use Rattle.std.proofs.lemmas.List.{length-map}
 use Rattle.std.specs.Ordering.{nat_cmp}
 use Rattle.std.specs.FinMap.{FinMap, get, empty, get-empty}
@@ -32,10 +32,11 @@ use Rattle.rw_worker.specs.Report.{is_hard, drain_of, IsOrderly, StopsAtHard, Is
 use Rattle.rw_worker.proofs.StepLemmas.{steps-push, after-push, items-append, exchanges-append}
 use Rattle.rw_worker.proofs.PauseLemmas.{pauses-push, retries-push, same-pause, counted-after, counted-same}
 use Rattle.rw_worker.proofs.TranscriptLemmas.{adds-append}
-use Rattle.rw_worker.proofs.KeepsLemmas.{Keeps, keeps-steps, keeps-start, answered-builder, can_take-parts, can_take-not_due, frozen-builder}
+use Rattle.rw_worker.proofs.KeepsLemmas.{Keeps, keeps-steps, keeps-start, answered-builder, frozen-builder}
 use Rattle.rw_worker.proofs.NameLemmas.{unnamed, names_before, AreBelow}
 use Rattle.rw_worker.proofs.TakeLemmas.{may-take, few}
 use Rattle.rw_shard_core.proofs.EmptyLemmas.{nil_from_empty}
+use Rattle.rw_shard_core.proofs.StepGuards.{take_parts, due_if_full}
 
 -- nothing was added
 pub adds-none : {X : Type 0} (a : Type 0) (old : List X) → Adds a a old old []
@@ -45,19 +46,12 @@ adds-none a old told = (told, sym (append-nil old))
 pub adds-due : (a b : Type 0) (old new : List ℕ) (ms due : ℕ) → Adds a b old new (ms ∷ []) → ms ≡ due → Adds a b old new (due ∷ [])
 adds-due a b old new ms due h is = subst (λ n. Adds a b old new (n ∷ [])) is h
 
--- nothing is taken while a batch is open
-cannot_take : (killed none due : Bool) → none ≡ false → (not killed && (none && not due)) ≡ false
-cannot_take true none due e = refl
-cannot_take false none due e = rw e refl
-
-pub open-full : (c : Core) → is_empty c.batch ≡ false → can_take c ≡ false
-open-full c some = cannot_take c.killed (is_empty c.batch) (is_due c) some
-
-due_of : (killed none due : Bool) → killed ≡ false → none ≡ true → (not killed && (none && not due)) ≡ false → due ≡ true
-due_of killed none true k e h = refl
-due_of true none false k e h = absurd (true≢false k)
-due_of false true false k e h = absurd (true≢false h)
-due_of false false false k e h = absurd (true≢false (sym e))
+-- an End that was taken has closed an empty builder
+closed_none : (i : Intake) (old new : Core) → IsClosed i old → new.builder ≡ [] → IsClosed i new
+closed_none (intake.Open d) old new h none = tt
+closed_none (intake.Ended Hard d) old new h none = h
+closed_none (intake.Ended Orderly d) old new h none = λ _. none
+closed_none (intake.Ended Reshard d) old new h none = λ _. none
 
 -- no more than a batch waits
 few_left : (n resolved : ℕ) (c : Core) (items : List Item) → c.taken ≡ samples_in items → c.taken ≡ c.resolved ++ (c.batch ++ c.builder) → length c.batch + length c.builder ≤ n → resolved ≡ length c.resolved → length (samples_in items) ≤ resolved + n
@@ -185,7 +179,7 @@ module _ {T P : Type 0} (tells : T → Type 0) (seen : T → List Exchange) (wai
   due_at : (i : Intake) (s : Sending T) (p : P) → At i s p → can_take s.core ≡ false → is_empty s.core.batch ≡ true → (is_due s.core ≡ true) × (can_freeze s.core ≡ true)
   due_at i s p h full none =
       let k = keeps-of (intake_drain i) s p h.sending in
-      let due = due_of s.core.killed (is_empty s.core.batch) (is_due s.core) k.alive none full in
+      let due = due_if_full s.core k.alive none full in
       (due, may k.alive none (k.due_some due))
     where
       may : s.core.killed ≡ false → is_empty s.core.batch ≡ true → is_empty s.core.builder ≡ false → can_freeze s.core ≡ true
@@ -211,18 +205,12 @@ module _ {T P : Type 0} (tells : T → Type 0) (seen : T → List Exchange) (wai
       let can = (due_at i s p h full none).1 in record {
         sending = sending-more (intake_drain i) (intake_drain i) s (record s { core = core; ledger = ledger }) p p h.sending (steps-frozen i s p core ledger h full none ok room) refl h.sending.made.history (sym (append-nil (intake_drain i).taken))
             (h.sending.counted ∙ ap length (sym (same_resolved can) ∙ ap (λ (c : Core). c.resolved) (sym ok)));
-        closed = closed_after i h.closed (ap (λ (c : Core). c.builder) ok ∙ frozen-builder s.core can);
+        closed = closed_none i s.core core h.closed (ap (λ (c : Core). c.builder) ok ∙ frozen-builder s.core can);
         last = h.last;
       }
     where
       same_resolved : can_freeze s.core ≡ true → (freeze s.core).resolved ≡ s.core.resolved
       same_resolved can = rw can refl
-
-      closed_after : (j : Intake) → IsClosed j s.core → core.builder ≡ [] → IsClosed j core
-      closed_after (intake.Open d) c e = tt
-      closed_after (intake.Ended Hard d) c e = c
-      closed_after (intake.Ended Orderly d) c e = λ _. e
-      closed_after (intake.Ended Reshard d) c e = λ _. e
 
   pub state-can_send : (drain : Draining) (s : Sending T) (p : P) → Going drain s p → is_empty s.core.batch ≡ false → can_send s.core ≡ true
   state-can_send drain s p h some = let k = keeps-of drain s p h in rw (k.alive, some, k.idle) refl
@@ -284,15 +272,9 @@ module _ {T P : Type 0} (tells : T → Type 0) (seen : T → List Exchange) (wai
       let k = keeps-of (intake_drain i) s p h.sending in
       let builder : v.core.builder ≡ [] = ap (λ (w : Working). w.core.builder) sent.becomes ∙ answered-builder sent.answer (working s.core s.ledger) ∙ k.one some in record {
         sending = sending-more (intake_drain i) (intake_drain i) s v p q h.sending (steps-sent i s v p q settled h some sent counts backoff waited) refl h.sending.made.history (sym (append-nil (intake_drain i).taken)) counted;
-        closed = closed_after i h.closed builder;
+        closed = closed_none i s.core v.core h.closed builder;
         last = h.last;
       }
-    where
-      closed_after : (j : Intake) → IsClosed j s.core → v.core.builder ≡ [] → IsClosed j v.core
-      closed_after (intake.Open d) c e = tt
-      closed_after (intake.Ended Hard d) c e = c
-      closed_after (intake.Ended Orderly d) c e = λ _. e
-      closed_after (intake.Ended Reshard d) c e = λ _. e
 
   -- the batch was settled
   pub steps-settled : (i : Intake) (s v : Sending T) (p q : P) (b : Bool) → b ≡ true → At i s p → is_empty s.core.batch ≡ false → Sent s v b → CountsOn s v true → v.backoff ≡ s.backoff → WaitsOn s p q true
@@ -438,13 +420,13 @@ module _ {T P : Type 0} (tells : T → Type 0) (seen : T → List Exchange) (wai
       all : Going d s p → s.core.builder ≡ [] → s.core.resolved ≡ samples_in d.taken
       all k none =
           let kept = keeps-of d s p k in
-          let batch = nil_from_empty s.core.batch (can_take-parts s.core can).0 in
+          let batch = nil_from_empty s.core.batch (take_parts s.core can).none in
           sym (append-nil s.core.resolved) ∙ ap (λ xs. s.core.resolved ++ xs) (sym none) ∙ ap (λ xs. s.core.resolved ++ (xs ++ s.core.builder)) (sym batch) ∙ sym kept.whole ∙ kept.taken_is
 
       at : (j : Kind) → At (intake.Ended j d) s p → Ran (report_of (end.Ended j d) None None s) p
       at Hard k = absurd k.closed
-      at Orderly k = stops (end.Ended Orderly d) None None s p k.sending (λ going orderly. all k.sending (k.closed (can_take-not_due s.core can))) tt (tt, tt) tt k.last
-      at Reshard k = stops (end.Ended Reshard d) None None s p k.sending (λ going orderly. all k.sending (k.closed (can_take-not_due s.core can))) tt (tt, tt) tt k.last
+      at Orderly k = stops (end.Ended Orderly d) None None s p k.sending (λ going orderly. all k.sending (k.closed (take_parts s.core can).not_due)) tt (tt, tt) tt k.last
+      at Reshard k = stops (end.Ended Reshard d) None None s p k.sending (λ going orderly. all k.sending (k.closed (take_parts s.core can).not_due)) tt (tt, tt) tt k.last
 
   -- a hard End was taken
   pub report-hard : (kind : Kind) (drain later : Draining) (s : Sending T) (p : P) → is_hard kind ≡ true → Going drain s p → can_take s.core ≡ true → later.queue ≡ drain.queue → later.taken ≡ drain.taken ++ item.End kind ∷ []

@@ -9,13 +9,14 @@ use Rattle.rw_ledger.specs.Names.{Named}
 use Rattle.rw_ledger.specs.declared.ledger.Reason.{Reason}
 use Rattle.rw_plain_queue.specs.Items.{Placed}
 use Rattle.rw_shard_core.specs.declared.config.Target.{Target}
-use Rattle.rw_shard_core.specs.Shard.{Core, positions, new_core, is_empty, can_take, can_freeze, freeze_room, can_send, awaits, send, lose, again}
+use Rattle.rw_shard_core.specs.Shard.{Core, positions, new_core, can_take, can_freeze, freeze_room, can_send, awaits, send, lose, again}
 use Rattle.rw_machine.specs.Shards.{Shard, Queued, One, FlushMark, EndMark, samples_in, pending, new_shard, has_room, shard_flush, shard_end, take_queued, take_front, shard_take, shard_freeze, shard_send, shard_lost, is_drained}
 use Rattle.rw_plain_queue.specs.declared.item.Kind.{Kind}
 use Rattle.rw_machine.specs.Steps.{change}
 use Rattle.rw_world_parts.specs.Held.{Held, put_mark, flushed}
 use Rattle.rw_world_parts.specs.Sending.{Sending, new_held, times, waiting, open_samples, IsShardAt, IsSending}
 use Rattle.rw_shard_core.proofs.EmptyLemmas.{nil_from_empty}
+use Rattle.rw_shard_core.proofs.StepGuards.{freeze_parts}
 
 pub positions-append : (xs ys : List Placed) → positions (xs ++ ys) ≡ positions xs ++ positions ys
 positions-append [] ys = refl
@@ -240,18 +241,13 @@ again_quiet s = let k = same_if true s.core false in core_quiet s (again s.core)
 pub send_quiet : (s : Shard) → Quiet s (shard_send s) × ((shard_send s).core.batch ≡ s.core.batch)
 send_quiet s = let k = same_if (can_send s.core) s.core true in (core_quiet s (send s.core) k.0 k.1, k.0.batch)
 
-guard : (k e f : Bool) → (not k && (e && not f)) ≡ true → e ≡ true
-guard true e f h = absurd (cc)
-guard false true f h = refl
-guard false false f h = absurd (cc)
-
 -- what is frozen waited before, and the ledger's room grows with the open batch
 freeze_if : (b : Bool) (s : Shard) (l : Named) → can_freeze s.core ≡ b →
     let t : Shard = record s { core = cond b (record s.core { builder = []; marked = false; batch = s.core.builder; waiting = false }) s.core } in
     let m : Named = cond b (record l { room = l.room + length s.core.builder }) l in
     Quiet s t × (length t.core.batch + l.room ≤ length s.core.batch + m.room) × (m.names ≡ l.names)
 freeze_if true s l e =
-    let none : s.core.batch ≡ [] = nil_from_empty s.core.batch (guard s.core.killed (is_empty s.core.batch) (is_empty s.core.builder) e) in
+    let none : s.core.batch ≡ [] = nil_from_empty s.core.batch (freeze_parts s.core e).none in
     let t : Shard = record s { core = record s.core { builder = []; marked = false; batch = s.core.builder; waiting = false } } in
     let same : pending t ≡ pending s = ap (λ zs. zs ++ samples_in s.queue) (append-nil s.core.builder ∙ ap (λ b. b ++ s.core.builder) (sym none)) in
     (record { target = refl; full = refl; epoch = refl; number = refl; put = refl; fewer = same_pending s t same }, omega arith, refl)

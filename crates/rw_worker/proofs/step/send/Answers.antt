@@ -1,6 +1,7 @@
 use Rattle.std.proofs.Common.{◌≡◌, ◌+◌, ◌-◌, ◌^◌, min, length, refl, ap, arith, rules}
 use Rattle.rw_worker.specs.Report.{intake_drain}
-use Rattle.rw_worker.proofs.StateLemmas.{adds-none, adds-due, open-full, state-can_send, state-room, pending-few, steps-settled, steps-again, steps-waited, state-settled, state-again, state-waited}
+use Rattle.rw_shard_core.proofs.StepGuards.{cannot_take}
+use Rattle.rw_worker.proofs.StateLemmas.{adds-none, adds-due, state-can_send, state-room, pending-few, steps-settled, steps-again, steps-waited, state-settled, state-again, state-waited}
 use Rattle.rw_worker.proofs.step.send.Goals as goal
 
 pub send_once-requires-clause-guard : goal.send_once-requires-clause-guard
@@ -45,11 +46,11 @@ returns-in-Ok-false-clause-steps g c =
 pub returns-in-Err-clause-state : goal.returns-in-Err-clause-state
 returns-in-Err-clause-state g c =
     let s = c.args.sending.now in
-    state-waited _ _ _ _ _ _ _ c.args._intake.now s _ c.args.pause.now _ c.requires.state (open-full s.core c.requires.some) c.in-Err.ensures.err c.in-Err.ensures.err_ledger c.in-Err.ensures.err_transport refl refl refl
+    state-waited _ _ _ _ _ _ _ c.args._intake.now s _ c.args.pause.now _ c.requires.state (cannot_take s.core c.requires.some) c.in-Err.ensures.err c.in-Err.ensures.err_ledger c.in-Err.ensures.err_transport refl refl refl
     (adds-due _ _ _ _ _ _ c.pause-in-Err.ensures c.least.ensures)
 
 pub returns-in-Err-clause-steps : goal.returns-in-Err-clause-steps
 returns-in-Err-clause-steps g c =
     let s = c.args.sending.now in
-    steps-waited _ _ _ _ _ _ _ (intake_drain c.args._intake.now) s _ c.args.pause.now _ c.requires.state.sending (open-full s.core c.requires.some) c.in-Err.ensures.err c.in-Err.ensures.err_ledger c.in-Err.ensures.err_transport refl refl
+    steps-waited _ _ _ _ _ _ _ (intake_drain c.args._intake.now) s _ c.args.pause.now _ c.requires.state.sending (cannot_take s.core c.requires.some) c.in-Err.ensures.err c.in-Err.ensures.err_ledger c.in-Err.ensures.err_transport refl refl
     (adds-due _ _ _ _ _ _ c.pause-in-Err.ensures c.least.ensures)
