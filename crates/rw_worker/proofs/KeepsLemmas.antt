@@ -27,13 +27,17 @@ use Rattle.rw_shard_core.proofs.EmptyLemmas.{nil_from_empty, is_empty-push}
 use Rattle.rw_shard_core.proofs.StepGuards.{take_parts, freeze_parts, send_parts, sent_core, send-is, sent-awaits, sent-answers}
 use Rattle.rw_plain_queue.proofs.Histories.{samples_in-append}
 
-pub record Keeps (target : Target) (epoch shard n : ℕ) (items : List Item) (exchanges : List Exchange) (w : Working) : Type 0 where
+-- what no step touches
+pub record Untouched (target : Target) (epoch shard n : ℕ) (its : Target) (its_epoch its_shard full : ℕ) (killed : Bool) : Type 0 where
   pub some : 0 < n
-  pub target_is : w.core.target ≡ target
-  pub epoch_is : w.core.epoch ≡ epoch
-  pub shard_is : w.core.shard ≡ shard
-  pub full_is : w.core.full ≡ n
-  pub alive : w.core.killed ≡ false
+  pub target_is : its ≡ target
+  pub epoch_is : its_epoch ≡ epoch
+  pub shard_is : its_shard ≡ shard
+  pub full_is : full ≡ n
+  pub alive : killed ≡ false
+
+pub record Keeps (target : Target) (epoch shard n : ℕ) (items : List Item) (exchanges : List Exchange) (w : Working) : Type 0 where
+  pub untouched : Untouched target epoch shard n w.core.target w.core.epoch w.core.shard w.core.full w.core.killed
   pub idle : w.core.waiting ≡ false
   pub taken_is : w.core.taken ≡ samples_in items
   pub whole : w.core.taken ≡ w.core.resolved ++ (w.core.batch ++ w.core.builder)
@@ -110,12 +114,7 @@ module _ (target : Target) (epoch shard n : ℕ) (items : List Item) (es : List 
       → Keeps target epoch shard n (items ++ x ∷ []) es (working (with_mark c ended) l)
   keeps_mark x ended h can none by =
       let p = take_parts c can in record {
-        some = h.some;
-        target_is = h.target_is;
-        epoch_is = h.epoch_is;
-        shard_is = h.shard_is;
-        full_is = h.full_is;
-        alive = h.alive;
+        untouched = h.untouched;
         idle = h.idle;
         taken_is = h.taken_is ∙ sym (append-nil (samples_in items)) ∙ ap (λ ys. samples_in items ++ ys) (sym none) ∙ sym (samples_in-append items (x ∷ []));
         whole = h.whole;
@@ -133,18 +132,13 @@ module _ (target : Target) (epoch shard n : ℕ) (items : List Item) (es : List 
   keeps_sample x y h can sample by =
       let p = take_parts c can in
       let ys = c.builder ++ y ∷ [] in
-      let u = sample_unsettled c y n p.none h.full_is p.unmarked in
-      let g = sample_growing c y n p.none h.full_is p.unmarked in record {
-        some = h.some;
-        target_is = h.target_is;
-        epoch_is = h.epoch_is;
-        shard_is = h.shard_is;
-        full_is = h.full_is;
-        alive = h.alive;
+      let u = sample_unsettled c y n p.none h.untouched.full_is p.unmarked in
+      let g = sample_growing c y n p.none h.untouched.full_is p.unmarked in record {
+        untouched = h.untouched;
         idle = h.idle;
         taken_is = ap (λ xs. xs ++ y ∷ []) h.taken_is ∙ ap (λ zs. samples_in items ++ zs) (sym sample) ∙ sym (samples_in-append items (x ∷ []));
         whole = ap (λ xs. xs ++ y ∷ []) h.whole ∙ append_assoc c.resolved (c.batch ++ c.builder) (y ∷ []) ∙ ap (λ zs. c.resolved ++ zs) (append_assoc c.batch c.builder (y ∷ []));
-        fits = let none = ap length (nil_from_empty c.batch p.none) in let left = p.room in let full = h.full_is in let longer = length-append c.builder (y ∷ []) in omega arith;
+        fits = let none = ap length (nil_from_empty c.batch p.none) in let left = p.room in let full = h.untouched.full_is in let longer = length-append c.builder (y ∷ []) in omega arith;
         one = λ e. absurd (true≢false (sym p.none ∙ e));
         due_some = λ d. is_empty-push c.builder y;
         room = h.room;
@@ -178,18 +172,13 @@ module _ (target : Target) (epoch shard n : ℕ) (items : List Item) (es : List 
       let same : unsettled frozen.core ≡ unsettled c = unsettled-open frozen.core p.some ∙ sym (unsettled-due c p.none due) in
       let rest : growing frozen.core ≡ growing c = growing-open frozen.core p.some ∙ sym (growing-due c p.none due) in
       subst (λ (w : Working). Keeps target epoch shard n items es w) (sym (frozen_is can)) (record {
-        some = h.some;
-        target_is = h.target_is;
-        epoch_is = h.epoch_is;
-        shard_is = h.shard_is;
-        full_is = h.full_is;
-        alive = h.alive;
+        untouched = h.untouched;
         idle = refl;
         taken_is = h.taken_is;
         whole = h.whole ∙ ap (λ xs. c.resolved ++ (xs ++ c.builder)) none ∙ ap (λ xs. c.resolved ++ xs) (sym (append-nil c.builder));
         fits = let none' = ap length none in let most = h.fits in omega arith;
         one = λ e. refl;
-        due_some = λ d. absurd (not_due h.some h.full_is d);
+        due_some = λ d. absurd (not_due h.untouched.some h.untouched.full_is d);
         room = ap (λ k. k + length c.builder) (h.room ∙ ap length none) ∙ zero-add (length c.builder);
         worked = subst (λ (r : List Placed). IsTranscriptOf c.target n items es (unsettled frozen.core) r c.resolved l.names) (sym rest)
             (subst (λ (u : List Placed). IsTranscriptOf c.target n items es u (growing c) c.resolved l.names) (sym same) h.worked);
@@ -221,12 +210,7 @@ module _ (target : Target) (epoch shard n : ℕ) (items : List Item) (es : List 
       let none = h.one p.some in
       let later = transcript-settle c.target n items es c.batch c.resolved l.names status (open' h.worked p.some) p.some final in
       let idle : is_due settled_core ≡ true → is_empty c.builder ≡ false = h.due_some in record {
-        some = h.some;
-        target_is = h.target_is;
-        epoch_is = h.epoch_is;
-        shard_is = h.shard_is;
-        full_is = h.full_is;
-        alive = h.alive;
+        untouched = h.untouched;
         idle = refl;
         taken_is = h.taken_is;
         whole = h.whole ∙ sym (append_assoc c.resolved c.batch c.builder);
@@ -255,12 +239,7 @@ module _ (target : Target) (epoch shard n : ℕ) (items : List Item) (es : List 
   keeps_lost : (answer : Result Reply Lost) → IsAgain answer → Before → can_send c ≡ true → AfterAnswer answer (working (record c { waiting = false }) l)
   keeps_lost answer again h can =
       let p = send_parts c can in record {
-        some = h.some;
-        target_is = h.target_is;
-        epoch_is = h.epoch_is;
-        shard_is = h.shard_is;
-        full_is = h.full_is;
-        alive = h.alive;
+        untouched = h.untouched;
         idle = refl;
         taken_is = h.taken_is;
         whole = h.whole;
@@ -346,12 +325,7 @@ keeps-steps target epoch shard n items es w (s ∷ ss) h may =
 
 pub keeps-start : (target : Target) (epoch shard n : ℕ) → 0 < n → Keeps target epoch shard n [] [] (new_working target epoch shard n)
 keeps-start target epoch shard n some = record {
-  some = some;
-  target_is = refl;
-  epoch_is = refl;
-  shard_is = refl;
-  full_is = refl;
-  alive = refl;
+  untouched = record { some = some; target_is = refl; epoch_is = refl; shard_is = refl; full_is = refl; alive = refl };
   idle = refl;
   taken_is = refl;
   whole = refl;

@@ -179,8 +179,8 @@ module _ {T P : Type 0} (tells : T → Type 0) (seen : T → List Exchange) (wai
   due_at : (i : Intake) (s : Sending T) (p : P) → At i s p → can_take s.core ≡ false → is_empty s.core.batch ≡ true → (is_due s.core ≡ true) × (can_freeze s.core ≡ true)
   due_at i s p h full none =
       let k = keeps-of (intake_drain i) s p h.sending in
-      let due = due_if_full s.core k.alive none full in
-      (due, may k.alive none (k.due_some due))
+      let due = due_if_full s.core k.untouched.alive none full in
+      (due, may k.untouched.alive none (k.due_some due))
     where
       may : s.core.killed ≡ false → is_empty s.core.batch ≡ true → is_empty s.core.builder ≡ false → can_freeze s.core ≡ true
       may a b c = rw (a, b, c) refl
@@ -213,7 +213,7 @@ module _ {T P : Type 0} (tells : T → Type 0) (seen : T → List Exchange) (wai
       same_resolved can = rw can refl
 
   pub state-can_send : (drain : Draining) (s : Sending T) (p : P) → Going drain s p → is_empty s.core.batch ≡ false → can_send s.core ≡ true
-  state-can_send drain s p h some = let k = keeps-of drain s p h in rw (k.alive, some, k.idle) refl
+  state-can_send drain s p h some = let k = keeps-of drain s p h in rw (k.untouched.alive, some, k.idle) refl
 
   pub state-room : (drain : Draining) (s : Sending T) (p : P) → Going drain s p → IsCore s.core → HasRoomFor s.core s.ledger
   state-room drain s p h core =
@@ -309,7 +309,7 @@ module _ {T P : Type 0} (tells : T → Type 0) (seen : T → List Exchange) (wai
   may-take-of drain later s p x h history taken =
       let k = keeps-of drain s p h in
       let q = h.made.queue_is in
-      may-take drain.queue.epoch drain.queue.shard drain.taken x s.core k.taken_is (k.epoch_is ∙ ap (λ (d : QueueId). d.epoch) (sym q)) (k.shard_is ∙ ap (λ (d : QueueId). d.shard) (sym q))
+      may-take drain.queue.epoch drain.queue.shard drain.taken x s.core k.taken_is (k.untouched.epoch_is ∙ ap (λ (d : QueueId). d.epoch) (sym q)) (k.untouched.shard_is ∙ ap (λ (d : QueueId). d.shard) (sym q))
       (subst (λ (xs : List Item). IsHistory drain.queue.epoch drain.queue.shard xs) taken history)
 
   history_of : (drain : Draining) (items : List Item) → drain.queue ≡ setup.queue → IsHistory drain.queue.epoch drain.queue.shard items → IsHistory setup.queue.epoch setup.queue.shard items
@@ -374,7 +374,7 @@ module _ {T P : Type 0} (tells : T → Type 0) (seen : T → List Exchange) (wai
       steps = ss;
       made = made;
       worked = k.worked;
-      target = k.target_is;
+      target = k.untouched.target_is;
       counted = counted;
       few = few_left setup.batch r.resolved (after (start_of setup) ss).core (drain_of r.end).taken k.taken_is k.whole k.fits counted;
       names = names;
