@@ -29,7 +29,8 @@ use Rattle.rw_simulation.specs.EpochRuns.{ShardFate}
 use Rattle.rw_simulation.specs.Arrivals.{Arrival, IsAnsweredBy, IsOneReceiver}
 use Rattle.rw_simulation.proofs.Changes.{change-is, change-get, get-last, Goes, not-over}
 use Rattle.rw_simulation.proofs.FreeLaws.{keeps-laws}
-use Rattle.rw_simulation.proofs.WorkerSteps.{moved, take-is, sent_core, sent_shard, sent_awaits, sent_answers, out_is, own_ids, ledger-step}
+use Rattle.rw_simulation.proofs.WorkerSteps.{moved, take-is, sent_shard, out_is, own_ids, ledger-step}
+use Rattle.rw_shard_core.proofs.StepGuards.{sent_core, sent-awaits, sent-answers}
 use Rattle.rw_simulation.proofs.WorkerLists.{core_after, after-is, numbered-after, epoch-step, goes-on, can-end-after}
 use Rattle.rw_simulation.proofs.Tallies.{Names, GrowAlike, alike-self, alike-by, own-requests, other-requests, with_part, part-own, part-other, tallied-shard, tallied-still}
 use Rattle.rw_simulation.proofs.EpochRuns.{each-update}
@@ -378,7 +379,7 @@ module _ (c : Setup) (exs : ℕ → ℕ → List Exchange) (arrivals : List Arri
             ap (unless_over c w (event.Reply answer.at)) (not-over w k (sent_shard q) at (alive-now j m w h.all, inr (undrained k (Some (exchange_of bytes (Ok r))) st ss q wk.ledger (λ e. cc) wk.allowed wk.can_end)))
             ∙ ap (take_reply w) reply
             ∙ ap (reply_to w (record { id = batch_id q.core.batch; status = r.status })) (ap (slice_get w.shards) at_own ∙ at)
-            ∙ rw (sent_answers q.core wk.allowed.0.0) refl
+            ∙ rw (sent-answers q.core wk.allowed.0.0) refl
             ∙ ap (λ (i : ℕ). record w { names = names_after r.status q.core.batch w.names; shards = change i (with_core (settle (judgement_of r.status))) w.shards }) at_own
             ∙ ap (λ zs. record w { names = names_after r.status q.core.batch w.names; shards = zs })
             (change-is (with_core (settle (judgement_of r.status))) k w.shards (sent_shard q) at ∙ (λ i. change k (λ _. record q { queue = wk.queue i; core = core_is i }) w.shards))
@@ -404,7 +405,7 @@ module _ (c : Setup) (exs : ℕ → ℕ → List Exchange) (arrivals : List Arri
         at = h.at ∙ ap Some wk.is
 
         core_is : lose (sent_core q.core) ≡ (after_step st (working q.core wk.ledger)).core
-        core_is = rw (sent_awaits q.core wk.allowed.0.0) refl ∙ sym (after-is st q.core wk.ledger wk.allowed.0)
+        core_is = rw (sent-awaits q.core wk.allowed.0.0) refl ∙ sym (after-is st q.core wk.ledger wk.allowed.0)
 
         gone : happens c w (event.Lost k) ≡ moved w k t w.names w.requests w.replies
         gone =

@@ -25,7 +25,8 @@ use Rattle.rw_machine.specs.Worlds.{Setup}
 use Rattle.rw_simulation.specs.WorkerRuns.{step_names, steps_names}
 use Rattle.rw_simulation.specs.EpochRuns.{end_in}
 use Rattle.rw_simulation.specs.FleetRuns.{IsShardRun}
-use Rattle.rw_simulation.proofs.WorkerSteps.{sent_core, ledger-all}
+use Rattle.rw_simulation.proofs.WorkerSteps.{ledger-all}
+use Rattle.rw_shard_core.proofs.StepGuards.{sent_core}
 use Rattle.rw_simulation.proofs.WorkerLists.{answered_core, core_after, after-is}
 
 -- an End as a Flush

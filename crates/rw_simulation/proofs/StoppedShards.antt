@@ -20,7 +20,7 @@ use Rattle.rw_fleet.specs.Work.{IsWorked, is_compared, lane_of, put_of, taken_of
 use Rattle.rw_machine.specs.Worlds.{Setup}
 use Rattle.rw_simulation.specs.FleetRuns.{IsShardRun}
 use Rattle.rw_simulation.specs.StoppedShards.{IsShardOf, StopsAsShard}
-use Rattle.rw_simulation.proofs.WorkerSteps.{sent_core}
+use Rattle.rw_shard_core.proofs.StepGuards.{sent_core}
 use Rattle.rw_simulation.proofs.WorkerLists.{answered_core, core_after, after-is}
 
 -- ---- what a worker has taken

@@ -1,6 +1,6 @@
 -- What a worker's step leaves of its shard: its number, and the lengths of its lists.
 use Rattle.std.proofs.Common.{◌≡◌, ℕ, suc, ◌+◌, Bool, true, false, not, ◌&&◌, ◌==◌, List, [], ◌∷◌, ◌++◌, map, length, Result, Ok, Err, refl, sym, ap, ◌∙◌, length-append, arith}
-use Rattle.std.proofs.lemmas.Bool.{ne_eqb, not-true, and_parts}
+use Rattle.std.proofs.lemmas.Bool.{ne_eqb}
 use Rattle.rw_ledger.specs.Names.{Named}
 use Rattle.rw_retry.specs.Judgements.{judgement_of}
 use Rattle.rw_retry.specs.declared.judgement.Judgement.{Judgement}
@@ -16,7 +16,7 @@ use Rattle.rw_worker.specs.Steps.{Working, working, Step, Takes, Freezes, Sends,
 use Rattle.rw_machine.specs.Shards.{Shard, Queued, is_drained, samples_in}
 use Rattle.rw_machine.proofs.Others.{no_batch}
 use Rattle.rw_simulation.specs.WorkerRuns.{queued, AreOf, IsShardNumbered, CanEnd}
-use Rattle.rw_simulation.proofs.WorkerSteps.{sent-is, sent_core, sent_awaits, sent_answers, send_parts}
+use Rattle.rw_shard_core.proofs.StepGuards.{freeze_parts, send_parts, sent_core, send-is, sent-awaits, sent-answers}
 
 of-append : (epoch i : ℕ) (xs ys : List Placed) → AreOf epoch i xs → AreOf epoch i ys → AreOf epoch i (xs ++ ys)
 of-append epoch i [] ys h k = k
@@ -41,8 +41,8 @@ after-is Waits c l may = refl
 after-is (Sends e) c l may = by_answer e.answer
   where
     by_answer : (a : Result Reply Lost) → (answered a (working (send c) l)).core ≡ answered_core a c
-    by_answer (Ok r) = ap (λ (k : Core). reply (batch_id k.batch) r.status k) (sent-is c may.0) ∙ rw (sent_answers c may.0) refl
-    by_answer (Err lost) = ap lose (sent-is c may.0) ∙ rw (sent_awaits c may.0) refl
+    by_answer (Ok r) = ap (λ (k : Core). reply (batch_id k.batch) r.status k) (send-is c may.0) ∙ rw (sent-answers c may.0) refl
+    by_answer (Err lost) = ap lose (send-is c may.0) ∙ rw (sent-awaits c may.0) refl
 
 numbered_settle : (i : ℕ) (j : Judgement) (c : Core) → IsShardNumbered i c → IsShardNumbered i (settle j (sent_core c))
 numbered_settle i Done c h = record { number = h.number; batch = tt; builder = h.builder }
@@ -113,7 +113,7 @@ goes-on s (Takes x) ss acts may h = by_ended s.core.ended refl
     by_ended true e = absurd (no_items x (items_of ss) (h.ended e))
     by_ended false e = rw e refl
 goes-on s Freezes ss acts may h =
-    let n = some_length s.core.builder (not-true (is_empty s.core.builder) (and_parts (is_empty s.core.batch) (not (is_empty s.core.builder)) (and_parts (not s.core.killed) (is_empty s.core.batch && not (is_empty s.core.builder)) may.1).1).1) in
+    let n = some_length s.core.builder (freeze_parts s.core may.1).some in
     let m = n.1 in let k = h.kept in not_drained s (λ e. omega arith)
 goes-on s (Sends x) ss acts may h =
     let n = some_length s.core.batch (send_parts s.core may.0).some in

@@ -1,15 +1,14 @@
 -- A worker's steps are events of its shard.
-use Rattle.std.proofs.Common.{◌≡◌, ℕ, true, false, not, ◌&&◌, List, [], ◌∷◌, ◌++◌, length, Some, Result, Ok, Err, slice_get, refl, sym, ap, ◌∙◌, append-nil}
+use Rattle.std.proofs.Common.{◌≡◌, ℕ, true, false, List, [], ◌∷◌, ◌++◌, length, Some, Result, Ok, Err, slice_get, refl, sym, ap, ◌∙◌, append-nil}
 use Rattle.std.specs.Ordering.{nat_cmp}
 use Rattle.std.specs.FinMap.{FinMap}
-use Rattle.std.proofs.lemmas.Bool.{not-true, and_parts}
 use Rattle.rw_ledger.specs.declared.ledger.Reason.{Reason}
 use Rattle.rw_ledger.specs.Names.{Named}
 use Rattle.rw_retry.specs.Judgements.{judgement_of}
 use Rattle.rw_plain_queue.specs.Items.{Placed}
 use Rattle.rw_plain_queue.specs.declared.item.Item.{Item}
 use Rattle.rw_plain_queue.specs.declared.item.Item.TheVariants.{Sample, Flush, End}
-use Rattle.rw_shard_core.specs.Shard.{Core, can_take, take_item, freeze, can_send, send, awaits, is_answer, is_empty, batch_id, settle, lose, reply, reply_names}
+use Rattle.rw_shard_core.specs.Shard.{Core, can_take, take_item, freeze, can_send, send, is_empty, batch_id, settle, lose, reply, reply_names}
 use Rattle.rw_worker.specs.declared.transport.Reply.{Reply}
 use Rattle.rw_worker.specs.declared.transport.Lost.{Lost}
 use Rattle.rw_worker.specs.Transcript.{exchange_of}
@@ -19,7 +18,7 @@ use Rattle.rw_machine.specs.Worlds.{Setup, Request, World, is_over}
 use Rattle.rw_machine.specs.Worlds as worlds
 use Rattle.rw_machine.specs.Steps.{change, happens, unless_over, names_after, request_by, send_batch, take_reply, reply_to, turned_away}
 use Rattle.rw_machine.specs.declared.event.Event.TheVariants as event
-use Rattle.rw_machine.proofs.Live.{same_id_own}
+use Rattle.rw_shard_core.proofs.StepGuards.{send_parts, sent_core, send-is, sent-answers}
 use Rattle.rw_simulation.specs.Freely.{Answered, run_freely, happens_freely}
 use Rattle.rw_simulation.specs.WorkerRuns.{queued, step_happenings, answer_happenings, IsAfter, IsIdOf, IsShardNumbered, AreOf, answer_names, step_names, steps_names}
 use Rattle.rw_simulation.proofs.Changes.{change-is, change-get, change-twice, get-last, Goes, not-over}
@@ -67,30 +66,8 @@ freeze-step c w i s l rest e goes q may = record {
 }
 
 -- an attempt of the open batch
-abbrev pub sent_core : Core → Core
-sent_core c = record c { waiting = true }
-
 abbrev pub sent_shard : Shard → Shard
 sent_shard s = record s { core = sent_core s.core }
-
-pub sent-is : (c : Core) → can_send c ≡ true → send c ≡ sent_core c
-sent-is c can = rw can refl
-
-pub record SendParts (c : Core) : Type 0 where
-  pub alive : c.killed ≡ false
-  pub some : is_empty c.batch ≡ false
-
-pub send_parts : (c : Core) → can_send c ≡ true → SendParts c
-send_parts c can = let both = (and_parts (not c.killed) (not (is_empty c.batch) && not c.waiting) can).1 in record {
-  alive = not-true c.killed (and_parts (not c.killed) (not (is_empty c.batch) && not c.waiting) can).0;
-  some = not-true (is_empty c.batch) (and_parts (not (is_empty c.batch)) (not c.waiting) both).0;
-}
-
-pub sent_awaits : (c : Core) → can_send c ≡ true → awaits (sent_core c) ≡ true
-sent_awaits c can = let p = send_parts c can in rw (p.alive, p.some) refl
-
-pub sent_answers : (c : Core) → can_send c ≡ true → is_answer (batch_id c.batch) (sent_core c) ≡ true
-sent_answers c can = rw (sent_awaits c can) (same_id_own (batch_id c.batch))
 
 -- the names of a worker's part, after a step that may be made
 pub ledger-step : (st : Step) (w : Working) → MayStep st w.core → (after_step st w).ledger.names ≡ step_names st w.core w.ledger.names
@@ -100,7 +77,7 @@ ledger-step Waits w may = refl
 ledger-step (Sends e) w may = by_answer e.answer
   where
     by_answer : (a : Result Reply Lost) → (answered a (working (send w.core) w.ledger)).ledger.names ≡ answer_names a w.core.batch w.ledger.names
-    by_answer (Ok r) = ap (λ (k : Core). (reply_names (batch_id k.batch) r.status k w.ledger).names) (sent-is w.core may.0) ∙ rw (sent_answers w.core may.0) (settle_names-room (judgement_of r.status) r.status w.core.batch w.ledger)
+    by_answer (Ok r) = ap (λ (k : Core). (reply_names (batch_id k.batch) r.status k w.ledger).names) (send-is w.core may.0) ∙ rw (sent-answers w.core may.0) (settle_names-room (judgement_of r.status) r.status w.core.batch w.ledger)
     by_answer (Err lost) = refl
 
 pub ledger-all : (w : Working) (ss : List Step) → AreSteps w ss → (after w ss).ledger.names ≡ steps_names ss w w.ledger.names
@@ -124,7 +101,7 @@ module _ (c : Setup) (w : World) (i : ℕ) (s : Shard) (e : slice_get w.shards i
       ap (unless_over c w (event.Send i)) (not-over w i s e goes)
       ∙ ap (send_batch w i) e
       ∙ rw can refl
-      ∙ ap (λ ss. record w { requests = w.requests ++ request ∷ []; shards = ss }) (change-is shard_send i w.shards s e ∙ ap (λ (k : Core). change i (λ _. record s { core = k }) w.shards) (sent-is s.core can))
+      ∙ ap (λ ss. record w { requests = w.requests ++ request ∷ []; shards = ss }) (change-is shard_send i w.shards s e ∙ ap (λ (k : Core). change i (λ _. record s { core = k }) w.shards) (send-is s.core can))
 
   pub own_ids : IsIdOf s.core.epoch i request
   own_ids = batch_ids s.core.epoch i s.core.batch (send_parts s.core can).some numbered.batch
@@ -161,7 +138,7 @@ module _ (c : Setup) (w : World) (i : ℕ) (s : Shard) (e : slice_get w.shards i
       ap (unless_over c (back status) (event.Reply (length w.replies))) (not-over (back status) i (sent_shard s) out_get goes)
       ∙ ap (take_reply (back status)) (get-last w.replies (answer status))
       ∙ ap (reply_to (back status) (answer status)) (ap (slice_get out.shards) at_own ∙ out_get)
-      ∙ rw (sent_answers s.core can) refl
+      ∙ rw (sent-answers s.core can) refl
       ∙ ap (λ (k : ℕ). record (back status) { names = names_after status s.core.batch w.names; shards = change k (with_core (settle (judgement_of status))) out.shards }) at_own
       ∙ ap (λ ss. record (back status) { names = names_after status s.core.batch w.names; shards = ss })
       (change-is (with_core (settle (judgement_of status))) i out.shards (sent_shard s) out_get ∙ change-twice (sent_shard s) (settled_shard status) i w.shards)
@@ -184,13 +161,13 @@ module _ (c : Setup) (w : World) (i : ℕ) (s : Shard) (e : slice_get w.shards i
   }
     where
       core_is : settle (judgement_of r.status) (sent_core s.core) ≡ reply (batch_id (send s.core).batch) r.status (send s.core)
-      core_is = sym (ap (λ (k : Core). reply (batch_id k.batch) r.status k) (sent-is s.core can) ∙ rw (sent_answers s.core can) refl)
+      core_is = sym (ap (λ (k : Core). reply (batch_id k.batch) r.status k) (send-is s.core can) ∙ rw (sent-answers s.core can) refl)
   send-step l rest bytes (Err lost) q may = record {
     requests = request ∷ [];
     replies = [];
     is = ap (λ v. run_freely c (answer_happenings w i (Err lost)) v) out_is
         ∙ lost_is
-        ∙ ap (λ (t : Shard). moved w i t w.names (w.requests ++ request ∷ []) w.replies) (ap (λ (xs : List Queued). record s { queue = xs; core = lose (sent_core s.core) }) q ∙ ap (λ (k : Core). record s { queue = rest; core = lose k }) (sym (sent-is s.core can)))
+        ∙ ap (λ (t : Shard). moved w i t w.names (w.requests ++ request ∷ []) w.replies) (ap (λ (xs : List Queued). record s { queue = xs; core = lose (sent_core s.core) }) q ∙ ap (λ (k : Core). record s { queue = rest; core = lose k }) (sym (send-is s.core can)))
         ∙ ap (λ rs. moved w i (record s { queue = rest; core = lose (send s.core) }) w.names (w.requests ++ request ∷ []) rs) (sym (append-nil w.replies));
     ledger_is = refl;
     sent = ap (λ (x : List ℕ). x ∷ []) (sym may.1);
