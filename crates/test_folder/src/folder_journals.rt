@@ -1,6 +1,9 @@
 //! Journals in the files of a folder: what they write, which folders they refuse, and what is there
 //! after each call of a device failed in turn.
 
+ghost use Rattle.std.specs.Prelude.{OnOk};
+ghost use Rattle.rw_journal.specs.Journal.{Only};
+
 use crate::failing_files::{Countdown, FailingFiles};
 use rw_journal::{Journal, JournalError};
 use rw_kept_folder::{FaultCause, FolderError, open_journal};
@@ -35,14 +38,19 @@ fn has_text(rt: &HostRuntime, dir: Path<'_>, file: &str, text: Option<&str>) -> 
 }
 
 /// Writes a segment, and begins the next one.
-fn write_segment<J: Journal>(journal: &mut J, text: &str) -> Result<(), JournalError> {
+fn write_segment<J: Journal>(journal: &mut J, text: &str) -> Result<(), JournalError>
+    requires { Only (J.seen journal.old) (J.may_leave journal.old) }
+    ensures { OnOk result (Only (J.seen journal.new) (J.may_leave journal.new)) }
+{
     journal.append(text.as_bytes())?;
     journal.sync()?;
     journal.begin()
 }
 
 /// Reads both segments, cuts the second one to a byte, and writes a third one.
-fn go_on<J: Journal>(journal: &mut J, alloc: Global) -> Result<bool, JournalError> {
+fn go_on<J: Journal>(journal: &mut J, alloc: Global) -> Result<bool, JournalError>
+    requires { Only (J.seen journal.old) (J.may_leave journal.old) }
+{
     let is_whole = journal.count() == 2
         && journal.read(alloc, 0)?.as_slice() == b"abc".as_slice()
         && journal.read(alloc, 1)?.as_slice() == b"de".as_slice();
@@ -73,9 +81,9 @@ fn a_folder_is_written_cut_and_read_again(rt: HostRuntime) -> Result<(), Fail> {
     )?;
     let mut journal = open_journal(&rt, dir.as_path().as_str())?;
     assert_eq!(rt; journal.count(), 0);
-    assert_eq!(rt; journal.begin(), Ok(()));
-    assert_eq!(rt; write_segment(&mut journal, "abc"), Ok(()));
-    assert_eq!(rt; journal.append(b"de"), Ok(()));
+    journal.begin()?;
+    write_segment(&mut journal, "abc")?;
+    journal.append(b"de")?;
     assert!(rt; open_and_go_on(&rt, dir.as_path().as_str()));
     assert!(rt; has_text(&rt, dir.as_path(), "00000000", Some("abc")));
     assert!(rt; has_text(&rt, dir.as_path(), "00000001", Some("d")));
