@@ -10,4 +10,5 @@ pub mod PartLemmas
 pub mod PlaceLemmas
 pub mod StagingLemmas
 pub mod StoreLemmas
+pub mod TableLemmas
 pub mod VerdictLemmas

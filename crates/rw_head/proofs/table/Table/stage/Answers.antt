@@ -1,4 +1,4 @@
-use Rattle.std.proofs.Common.{◌≡◌, length, map, get_or, None, Some, Ok, Err, [], ap, subst, sym, ◌∙◌, arith}
+use Rattle.std.proofs.Common.{◌≡◌, ℕ, length, map, get_or, Some, Ok, Err, [], ap, subst, sym, ◌∙◌, arith}
 use Rattle.std.proofs.lemmas.List.{length-set}
 use Rattle.std.proofs.lemmas.Result.{err_from_is_err_and}
 use Rattle.std.specs.BTreeMap.{get}
@@ -10,9 +10,10 @@ use Rattle.rw_head.specs.Order.{points, accept}
 use Rattle.rw_head.specs.Store.{list_of, with_list}
 use Rattle.rw_head.specs.Verdicts.{accepted, taken_unless, taken}
 use Rattle.rw_head.specs.Growth.{HoldsNoneRefused}
-use Rattle.rw_head.specs.Lists.{no_lists, kept_store, staged_store, ListGives, IsSound, IsAdded}
-use Rattle.rw_head.proofs.PlaceLemmas.{IsSound-added, IsSound-same, none_refused, staged_at, staged_few, staged_nowhere, staged-set, kept-set, kept-added, staged-added}
-use Rattle.rw_head.proofs.StagingLemmas.{IsSound-staged, StoreGives-list, taken_by, judged_alone, staged-same, accepted_has}
+use Rattle.rw_head.specs.Lists.{no_lists, IsSound, IsAdded}
+use Rattle.rw_head.proofs.PlaceLemmas.{IsSound-same, none_refused, staged_few, staged_nowhere}
+use Rattle.rw_head.proofs.StagingLemmas.{taken_by, judged_alone, staged-same, accepted_has}
+use Rattle.rw_head.proofs.TableLemmas.{held_at, held_in}
 use Rattle.rw_head.proofs.table.Table.stage.Goals as goal
 
 pub returns-then-is_empty-clause-staged : goal.returns-then-is_empty-clause-staged
@@ -45,58 +46,25 @@ stage_held-requires-clause-most c =
 pub invariant_of-self-in-At : goal.invariant_of-self-in-At
 invariant_of-self-in-At c =
     let l = map text_label c.deref-2.result.now in
-    let index = c.find.new.self.tree in
-    let lists = c.self.inside.lists.items in
-    let sound = subst (λ ts. IsSound index lists ts c.self.inside.fresh.items c.self.inside.count c.self.inside.staged_count) (sym c.reserve.ensures.items)
-    (subst (λ t. IsSound t lists c.self.inside.touched.items c.self.inside.fresh.items c.self.inside.count c.self.inside.staged_count) (sym c.find.ensures.tree) c.self.invariant.0) in
     let found = subst (λ f. Finds f l (get labels_cmp c.self.inside.places.tree l)) c.in-At.is c.in_ok-found.ensures.found in
-    let at : get labels_cmp index l ≡ Some c.in-At.place = ap (λ t. get labels_cmp t l) c.find.ensures.tree ∙ found in
-    let held = c.stage_held.ensures.held in
     let few = c.stage_held.ensures.few in
     let room = c.has_room.ensures.0 c.if-not-has_room.false in
-    let news = c.stage_held.new.lists.items in (
-      IsSound-staged index lists news c.reserve.new.self.items c.stage_held.new.touched.items c.self.inside.fresh.items c.self.inside.count c.self.inside.staged_count _ l c.in-At.place
-          sound at held (omega (arith, few, room)),
-      omega (arith, c.self.invariant.1, ap length c.find.ensures.names, ap length held.list, length-set lists c.in-At.place (get_or news c.in-At.place no_lists)),
-    )
-
-pub returns-in_ok-reserve-in-At-clause-kept : goal.returns-in_ok-reserve-in-At-clause-kept
-returns-in_ok-reserve-in-At-clause-kept c =
-    let l = map text_label c.deref-2.result.now in
-    let index = c.find.new.self.tree in
-    let sound = subst (λ t. IsSound t c.self.inside.lists.items c.self.inside.touched.items c.self.inside.fresh.items c.self.inside.count c.self.inside.staged_count) (sym c.find.ensures.tree) c.self.invariant.0 in
-    let found = subst (λ f. Finds f l (get labels_cmp c.self.inside.places.tree l)) c.in-At.is c.in_ok-found.ensures.found in
-    let at : get labels_cmp index l ≡ Some c.in-At.place = ap (λ t. get labels_cmp t l) c.find.ensures.tree ∙ found in
-    let lists = c.self.inside.lists.items in
-    let news = c.stage_held.new.lists.items in
-    let n = c.in-At.place in
+    let h = held_at c.stage_held.result l (points c.as_slice-samples.result.now) c.find.ensures.tree c.reserve.ensures.items c.self.invariant.0 (ap (λ s. s.staged) c.self.view_is) found c.stage_held.ensures.held c.stage_held.ensures.staged (omega (arith, few, room)) in
     let held = c.stage_held.ensures.held in
-    ap (kept_store index.entries) held.list
-    ∙ kept-set index lists l n (get_or news n no_lists) sound.places at held.kept
-    ∙ ap (λ t. kept_store t.entries lists) c.find.ensures.tree ∙ ap (λ s. s.kept) c.self.view_is
+    (h.sound, omega (arith, c.self.invariant.1, ap length c.find.ensures.names, ap length held.list, length-set c.self.inside.lists.items c.in-At.place (get_or c.stage_held.new.lists.items c.in-At.place no_lists)))
 
-pub returns-in_ok-reserve-in-At-clause-staged : goal.returns-in_ok-reserve-in-At-clause-staged
-returns-in_ok-reserve-in-At-clause-staged c =
+pub returns-in_ok-reserve-in-At : goal.returns-in_ok-reserve-in-At
+returns-in_ok-reserve-in-At c =
     let l = map text_label c.deref-2.result.now in
-    let index = c.find.new.self.tree in
-    let sound = subst (λ t. IsSound t c.self.inside.lists.items c.self.inside.touched.items c.self.inside.fresh.items c.self.inside.count c.self.inside.staged_count) (sym c.find.ensures.tree) c.self.invariant.0 in
     let found = subst (λ f. Finds f l (get labels_cmp c.self.inside.places.tree l)) c.in-At.is c.in_ok-found.ensures.found in
-    let lists = c.self.inside.lists.items in
-    let news = c.stage_held.new.lists.items in
-    let n = c.in-At.place in
-    let x = get_or news n no_lists in
-    let s = c.args.self.now.staged in
+    let few = c.stage_held.ensures.few in
+    let room = c.has_room.ensures.0 c.if-not-has_room.false in
+    let h = held_at c.stage_held.result l (points c.as_slice-samples.result.now) c.find.ensures.tree c.reserve.ensures.items c.self.invariant.0 (ap (λ s. s.staged) c.self.view_is) found c.stage_held.ensures.held c.stage_held.ensures.staged (omega (arith, few, room)) in
     let ss = c.as_slice-samples.result.now in
-    let pts = points ss in
-    let held = c.stage_held.ensures.held in
-    let at : get labels_cmp index l ≡ Some c.in-At.place = ap (λ t. get labels_cmp t l) c.find.ensures.tree ∙ found in
-    let before : staged_store index.entries lists ≡ s = ap (λ t. staged_store t.entries lists) c.find.ensures.tree ∙ ap (λ s. s.staged) c.self.view_is in
-    let list : (get_or lists n no_lists).staged ≡ list_of s l = sym (staged_at index lists l n at) ∙ ap (λ s. list_of s l) before in
-    let shown = ap (λ ts. series_of ts ss) c.deref-2.ensures.value ∙ ap (series_of c.series.inside.labels.items) c.as_slice-samples.ensures.value ∙ c.series.view_is in
-    taken_by c.stage_held.result c.args.bounds.now s _ (series_of c.deref-2.result.now ss) c.args.series.now shown c.in_ok-found.ensures.taken
-    (StoreGives-list c.stage_held.result l s _ (accept (Some (list_of s l)) pts) x.staged
-    (subst (λ xs. ListGives c.stage_held.result (accept (Some xs) pts) x.staged) list c.stage_held.ensures.staged)
-    (ap (staged_store index.entries) held.list ∙ staged-set index lists l n x sound.places at ∙ ap (with_list l x.staged) before))
+    let shown = ap (λ ts. series_of ts ss) c.deref-2.ensures.value ∙ ap (series_of c.series.inside.labels.items) c.as_slice-samples.ensures.value ∙ c.series.view_is in record {
+      kept = h.kept ∙ ap (λ s. s.kept) c.self.view_is;
+      staged = taken_by c.stage_held.result c.args.bounds.now c.args.self.now.staged _ (series_of c.deref-2.result.now ss) c.args.series.now shown c.in_ok-found.ensures.taken h.gives;
+    }
 
 pub returns-in_err-list-in-Nowhere-clause-staged : goal.returns-in_err-list-in-Nowhere-clause-staged
 returns-in_err-list-in-Nowhere-clause-staged c =
@@ -126,56 +94,29 @@ pub invariant_of-self-in-Nowhere : goal.invariant_of-self-in-Nowhere
 invariant_of-self-in-Nowhere c =
     let l = map text_label c.deref-2.result.now in
     let missing = subst (λ f. Finds f l (get labels_cmp c.self.inside.places.tree l)) c.in-Nowhere.is c.in_ok-found.ensures.found in
-    let index = c.find.new.self.tree in
-    let tree : index ≡ c.self.inside.places.tree = c.find.ensures.tree in
-    let absent : get labels_cmp index l ≡ None = ap (λ t. get labels_cmp t l) tree ∙ missing.1 in
-    let add : IsAdded index c.add_list.new.places.tree c.self.inside.lists.items c.add_list.new.lists.items c.self.inside.touched.items c.add_list.new.touched.items c.self.inside.fresh.items c.add_list.new.fresh.items l c.in_ok-list-in-Nowhere.list =
-    subst (λ l. IsAdded index c.add_list.new.places.tree c.self.inside.lists.items c.add_list.new.lists.items c.self.inside.touched.items c.add_list.new.touched.items c.self.inside.fresh.items c.add_list.new.fresh.items l c.in_ok-list-in-Nowhere.list) missing.0 c.in_ok-add_list-in-Nowhere.ensures.ok in
-    let sound = subst (λ t. IsSound t c.self.inside.lists.items c.self.inside.touched.items c.self.inside.fresh.items c.self.inside.count c.self.inside.staged_count) (sym tree) c.self.invariant.0 in
+    let add = subst (λ n. IsAdded c.find.new.self.tree c.add_list.new.places.tree c.self.inside.lists.items c.add_list.new.lists.items c.self.inside.touched.items c.add_list.new.touched.items c.self.inside.fresh.items c.add_list.new.fresh.items n c.in_ok-list-in-Nowhere.list) missing.0 c.in_ok-add_list-in-Nowhere.ensures.ok in
+    let list = c.in_ok-list-in-Nowhere.ensures in
     let room = c.has_room.ensures.0 c.if-not-has_room.false in
-    let few = c.in_ok-list-in-Nowhere.ensures.few in (
-      IsSound-added index c.add_list.new.places.tree c.self.inside.lists.items c.add_list.new.lists.items c.self.inside.touched.items c.add_list.new.touched.items c.self.inside.fresh.items c.add_list.new.fresh.items
-          c.self.inside.count c.self.inside.staged_count _ l c.in_ok-list-in-Nowhere.list sound absent add c.in_ok-list-in-Nowhere.ensures.kept
-          (accepted_has c.as_slice-samples.result.now c.in_ok-list-in-Nowhere.list.staged c.if-is_empty.ensures c.in_ok-list-in-Nowhere.ensures.staged) (omega arith) (omega (arith, room, few)),
+    let few = list.few in
+    let h = held_in l (points c.as_slice-samples.result.now) c.find.ensures.tree c.self.invariant.0 (ap (λ s. s.staged) c.self.view_is) missing.1 add list.kept (accepted_has c.as_slice-samples.result.now c.in_ok-list-in-Nowhere.list.staged c.if-is_empty.ensures list.staged) list.staged (omega (arith, room, few)) in (
+      subst (λ (m : ℕ). IsSound c.add_list.new.places.tree c.add_list.new.lists.items c.add_list.new.touched.items c.add_list.new.fresh.items c.self.inside.count m) (omega arith) h.sound,
       c.add_list.ensures.names,
     )
 
-pub returns-in_ok-add_list-in-Nowhere-clause-kept : goal.returns-in_ok-add_list-in-Nowhere-clause-kept
-returns-in_ok-add_list-in-Nowhere-clause-kept c =
+pub returns-in_ok-add_list-in-Nowhere : goal.returns-in_ok-add_list-in-Nowhere
+returns-in_ok-add_list-in-Nowhere c =
     let l = map text_label c.deref-2.result.now in
     let missing = subst (λ f. Finds f l (get labels_cmp c.self.inside.places.tree l)) c.in-Nowhere.is c.in_ok-found.ensures.found in
-    let index = c.find.new.self.tree in
-    let tree : index ≡ c.self.inside.places.tree = c.find.ensures.tree in
-    let absent : get labels_cmp index l ≡ None = ap (λ t. get labels_cmp t l) tree ∙ missing.1 in
-    let add : IsAdded index c.add_list.new.places.tree c.self.inside.lists.items c.add_list.new.lists.items c.self.inside.touched.items c.add_list.new.touched.items c.self.inside.fresh.items c.add_list.new.fresh.items l c.in_ok-list-in-Nowhere.list =
-    subst (λ l. IsAdded index c.add_list.new.places.tree c.self.inside.lists.items c.add_list.new.lists.items c.self.inside.touched.items c.add_list.new.touched.items c.self.inside.fresh.items c.add_list.new.fresh.items l c.in_ok-list-in-Nowhere.list) missing.0 c.in_ok-add_list-in-Nowhere.ensures.ok in
-    let sound = subst (λ t. IsSound t c.self.inside.lists.items c.self.inside.touched.items c.self.inside.fresh.items c.self.inside.count c.self.inside.staged_count) (sym tree) c.self.invariant.0 in
-    ap (kept_store c.add_list.new.places.tree.entries) add.behind
-    ∙ kept-added c.self.inside.lists.items index c.add_list.new.places.tree l c.in_ok-list-in-Nowhere.list sound.places absent c.in_ok-list-in-Nowhere.ensures.kept add.place
-    ∙ ap (λ t. kept_store t.entries c.self.inside.lists.items) tree ∙ ap (λ s. s.kept) c.self.view_is
-
-pub returns-in_ok-add_list-in-Nowhere-clause-staged : goal.returns-in_ok-add_list-in-Nowhere-clause-staged
-returns-in_ok-add_list-in-Nowhere-clause-staged c =
-    let l = map text_label c.deref-2.result.now in
-    let missing = subst (λ f. Finds f l (get labels_cmp c.self.inside.places.tree l)) c.in-Nowhere.is c.in_ok-found.ensures.found in
-    let index = c.find.new.self.tree in
-    let tree : index ≡ c.self.inside.places.tree = c.find.ensures.tree in
-    let absent : get labels_cmp index l ≡ None = ap (λ t. get labels_cmp t l) tree ∙ missing.1 in
-    let add : IsAdded index c.add_list.new.places.tree c.self.inside.lists.items c.add_list.new.lists.items c.self.inside.touched.items c.add_list.new.touched.items c.self.inside.fresh.items c.add_list.new.fresh.items l c.in_ok-list-in-Nowhere.list =
-    subst (λ l. IsAdded index c.add_list.new.places.tree c.self.inside.lists.items c.add_list.new.lists.items c.self.inside.touched.items c.add_list.new.touched.items c.self.inside.fresh.items c.add_list.new.fresh.items l c.in_ok-list-in-Nowhere.list) missing.0 c.in_ok-add_list-in-Nowhere.ensures.ok in
-    let sound = subst (λ t. IsSound t c.self.inside.lists.items c.self.inside.touched.items c.self.inside.fresh.items c.self.inside.count c.self.inside.staged_count) (sym tree) c.self.invariant.0 in
-    let s = c.args.self.now.staged in
-    let pts = points c.as_slice-samples.result.now in
-    let x = c.in_ok-list-in-Nowhere.list in
-    let none : list_of s l ≡ [] = ap (λ t. list_of t.staged l) (sym c.self.view_is) ∙ staged_nowhere c.self.inside.places.tree c.self.inside.lists.items l missing.1 in
-    let after : staged_store c.add_list.new.places.tree.entries c.add_list.new.lists.items ≡ with_list l x.staged s =
-    ap (staged_store c.add_list.new.places.tree.entries) add.behind ∙ staged-added c.self.inside.lists.items index c.add_list.new.places.tree l x sound.places add.place
-    ∙ ap (λ t. with_list l x.staged (staged_store t.entries c.self.inside.lists.items)) tree
-    ∙ ap (λ t. with_list l x.staged t.staged) c.self.view_is in
+    let add = subst (λ n. IsAdded c.find.new.self.tree c.add_list.new.places.tree c.self.inside.lists.items c.add_list.new.lists.items c.self.inside.touched.items c.add_list.new.touched.items c.self.inside.fresh.items c.add_list.new.fresh.items n c.in_ok-list-in-Nowhere.list) missing.0 c.in_ok-add_list-in-Nowhere.ensures.ok in
+    let list = c.in_ok-list-in-Nowhere.ensures in
+    let room = c.has_room.ensures.0 c.if-not-has_room.false in
+    let few = list.few in
+    let h = held_in l (points c.as_slice-samples.result.now) c.find.ensures.tree c.self.invariant.0 (ap (λ s. s.staged) c.self.view_is) missing.1 add list.kept (accepted_has c.as_slice-samples.result.now c.in_ok-list-in-Nowhere.list.staged c.if-is_empty.ensures list.staged) list.staged (omega (arith, room, few)) in
     let ss = c.as_slice-samples.result.now in
-    let shown = ap (λ ts. series_of ts ss) c.deref-2.ensures.value ∙ ap (series_of c.series.inside.labels.items) c.as_slice-samples.ensures.value ∙ c.series.view_is in
-    taken_by (Ok tt) c.args.bounds.now s _ (series_of c.deref-2.result.now ss) c.args.series.now shown c.in_ok-found.ensures.taken
-    (ap (accepted l s) (ap (λ xs. accept (Some xs) pts) none ∙ c.in_ok-list-in-Nowhere.ensures.staged) ∙ ap Ok (sym after))
+    let shown = ap (λ ts. series_of ts ss) c.deref-2.ensures.value ∙ ap (series_of c.series.inside.labels.items) c.as_slice-samples.ensures.value ∙ c.series.view_is in record {
+      kept = h.kept ∙ ap (λ s. s.kept) c.self.view_is;
+      staged = taken_by (Ok tt) c.args.bounds.now c.args.self.now.staged _ (series_of c.deref-2.result.now ss) c.args.series.now shown c.in_ok-found.ensures.taken h.gives;
+    }
 
 pub add_list-requires : goal.add_list-requires
 add_list-requires c =
