@@ -43,7 +43,7 @@ use Rattle.rw_machine.specs.declared.event.Event.TheVariants as event
 use Rattle.rw_machine.specs.Promises.{CanWork}
 use Rattle.rw_machine.proofs.Lists.{Lists}
 use Rattle.rw_machine.proofs.Lists as lists
-use Rattle.rw_simulation.specs.Freely.{Happening, Of, run_freely}
+use Rattle.rw_simulation.specs.Freely.{Of, run_freely}
 use Rattle.rw_simulation.specs.FreeLaws.{world_of}
 use Rattle.rw_simulation.specs.WorkerRuns.{queued, sent_bytes, request_in}
 use Rattle.rw_simulation.specs.Tallies.{Past, IsTallied, requests_of}
@@ -53,6 +53,7 @@ use Rattle.rw_simulation.specs.StoppedShards.{IsShardOf}
 use Rattle.rw_simulation.specs.StoppedRuns.{IsSetAs, IsAlike, IsRisingOrderOf, Tells, IsRun, first_number, StopsAbandoned}
 use Rattle.rw_simulation.proofs.Changes.{run-append}
 use Rattle.rw_simulation.proofs.EntryRuns.{over_not}
+use Rattle.rw_simulation.proofs.EpochRuns.{go-on}
 use Rattle.rw_simulation.proofs.FreeLaws.{keeps-laws}
 use Rattle.rw_simulation.proofs.FleetRuns.{fleet-run}
 use Rattle.rw_simulation.proofs.ReshardRuns.{BeginsEpoch}
@@ -63,7 +64,8 @@ use Rattle.rw_simulation.proofs.StoppedShards.{has-taken, with-what-is-left}
 use Rattle.rw_simulation.proofs.RisingOrders.{is_in, passing-permutes, passing-rises}
 use Rattle.rw_simulation.proofs.Positions.{position_of, ArePartOf, AreApart, part-of, part-dropped, positions_in-is, all-apart}
 use Rattle.rw_simulation.proofs.FlushedShards.{flushed, flushed_step, flushed_lane, samples_in-flushed, end_in-flushed, exchanges_of-flushed, names-flushed, goes-alike, run-flushed}
-use Rattle.rw_simulation.proofs.StoppedRuns.{Fed, feeds, no_more, none-asked, Known, known-all, Sound, sound-all, AtLast, turned-before, turned-run, begun, fed-all, begins}
+use Rattle.rw_simulation.proofs.StoppedRuns.{Fed, no_more, none-asked, Known, known-all, Sound, sound-all, Comes, turn-run, begun-run}
+use Rattle.rw_simulation.proofs.EpochTurns.{turned-before, AtLast, turn-all}
 
 -- ---- a shard to which no End is to come has done all
 no_queued : (x : Queued) (xs : List Queued) → [] ≡ x ∷ xs → ⊥
@@ -444,63 +446,53 @@ module _ {T : Type 0} (tells : T → Type 0) (seen : T → List Exchange) (is_fo
   first-is [] = same
   first-is (x ∷ xs) = refl
 
-  -- all is fed
-  abbrev origin : World
-  origin = begun tells seen c s.log.pieces fed fed_are
+  abbrev ComesHere : List (StoppedShard T) → ℕ → List (List ShardHistory) → List Entry → Type 0
+  ComesHere = Comes tells seen is_for c s.fleet.config set work (no_more tells seen is_for) s.log.pieces (map lane_of last)
 
-  at-last : AtLast tells seen is_for c s.fleet.config set work (no_more tells seen is_for) was.ended s.log.pieces (map lane_of last) [] s.log.placed origin
-  at-last = turned-run tells seen is_for c s.fleet.config set work (no_more tells seen is_for) p.epochs (map lane_of last) 0 [] was.ended [] s.log.placed h.read.0 s.log.pieces origin sound p.ended_is placed (turned-before p.epochs (map lane_of last) p.turned (subst IsShardCount (sym same) number))
-      (subst (λ (i : ℕ). BeginsEpoch c (past_of tells seen []) s.log.pieces 0 i [] origin) (sym (first-is p.epochs ∙ first)) (begins tells seen c s.log.pieces fed fed_are)) h.read.1
+  at-last : AtLast c.choice (map lane_of last) ComesHere was.ended [] s.log.placed
+  at-last = turn-all (Sound tells seen is_for c s.fleet.config set work (no_more tells seen is_for)) c.choice s.log.pieces (map lane_of last) h.read.0 ComesHere (turn-run tells seen is_for c s.fleet.config set work (no_more tells seen is_for) s.log.pieces (map lane_of last)) p.epochs 0 [] was.ended [] s.log.placed
+      sound p.ended_is placed (turned-before p.epochs (map lane_of last) p.turned (subst IsShardCount (sym same) number)) h.read.1
+      (subst (λ (i : ℕ). Reaches ⊥ c (start c) (BeginsEpoch c (past_of tells seen []) s.log.pieces 0 i [])) (sym (first-is p.epochs ∙ first)) (begun-run tells seen c s.log.pieces fed fed_are))
 
-  last-run : Reaches ⊥ c at-last.reach.world (Killed tells seen is_for c s.fleet.config set work (no_more tells seen is_for) was.ended s.log.pieces (at-last.now ++ at-last.later) last)
-  last-run = abandoned-run tells seen is_for c s.fleet.config set work (no_more tells seen is_for) at-last.epoch last known-last (subst (λ (m : ℕ). 1 ≤ m) (sym same ∙ length-map last lane_of) number.0) at-last.now at-last.later at-last.dealt h.read.0 was.ended s.log.pieces at-last.reach.world
-      (subst (λ (m : ℕ). BeginsEpoch c (past_of tells seen was.ended) s.log.pieces at-last.epoch m at-last.now at-last.reach.world) (length-map last lane_of) at-last.reach.holds)
-      (h.read.1 ∙ ap (λ (xs : List Entry). xs ++ h.read.0) at-last.are ∙ append_assoc at-last.now at-last.later h.read.0)
+  whole : Reaches ⊥ c (start c) (Killed tells seen is_for c s.fleet.config set work (no_more tells seen is_for) was.ended s.log.pieces (at-last.now ++ at-last.later) last)
+  whole = go-on c (start c) _ _ at-last.at (λ w b. abandoned-run tells seen is_for c s.fleet.config set work (no_more tells seen is_for) at-last.epoch last known-last (subst (λ (m : ℕ). 1 ≤ m) (sym same ∙ length-map last lane_of) number.0) at-last.now at-last.later at-last.dealt h.read.0 was.ended s.log.pieces w
+      (subst (λ (m : ℕ). BeginsEpoch c (past_of tells seen was.ended) s.log.pieces at-last.epoch m at-last.now w) (length-map last lane_of) b)
+      (h.read.1 ∙ ap (λ (xs : List Entry). xs ++ h.read.0) at-last.are ∙ append_assoc at-last.now at-last.later h.read.0))
 
-  abbrev events : List Happening
-  events = feeds fed ++ (at-last.reach.events ++ last-run.events)
+  over : Killed tells seen is_for c s.fleet.config set work (no_more tells seen is_for) was.ended s.log.pieces (at-last.now ++ at-last.later) last whole.world
+  over = whole.holds
 
-  leads : world_of c events ≡ last-run.world
-  leads = run-append c (feeds fed) (at-last.reach.events ++ last-run.events) (start c)
-      ∙ ap (run_freely c (at-last.reach.events ++ last-run.events)) (fed-all tells seen c s.log.pieces fed fed_are)
-      ∙ run-append c at-last.reach.events last-run.events origin
-      ∙ ap (run_freely c last-run.events) at-last.reach.is
-      ∙ last-run.is
+  tallied : IsTallied c (past_of tells seen h.joined) over.epoch 0 s.log.placed (λ k. empty) (world_of c whole.events)
+  tallied = subst (λ (js : List (StoppedShard T)). IsTallied c (past_of tells seen js) over.epoch 0 s.log.placed (λ k. empty) (world_of c whole.events)) (sym all.1)
+      (subst (λ (v : World). IsTallied c (past_of tells seen (was.ended ++ last)) over.epoch 0 s.log.placed (λ k. empty) v) (sym whole.is)
+      (subst (λ (es : List Entry). IsTallied c (past_of tells seen (was.ended ++ last)) over.epoch 0 es (λ k. empty) whole.world) (sym at-last.are) over.tallied))
 
-  over : Killed tells seen is_for c s.fleet.config set work (no_more tells seen is_for) was.ended s.log.pieces (at-last.now ++ at-last.later) last last-run.world
-  over = last-run.holds
-
-  tallied : IsTallied c (past_of tells seen h.joined) over.epoch 0 s.log.placed (λ k. empty) (world_of c events)
-  tallied = subst (λ (js : List (StoppedShard T)). IsTallied c (past_of tells seen js) over.epoch 0 s.log.placed (λ k. empty) (world_of c events)) (sym all.1)
-      (subst (λ (v : World). IsTallied c (past_of tells seen (was.ended ++ last)) over.epoch 0 s.log.placed (λ k. empty) v) (sym leads)
-      (subst (λ (es : List Entry). IsTallied c (past_of tells seen (was.ended ++ last)) over.epoch 0 es (λ k. empty) last-run.world) (sym at-last.are) over.tallied))
-
-  tells-left-so : (o : Outcome) → Ends s h.joined o → IsAbandoned o → Tells o (report (world_of c events))
+  tells-left-so : (o : Outcome) → Ends s h.joined o → IsAbandoned o → Tells o (report (world_of c whole.events))
   tells-left-so (outcome.Complete end) ends stopped = absurd stopped
   tells-left-so (outcome.Damaged f) ends stopped = absurd stopped
   tells-left-so (outcome.Abandoned count ps) ends stopped = (
     over.left,
-    ap report leads ∙ over.reported ∙ ap (λ (i : ℕ). Some (Abandoned i over.left)) (ap length (sym at-last.are) ∙ sym ends.0),
+    ap report whole.is ∙ over.reported ∙ ap (λ (i : ℕ). Some (Abandoned i over.left)) (ap length (sym at-last.are) ∙ sym ends.0),
     subst (λ (xs : List ℕ). IsRisingOrderOf xs over.left) (sym (ends.1 ∙ left-by-last h.joined was.ended last all.1 resolved)) over.order,
   )
 
   whole-run : IsAbandoned r.outcome → IsRun tells seen c s r
   whole-run stopped = (
-    events,
+    whole.events,
     record {
-      log = ap (λ (x : World). x.pieces) leads ∙ over.pieces_are;
-      placed = ap (λ (x : World). x.placed) leads ∙ over.placed_are ∙ ap length (sym at-last.are);
-      filtered = ap (λ (x : World). x.filtered) leads ∙ over.counted ∙ ap (λ (xs : List Entry). length (filtered c.choice xs)) (sym at-last.are) ∙ ap (λ (ch : Choice). length (filtered ch s.log.placed)) choice ∙ sym h.filter_count;
+      log = ap (λ (x : World). x.pieces) whole.is ∙ over.pieces_are;
+      placed = ap (λ (x : World). x.placed) whole.is ∙ over.placed_are ∙ ap length (sym at-last.are);
+      filtered = ap (λ (x : World). x.filtered) whole.is ∙ over.counted ∙ ap (λ (xs : List Entry). length (filtered c.choice xs)) (sym at-last.are) ∙ ap (λ (ch : Choice). length (filtered ch s.log.placed)) choice ∙ sym h.filter_count;
       earlier = map finished_of was.ended;
       last = map finished_of last;
       workers = h.workers ∙ ap (map finished_of) all.1 ∙ map-append finished_of was.ended last;
-      shards = ap (λ (x : World). length x.shards) leads ∙ over.shards ∙ sym (length-map last finished_of);
-      each = λ k m f e at. let g = map_get finished_of last k f at in subst (λ (y : Finished T). IsAlike y m) g.2 (over.each k m g.0 (ap (λ (x : World). slice_get x.shards k) (sym leads) ∙ e) g.1);
-      names = names-all tells seen is_for c s r h choice over.epoch (world_of c events) tallied;
-      requests = sends-all tells seen is_for c s r h choice over.epoch (world_of c events) tallied;
+      shards = ap (λ (x : World). length x.shards) whole.is ∙ over.shards ∙ sym (length-map last finished_of);
+      each = λ k m f e at. let g = map_get finished_of last k f at in subst (λ (y : Finished T). IsAlike y m) g.2 (over.each k m g.0 (ap (λ (x : World). slice_get x.shards k) (sym whole.is) ∙ e) g.1);
+      names = names-all tells seen is_for c s r h choice over.epoch (world_of c whole.events) tallied;
+      requests = sends-all tells seen is_for c s r h choice over.epoch (world_of c whole.events) tallied;
       outcome_is = tells-left-so r.outcome h.ends stopped;
     },
-    keeps-laws c events,
+    keeps-laws c whole.events,
   )
 
 pub stops-abandoned : {T : Type 0} (tells : T → Type 0) (seen : T → List Exchange) (is_for : ℕ → ℕ → T → Type 0) (s : Shipping T) (r : Report T) → StopsAbandoned tells seen is_for s r

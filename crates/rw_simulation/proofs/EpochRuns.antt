@@ -50,6 +50,10 @@ go-on c w P Q r f = let q = f r.world r.holds in record {
   own = λ h. AllByRecursion-append IsOwn r.events q.events (r.own h) (q.own h);
 }
 
+-- whether or not it is quiet
+pub aloud : {quiet : Type 0} (c : Setup) (w : World) (P : World → Type 0) → Reaches quiet c w P → Reaches ⊥ c w P
+aloud c w P r = record { events = r.events; world = r.world; is = r.is; holds = r.holds; own = λ no. absurd no }
+
 -- if nothing is sent on the way, nothing is sent by the steps that are to come
 second_none : (xs ys : List (List ℕ)) → xs ++ ys ≡ [] → ys ≡ []
 second_none [] ys e = e

@@ -9,6 +9,7 @@ pub mod Entries
 pub mod EntryRuns
 pub mod EpochArrivals
 pub mod EpochRuns
+pub mod EpochTurns
 pub mod FleetRuns
 pub mod FlushedShards
 pub mod FreeLaws
@@ -16,6 +17,7 @@ pub mod FreeNames
 pub mod MarkRuns
 pub mod OwnRuns
 pub mod ReceivedRuns
+pub mod OrderlyEnds
 pub mod Passed
 pub mod Pasts
 pub mod Positions

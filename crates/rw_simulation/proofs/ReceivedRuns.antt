@@ -1,9 +1,9 @@
 -- What one receiver holds, by a run of the machine in which the requests come in the order in which
 -- they came.
-use Rattle.std.proofs.Common.{◌≡◌, ℕ, zero, suc, ◌+◌, ◌<◌, ◌≤◌, ◌==◌, ◌||◌, true, false, cond, List, [], ◌∷◌, ◌++◌, map, length, take, Option, None, Some, is_some, slice_get, refl, sym, ap, ◌∙◌, subst, append-nil, append_assoc, length-append, arith, ◌⊎◌, inl, inr}
+use Rattle.std.proofs.Common.{◌≡◌, ℕ, zero, suc, ◌+◌, ◌<◌, ◌≤◌, ◌==◌, ◌||◌, true, false, List, [], ◌∷◌, ◌++◌, map, length, take, Option, None, Some, slice_get, refl, sym, ap, ◌∙◌, subst, append-nil, append_assoc, length-append, arith, ◌⊎◌, inl, inr}
 use Rattle.std.specs.List.{AllByRecursion, list_all, list_any}
 use Rattle.std.specs.FinMap.{empty}
-use Rattle.std.proofs.lemmas.Bool.{eq-eqb, eqb-true, and_parts}
+use Rattle.std.proofs.lemmas.Bool.{eqb-true, and_parts}
 use Rattle.std.proofs.lemmas.List.{length-map, take-append-le}
 use Rattle.std.proofs.lemmas.Option.{same_Some, none-some, slice_get_within}
 use Rattle.rw_types.proofs.AllLemmas.{AllByRecursion-left, AllByRecursion-right}
@@ -47,10 +47,10 @@ use Rattle.rw_sender.specs.Shipping.{Shipping, PlacesAll, HasStopped, Ends}
 use Rattle.rw_sender.specs.declared.report.Report.{Report}
 use Rattle.rw_sender.proofs.PlacementLemmas.{whole_is, whole_placed}
 use Rattle.rw_sender.proofs.ShippingLemmas.{all_is, ends_last}
-use Rattle.rw_machine.specs.Shards.{Shard, is_drained, pending, shard_end, shard_flush}
+use Rattle.rw_machine.specs.Shards.{Shard, is_drained, pending}
 use Rattle.rw_machine.specs.Worlds.{Setup, World, start, log, ended_as, is_pending, report}
 use Rattle.rw_shard_core.specs.Endings.{Complete, Damaged}
-use Rattle.rw_machine.specs.Steps.{happens, mark, run, unless_over}
+use Rattle.rw_machine.specs.Steps.{run}
 use Rattle.rw_machine.specs.declared.event.Event.{Event}
 use Rattle.rw_machine.specs.declared.event.Event.TheVariants as event
 use Rattle.rw_machine.specs.declared.event.How.{How}
@@ -66,12 +66,13 @@ use Rattle.rw_simulation.specs.FleetRuns.{IsShardRun, fate_at}
 use Rattle.rw_simulation.specs.StoppedRuns.{IsSetAs, NamesAll, first_number}
 use Rattle.rw_simulation.specs.Arrivals.{Arrival, Receives, IsOneReceiver}
 use Rattle.rw_simulation.specs.Received.{AreOfSteps, AreExchangesOf, IsHeld, is_left, owed_of_placed, ReceivesInOrder, ReceivesAbandoned}
-use Rattle.rw_simulation.proofs.EntryRuns.{over_not}
-use Rattle.rw_simulation.proofs.ReshardRuns.{BeginsEpoch, asked, draining, ended, next, next-begins, restarts}
-use Rattle.rw_simulation.proofs.EndRuns.{IsResolvedFate, IsOver, end-all, tallies-at, drained-all}
-use Rattle.rw_simulation.proofs.Tallies.{Passes, lists-at, tallied-still, tallied-next}
+use Rattle.rw_simulation.proofs.EpochTurns.{turned-before, Turns, AtLast, turn-all}
+use Rattle.rw_simulation.proofs.OrderlyEnds.{HasEnded, closed, orderly-run, has-ended}
+use Rattle.rw_simulation.proofs.ReshardRuns.{BeginsEpoch, draining, drain-run, next, next-begins, restarts}
+use Rattle.rw_simulation.proofs.EndRuns.{IsResolvedFate, IsOver, tallies-at}
+use Rattle.rw_simulation.proofs.Tallies.{Passes, lists-at, tallied-next}
 use Rattle.rw_simulation.proofs.Pasts.{get-first, get-either, get_map, map_get, past_of, passes-of, names-all}
-use Rattle.rw_simulation.proofs.StoppedRuns.{Fed, feeds, Known, AreAsked, known-all, Sound, sound-all, Split, split_map, Parted, part, none_joined, AreBefore, turned-before, Found, find, steps_in, lane-at, fates, fate-end, fate-resolved, reports-at, begun, fed-all, begins}
+use Rattle.rw_simulation.proofs.StoppedRuns.{Fed, feeds, Known, AreAsked, known-all, Sound, sound-all, Found, find, steps_in, lane-at, fates, fate-end, fate-resolved, reports-at, begun, fed-all, begins}
 use Rattle.rw_simulation.proofs.AbandonedRuns as soft
 use Rattle.rw_simulation.proofs.AbandonedRuns.{KnownOf, FoundAt, find-at, come, soft_lane, put-split, left-by-last}
 use Rattle.rw_simulation.proofs.RisingOrders.{is_in}
@@ -192,6 +193,21 @@ module _ {T : Type 0} (tells : T → Type 0) (seen : T → List Exchange) (is_fo
     pub arrived : Arrived m w
     pub sent : SentBelow epoch w
 
+  -- and it is at the start of an epoch of this many shards
+  pub record IsBegun (pieces : List Piece) (done : List (StoppedShard T)) (epoch n : ℕ) (before : List Entry) : Type 0 where
+    pub m : ℕ
+    pub world : World
+    pub begins : BeginsEpoch c (past_of tells seen done) pieces epoch n before world
+    pub at : IsReached m epoch world
+
+  -- all has come but what is of later epochs
+  pub record Came (epoch : ℕ) (P : World → Type 0) : Type 0 where
+    pub made : ℕ
+    pub world : World
+    pub arrived : Arrived made world
+    pub stop : (made ≡ length arrivals) ⊎ ((a : Arrival) × (slice_get arrivals made ≡ Some a) × (epoch < a.epoch))
+    pub holds : P world
+
   pub on-own : (m epoch : ℕ) (w v : World) (hs : List Happening) → IsReached m epoch w → AllByRecursion IsOwn hs → run_freely c hs w ≡ v → IsReached m epoch v
   on-own m epoch w v hs h own is = record {
     few = h.few;
@@ -260,7 +276,7 @@ module _ {T : Type 0} (tells : T → Type 0) (seen : T → List Exchange) (is_fo
       pub put-at : IsReached m epoch put.world
       put-at = on-own m epoch w put.world put.events at (put-quiet c exs arrivals heads one lanes w _ put) put.is
 
-      -- from a world in which each shard is to be put its End
+      -- all that is to be sent was sent, and each shard has been put its End
       pub record AllGone (u : World) : Type 0 where
         pub made : ℕ
         pub world : World
@@ -268,169 +284,76 @@ module _ {T : Type 0} (tells : T → Type 0) (seen : T → List Exchange) (is_fo
         pub now : IsReached made (suc epoch) world
         pub stop : (made ≡ length arrivals) ⊎ ((a : Arrival) × (slice_get arrivals made ≡ Some a) × (epoch < a.epoch))
 
-      pub all-gone : (u : World) → u.killed ≡ false → (r : Reaches (AreUnsent (first_at lanes)) c u (IsOver c past epoch (length lanes) (first_at lanes) (before ++ es) u)) → IsReached m epoch u → AllGone u
-      all-gone u alive r now = record { made = gone.m; world = gone.world; over = gone.over; now = record { few = few-then gone.m gone.stop; arrived = gone.arrived; sent = gone.sent }; stop = gone.stop }
+      pub all-gone : (v u : World) → u.killed ≡ false → (r : Reaches (AreUnsent (first_at lanes)) c v (IsOver c past epoch (length lanes) (first_at lanes) (before ++ es) u)) → IsReached m epoch v → AllGone u
+      all-gone v u alive r now = record { made = gone.m; world = gone.world; over = gone.over; now = record { few = few-then gone.m gone.stop; arrived = gone.arrived; sent = gone.sent }; stop = gone.stop }
         where
           here : IsReached m epoch r.world
-          here = on-own m epoch u r.world r.events now (put-quiet c exs arrivals heads one lanes u _ r) r.is
+          here = on-own m epoch v r.world r.events now (put-quiet c exs arrivals heads one lanes v _ r) r.is
 
           gone : Gone c exs arrivals heads one past epoch lanes steps (λ k. []) (before ++ es) u alive within told-at runs
           gone = goes c exs arrivals heads one past epoch lanes steps (λ k. []) (before ++ es) u alive within told-at runs m r.world here.few r.holds here.arrived here.sent
 
       -- ---- an epoch before the last one
       module _ (is_reshard : kd ≡ kind.Reshard) (next_number : ℕ) (least : 1 ≤ next_number) (most : next_number ≤ 1000) where
-        abbrev pub asking : World
+        abbrev asking : World
         asking = draining c past pieces epoch (length lanes) next_number (first_at lanes) (before ++ es) least most put.world put.holds
 
-        pub gone-next : AllGone asking
-        gone-next = all-gone asking put.holds.under.going.0
-            (ended c past pieces epoch (length lanes) next_number (first_at lanes) (before ++ es) least most put.world put.holds room (λ k lt. first-end k lt ∙ ap Some is_reshard))
-            (on-own m epoch put.world asking (Of (event.Reshard next_number) ∷ []) put-at (tt, tt) (asked c past pieces epoch (length lanes) next_number (first_at lanes) (before ++ es) least most put.world put.holds))
+        gone-next : AllGone asking
+        gone-next = all-gone put.world asking put.holds.under.going.0
+            (drain-run c past pieces epoch (length lanes) next_number (first_at lanes) (before ++ es) least most put.world put.holds room (λ k lt. first-end k lt ∙ ap Some is_reshard)) put-at
 
-        abbrev pub later-world : World
-        later-world = next c past (past_of tells seen (done ++ js)) pieces epoch (length lanes) next_number (first_at lanes) goals (before ++ es) resolved put.world put.holds (pass done) gone-next.world gone-next.over
+        abbrev next-world : World
+        next-world = next c past (past_of tells seen (done ++ js)) pieces epoch (length lanes) next_number (first_at lanes) goals (before ++ es) resolved put.world put.holds (pass done) gone-next.world gone-next.over
 
-        pub later-begins : BeginsEpoch c (past_of tells seen (done ++ js)) pieces (suc epoch) next_number (before ++ es) later-world
-        later-begins = next-begins c past (past_of tells seen (done ++ js)) pieces epoch (length lanes) next_number (first_at lanes) goals (before ++ es) resolved put.world put.holds (pass done) gone-next.world gone-next.over
-
-        pub later-at : IsReached gone-next.made (suc epoch) later-world
-        later-at = on-own gone-next.made (suc epoch) gone-next.world later-world (Of event.Restart ∷ []) gone-next.now (tt, tt)
-            (restarts c past (past_of tells seen (done ++ js)) pieces epoch (length lanes) next_number (first_at lanes) goals (before ++ es) resolved put.world put.holds (pass done) gone-next.world gone-next.over)
+        pub begun-next : IsBegun pieces (done ++ js) (suc epoch) next_number (before ++ es)
+        begun-next = record {
+          m = gone-next.made;
+          world = next-world;
+          begins = next-begins c past (past_of tells seen (done ++ js)) pieces epoch (length lanes) next_number (first_at lanes) goals (before ++ es) resolved put.world put.holds (pass done) gone-next.world gone-next.over;
+          at = on-own gone-next.made (suc epoch) gone-next.world next-world (Of event.Restart ∷ []) gone-next.now (tt, tt)
+              (restarts c past (past_of tells seen (done ++ js)) pieces epoch (length lanes) next_number (first_at lanes) goals (before ++ es) resolved put.world put.holds (pass done) gone-next.world gone-next.over);
+        }
 
       -- ---- the last one, if the shards are ended in order
       module _ (is_orderly : kd ≡ kind.Orderly) (none_rest : rest ≡ []) where
-        abbrev pub closed : World
-        closed = record put.world { closed = Some (length (log put.world)) }
-
-        pub closes : happens c put.world event.Close ≡ closed
-        closes = ap (unless_over c put.world event.Close) (over_not put.world put.holds.under.going.0 put.holds.under.going.1) ∙ rw put.holds.under.going.1 refl
-
-        pub whole-read : entries pieces ≡ before ++ es
+        whole-read : entries pieces ≡ before ++ es
         whole-read = all ∙ ap (λ (xs : List Entry). before ++ (es ++ xs)) none_rest ∙ ap (λ (xs : List Entry). before ++ xs) (append-nil es)
 
-        pub all-placed : (put.world.placed == length (log put.world)) ≡ true
-        all-placed = eq-eqb put.world.placed (length (log put.world)) (put.holds.under.placed ∙ ap length (sym whole-read) ∙ ap (λ ps. length (entries ps)) (sym put.holds.under.pieces_are))
+        abbrev last-closed : World
+        last-closed = closed c past pieces epoch (length lanes) (first_at lanes) (before ++ es) whole-read put.world put.holds
 
-        pub asks : (t : Shard) → mark closed t ≡ shard_end kind.Orderly t
-        asks t = ap (λ b. cond b (shard_end kind.Orderly t) (cond (is_some put.world.draining) (shard_end kind.Reshard t) (shard_flush t))) all-placed
+        gone-last : AllGone last-closed
+        gone-last = all-gone put.world last-closed put.holds.under.going.0
+            (orderly-run c past pieces epoch (length lanes) (first_at lanes) (before ++ es) whole-read put.world put.holds room (λ k lt. first-end k lt ∙ ap Some is_orderly)) put-at
 
-        pub closed-tallied : IsTallied c past epoch (length lanes) (before ++ es) put.holds.under.parts closed
-        closed-tallied = tallied-still c past epoch (length lanes) (before ++ es) put.holds.under.parts put.world closed (Of event.Close ∷ []) put.holds.under.tallied closes refl refl
-
-        abbrev pub LastGone : Type 0
-        LastGone = AllGone closed
-
-        pub gone-last : LastGone
-        gone-last = all-gone closed put.holds.under.going.0
-            (end-all c past epoch (length lanes) (first_at lanes) (before ++ es) kind.Orderly (λ k lt. first-end k lt ∙ ap Some is_orderly) closed put.holds.under.going.0 asks room put.holds.under.count put.holds.under.parts closed-tallied put.holds.each)
-            (on-own m epoch put.world closed (Of event.Close ∷ []) put-at (tt, tt) closes)
-
-        abbrev pub over : World
-        over = gone-last.world
-
-        pub drained-now : list_all is_drained over.shards ≡ true
-        drained-now = drained-all c epoch (length lanes) goals over.requests gone-last.over.parts over.shards gone-last.over.count (lists-at c over gone-last.over.tallied.reached) gone-last.over.done resolved
-
-        pub reported : report over ≡ Some (ended_as (fault pieces) (length (before ++ es)))
-        reported = ap report gone-last.over.same ∙ rw (put.holds.under.going.0, all-placed, drained-now) refl
-            ∙ ap Some (ap (λ ps. ended_as (fault ps) put.world.placed) put.holds.under.pieces_are ∙ ap (λ (i : ℕ). ended_as (fault pieces) i) put.holds.under.placed)
-
-        pub last-tallied : IsTallied c (past_of tells seen (done ++ js)) (suc epoch) 0 (before ++ es) (λ k. empty) over
-        last-tallied = tallied-next c past epoch (length lanes) (past_of tells seen (done ++ js)) (before ++ es) gone-last.over.parts (λ k. (goals k).worker.ledger.names) (λ k. (goals k).requests) over over [] 0 gone-last.over.tallied refl refl refl
-            (tallies-at epoch (length lanes) goals over.requests gone-last.over.parts over.shards gone-last.over.count gone-last.over.done) (pass done)
-
-        pub last-pieces : over.pieces ≡ pieces
-        last-pieces = ap (λ (x : World). x.pieces) gone-last.over.same ∙ put.holds.under.pieces_are
-
-        pub last-placed : over.placed ≡ length (before ++ es)
-        last-placed = ap (λ (x : World). x.placed) gone-last.over.same ∙ put.holds.under.placed
+        -- all has come, and the machine has come to its report
+        pub came-whole : Came epoch (HasEnded c pieces epoch (before ++ es) (past_of tells seen (done ++ js)))
+        came-whole = record {
+          made = gone-last.made;
+          world = gone-last.world;
+          arrived = gone-last.now.arrived;
+          stop = gone-last.stop;
+          holds = has-ended c past pieces epoch (length lanes) (first_at lanes) (before ++ es) whole-read put.world put.holds (past_of tells seen (done ++ js)) goals resolved (pass done) gone-last.world gone-last.over;
+        }
 
   -- ---- the epochs before the last one
-  pub record AtLast (done : List (StoppedShard T)) (pieces : List Piece) (last : List ShardHistory) (before es : List Entry) : Type 0 where
-    pub epoch : ℕ
-    pub now : List Entry
-    pub later : List Entry
-    pub are : es ≡ now ++ later
-    pub dealt : IsDealt epoch last (gather_from (sent_of c.choice) (before ++ now) later)
-    pub m : ℕ
-    pub world : World
-    pub begins : BeginsEpoch c (past_of tells seen done) pieces epoch (length last) (before ++ now) world
-    pub at : IsReached m epoch world
-    pub within : AreWithin exs epoch (last ∷ [])
+  abbrev pub IsAt : List Piece → List ShardHistory → List (StoppedShard T) → ℕ → List (List ShardHistory) → List Entry → Type 0
+  IsAt pieces last done epoch later before = IsBegun pieces done epoch (first_number later last) before × AreWithin exs epoch (later ++ last ∷ [])
 
-  pub turned-arrive : (turned : List (List ShardHistory)) (last : List ShardHistory) (epoch m : ℕ) (done js : List (StoppedShard T)) (before es rest : List Entry) (pieces : List Piece) (w : World) → AllByRecursion IsSound js → map lane_of js ≡ joined turned
-      → Places epoch (turned ++ last ∷ []) (gather_from (sent_of c.choice) before es) → AreBefore turned last → AreWithin exs epoch (turned ++ last ∷ []) → BeginsEpoch c (past_of tells seen done) pieces epoch (first_number turned last) before w → IsReached m epoch w → entries pieces ≡ before ++ (es ++ rest) → AtLast (done ++ js) pieces last before es
-  turned-arrive [] last epoch m done js before es rest pieces w sound e p turned within b at all = record {
-    epoch = epoch;
-    now = [];
-    later = es;
-    are = refl;
-    dealt = subst (λ (bs : List Entry). IsDealt epoch last (gather_from (sent_of c.choice) bs es)) (sym (append-nil before)) (subst (IsDealt epoch last) (sym (p.2 ∙ ap (λ (xs : List Sent). p.0 ++ xs) p.4 ∙ append-nil p.0)) p.3);
-    m = m;
-    world = w;
-    begins = subst (λ (bs : List Entry). BeginsEpoch c (past_of tells seen (done ++ js)) pieces epoch (length last) bs w) (sym (append-nil before))
-        (subst (λ (ks : List (StoppedShard T)). BeginsEpoch c (past_of tells seen ks) pieces epoch (length last) before w) (sym (ap (λ (ks : List (StoppedShard T)). done ++ ks) (none_joined tells seen is_for c0 config set work IsTold js e) ∙ append-nil done)) b);
-    at = at;
-    within = within;
-  }
-  turned-arrive (lanes ∷ turned) last epoch m done js before es rest pieces w sound e p turns within b at all =
-      with-later (turned-arrive turned last (suc epoch) _ (done ++ sp.first) sp.later (before ++ pt.now) pt.later rest pieces _ (AllByRecursion-right IsSound sp.first sp.later both) sp.later_is (subst (Places (suc epoch) (turned ++ last ∷ [])) (sym pt.rest_is) p.4) turns.3 (within-later exs epoch lanes (turned ++ last ∷ []) within)
-      (later-begins epoch kind.Reshard sp.first now some_now by before pt.now dealt within_now done pieces (pt.later ++ rest) m w begun_so at begins refl (first_number turned last) turns.2.0 turns.2.1)
-      (later-at epoch kind.Reshard sp.first now some_now by before pt.now dealt within_now done pieces (pt.later ++ rest) m w begun_so at begins refl (first_number turned last) turns.2.0 turns.2.1)
-      (begins ∙ sym (append_assoc before pt.now (pt.later ++ rest))))
-    where
-      sp : Split lane_of js lanes (joined turned)
-      sp = split_map lane_of js lanes (joined turned) e
-
-      pt : Parted c.choice before es p.0 p.1
-      pt = part c.choice before es p.0 p.1 p.2
-
-      both : AllByRecursion IsSound (sp.first ++ sp.later)
-      both = subst (AllByRecursion IsSound) sp.are sound
-
-      now : AllByRecursion IsSound sp.first
-      now = AllByRecursion-left IsSound sp.first sp.later both
-
-      same : lanes ≡ map lane_of sp.first
-      same = sym sp.first_is
-
-      some_now : 1 ≤ length (map lane_of sp.first)
-      some_now = subst (λ (ls : List ShardHistory). 1 ≤ length ls) same turns.0
-
-      by : AreEndedBy kind.Reshard (map put_into (map lane_of sp.first))
-      by = subst (λ (ls : List ShardHistory). AreEndedBy kind.Reshard (map put_into ls)) same turns.1
-
-      dealt : IsDealt epoch (map lane_of sp.first) (gather_from (sent_of c.choice) before pt.now)
-      dealt = subst (λ (ls : List ShardHistory). IsDealt epoch ls (gather_from (sent_of c.choice) before pt.now)) same (subst (IsDealt epoch lanes) (sym pt.first_is) p.3)
-
-      within_now : (k i : ℕ) (x : Exchange) → slice_get (exs epoch k) i ≡ Some x → k < length (map lane_of sp.first)
-      within_now = subst (λ (ls : List ShardHistory). (k i : ℕ) (x : Exchange) → slice_get (exs epoch k) i ≡ Some x → k < length ls) same (within-first exs epoch lanes (turned ++ last ∷ []) within)
-
-      begins : entries pieces ≡ before ++ (pt.now ++ (pt.later ++ rest))
-      begins = all ∙ ap (λ (xs : List Entry). before ++ (xs ++ rest)) pt.are ∙ ap (λ (xs : List Entry). before ++ xs) (append_assoc pt.now pt.later rest)
-
-      begun_so : BeginsEpoch c (past_of tells seen done) pieces epoch (length (map lane_of sp.first)) before w
-      begun_so = subst (λ (ls : List ShardHistory). BeginsEpoch c (past_of tells seen done) pieces epoch (length ls) before w) same b
-
-      all_done : (done ++ sp.first) ++ sp.later ≡ done ++ js
-      all_done = append_assoc done sp.first sp.later ∙ ap (λ (ks : List (StoppedShard T)). done ++ ks) (sym sp.are)
-
-      with-later : AtLast ((done ++ sp.first) ++ sp.later) pieces last (before ++ pt.now) pt.later → AtLast (done ++ js) pieces last before es
-      with-later a = record {
-        epoch = a.epoch;
-        now = pt.now ++ a.now;
-        later = a.later;
-        are = pt.are ∙ ap (λ (xs : List Entry). pt.now ++ xs) a.are ∙ sym (append_assoc pt.now a.now a.later);
-        dealt = subst (λ (bs : List Entry). IsDealt a.epoch last (gather_from (sent_of c.choice) bs a.later)) (append_assoc before pt.now a.now) a.dealt;
-        m = a.m;
-        world = a.world;
-        begins = subst (λ (bs : List Entry). BeginsEpoch c (past_of tells seen (done ++ js)) pieces a.epoch (length last) bs a.world) (append_assoc before pt.now a.now)
-            (subst (λ (ks : List (StoppedShard T)). BeginsEpoch c (past_of tells seen ks) pieces a.epoch (length last) ((before ++ pt.now) ++ a.now) a.world) all_done a.begins);
-        at = a.at;
-        within = a.within;
-      }
+  pub turn-arrive : (pieces : List Piece) (last : List ShardHistory) (done js : List (StoppedShard T)) (epoch : ℕ) (later : List (List ShardHistory)) (before es : List Entry) → Turns IsSound c.choice pieces last epoch js later before es
+      → IsAt pieces last done epoch (map lane_of js ∷ later) before → IsAt pieces last (done ++ js) (suc epoch) later (before ++ es)
+  turn-arrive pieces last done js epoch later before es t (a, within) = (
+    begun-next epoch kind.Reshard js t.sound t.some t.by before es t.dealt (within-first exs epoch (map lane_of js) (later ++ last ∷ []) within) done pieces t.rest a.m a.world a.begins a.at t.begins refl (first_number later last) t.number.0 t.number.1,
+    within-later exs epoch (map lane_of js) (later ++ last ∷ []) within,
+  )
 
   -- ---- the last epoch, of which samples may be left: no End is put
+  pub record IsLeft (pieces : List Piece) (epoch : ℕ) (done : List (StoppedShard T)) (placed : List Entry) (last : List (StoppedShard T)) (w : World) : Type 0 where
+    pub tallied : IsTallied c (past_of tells seen done) (suc epoch) 0 placed (λ k. empty) w
+    pub placed_are : w.placed ≡ length placed
+    pub pieces_are : w.pieces ≡ pieces
+    pub pending : (p : ℕ) → is_pending w p ≡ is_in (abandoned_in last) p
+
   module _ (epoch : ℕ) (js : List (StoppedShard T)) (known : AllByRecursion (KnownOf tells seen is_for c0 config set work IsTold) js) (some : 1 ≤ length js) (before es : List Entry) (dealt : IsDealt epoch (map lane_of js) (gather_from (sent_of c.choice) before es)) (within : (k i : ℕ) (x : Exchange) → slice_get (exs epoch k) i ≡ Some x → k < length js)
       (done : List (StoppedShard T)) (pieces : List Piece) (rest : List Entry) (m : ℕ) (w : World) (b : BeginsEpoch c (past_of tells seen done) pieces epoch (length js) before w) (at : IsReached m epoch w) (all : entries pieces ≡ before ++ (es ++ rest)) where
     abbrev pub soft_lanes : List ShardHistory
@@ -443,7 +366,7 @@ module _ {T : Type 0} (tells : T → Type 0) (seen : T → List Exchange) (is_fo
     soft_left k = soft.rest_in tells seen is_for c0 config set work IsTold js known k
 
     abbrev pub soft_goals : ℕ → ShardFate
-    soft_goals = fate_at soft_lanes (λ k. soft.steps_in tells seen is_for c0 config set work IsTold js known k) (λ k. soft.rest_in tells seen is_for c0 config set work IsTold js known k)
+    soft_goals = fate_at soft_lanes soft_steps soft_left
 
     pub count-is : length soft_lanes ≡ length js
     count-is = soft.n-is tells seen is_for c0 config set work IsTold epoch js known some before es dealt
@@ -493,7 +416,7 @@ module _ {T : Type 0} (tells : T → Type 0) (seen : T → List Exchange) (is_fo
     soft-within = subst (λ (n : ℕ). (k i : ℕ) (x : Exchange) → slice_get (exs epoch k) i ≡ Some x → k < n) (sym count-is) within
 
     pub soft-open : (k : ℕ) → (first_at soft_lanes k).end ≡ None
-    soft-open k = same-end soft_lanes (λ k. soft.steps_in tells seen is_for c0 config set work IsTold js known k) (λ k. soft.rest_in tells seen is_for c0 config set work IsTold js known k) k ∙ soft.goal-open tells seen is_for c0 config set work IsTold epoch js known some before es dealt k (slice_get soft_lanes k) refl
+    soft-open k = same-end soft_lanes soft_steps soft_left k ∙ soft.goal-open tells seen is_for c0 config set work IsTold epoch js known some before es dealt k (slice_get soft_lanes k) refl
 
     pub soft-put : Reaches (AreUnsent (first_at soft_lanes)) c w (IsAllPut c (past_of tells seen done) pieces epoch (length soft_lanes) (first_at soft_lanes) (before ++ es))
     soft-put = put-first c exs arrivals heads one (past_of tells seen done) pieces epoch soft_lanes before es rest w room work.batch (soft.some_lanes tells seen is_for c0 config set work IsTold epoch js known some before es dealt) (soft.dealt-so tells seen is_for c0 config set work IsTold epoch js known some before es dealt) soft-first
@@ -511,25 +434,25 @@ module _ {T : Type 0} (tells : T → Type 0) (seen : T → List Exchange) (is_fo
       done = λ k s e. come c epoch k soft-put.world.requests (soft-put.holds.under.parts k) s (first_at soft_lanes k) (soft-put.holds.each k s e) (soft-open k);
     }
 
-    abbrev pub SoftGone : Type 0
-    SoftGone = Gone c exs arrivals heads one (past_of tells seen done) epoch soft_lanes (λ k. soft.steps_in tells seen is_for c0 config set work IsTold js known k) (λ k. soft.rest_in tells seen is_for c0 config set work IsTold js known k) (before ++ es) soft-put.world soft-put.holds.under.going.0 soft-within soft-told soft-runs
+    soft-gone : Gone c exs arrivals heads one (past_of tells seen done) epoch soft_lanes soft_steps soft_left (before ++ es) soft-put.world soft-put.holds.under.going.0 soft-within soft-told soft-runs
+    soft-gone = goes c exs arrivals heads one (past_of tells seen done) epoch soft_lanes soft_steps soft_left (before ++ es) soft-put.world soft-put.holds.under.going.0 soft-within soft-told soft-runs m soft-put.world soft-at.few soft-over soft-at.arrived soft-at.sent
 
-    pub soft-gone : SoftGone
-    soft-gone = goes c exs arrivals heads one (past_of tells seen done) epoch soft_lanes (λ k. soft.steps_in tells seen is_for c0 config set work IsTold js known k) (λ k. soft.rest_in tells seen is_for c0 config set work IsTold js known k) (before ++ es) soft-put.world soft-put.holds.under.going.0 soft-within soft-told soft-runs m soft-put.world soft-at.few soft-over soft-at.arrived soft-at.sent
-
-    pub soft-tallied : IsTallied c (past_of tells seen (done ++ js)) (suc epoch) 0 (before ++ es) (λ k. empty) soft-gone.world
-    soft-tallied = tallied-next c (past_of tells seen done) epoch (length soft_lanes) (past_of tells seen (done ++ js)) (before ++ es) soft-gone.over.parts (λ k. (soft_goals k).worker.ledger.names) (λ k. (soft_goals k).requests) soft-gone.world soft-gone.world [] 0 soft-gone.over.tallied refl refl refl
-        (tallies-at epoch (length soft_lanes) soft_goals soft-gone.world.requests soft-gone.over.parts soft-gone.world.shards soft-gone.over.count soft-gone.over.done)
-        (passes-of tells seen c epoch (length soft_lanes) done js soft_goals (sym count-is) (soft.reports-at tells seen is_for c0 config set work IsTold epoch js known some before es dealt))
-
-    pub soft-placed : soft-gone.world.placed ≡ length (before ++ es)
-    soft-placed = ap (λ (x : World). x.placed) soft-gone.over.same ∙ soft-put.holds.under.placed
-
-    pub soft-pending : (p : ℕ) → is_pending soft-gone.world p ≡ is_in (abandoned_in js) p
-    soft-pending p = soft.tells-left tells seen is_for c0 config set work IsTold epoch js known some before es dealt c soft-gone.world soft-gone.over.parts (soft-gone.over.count ∙ count-is) (lists-at c soft-gone.world soft-gone.over.tallied.reached) soft-gone.over.done p
-
-    pub soft-pieces : soft-gone.world.pieces ≡ pieces
-    soft-pieces = ap (λ (x : World). x.pieces) soft-gone.over.same ∙ soft-put.holds.under.pieces_are
+    -- all has come, and what is pending was abandoned
+    pub came-left : Came epoch (IsLeft pieces epoch (done ++ js) (before ++ es) js)
+    came-left = record {
+      made = soft-gone.m;
+      world = soft-gone.world;
+      arrived = soft-gone.arrived;
+      stop = soft-gone.stop;
+      holds = record {
+        tallied = tallied-next c (past_of tells seen done) epoch (length soft_lanes) (past_of tells seen (done ++ js)) (before ++ es) soft-gone.over.parts (λ k. (soft_goals k).worker.ledger.names) (λ k. (soft_goals k).requests) soft-gone.world soft-gone.world [] 0 soft-gone.over.tallied refl refl refl
+            (tallies-at epoch (length soft_lanes) soft_goals soft-gone.world.requests soft-gone.over.parts soft-gone.world.shards soft-gone.over.count soft-gone.over.done)
+            (passes-of tells seen c epoch (length soft_lanes) done js soft_goals (sym count-is) (soft.reports-at tells seen is_for c0 config set work IsTold epoch js known some before es dealt));
+        placed_are = ap (λ (x : World). x.placed) soft-gone.over.same ∙ soft-put.holds.under.placed;
+        pieces_are = ap (λ (x : World). x.pieces) soft-gone.over.same ∙ soft-put.holds.under.pieces_are;
+        pending = soft.tells-left tells seen is_for c0 config set work IsTold epoch js known some before es dealt c soft-gone.world soft-gone.over.parts (soft-gone.over.count ∙ count-is) (lists-at c soft-gone.world soft-gone.over.tallied.reached) soft-gone.over.done;
+      };
+    }
 
 -- ---- from the start
 own-feeds : (fed : List Fed) → AllByRecursion IsOwn (feeds fed)
@@ -688,6 +611,9 @@ module _ {T : Type 0} (tells : T → Type 0) (seen : T → List Exchange) (is_fo
   abbrev IsReachedHere : ℕ → ℕ → World → Type 0
   IsReachedHere = IsReached tells seen is_for c0 s.fleet.config set work wide room exs arrivals heads one-so
 
+  abbrev IsAtHere : List ShardHistory → List (StoppedShard T) → ℕ → List (List ShardHistory) → List Entry → Type 0
+  IsAtHere = IsAt tells seen is_for c0 s.fleet.config set work wide room exs arrivals heads one-so s.log.pieces
+
   at-start : IsReachedHere 0 0 (start setup)
   at-start = record {
     few = omega arith;
@@ -702,13 +628,16 @@ module _ {T : Type 0} (tells : T → Type 0) (seen : T → List Exchange) (is_fo
   some_lanes = subst (λ (i : ℕ). 1 ≤ i) (sym same) number.0
 
   module _ (rest : List Entry) (read : entries s.log.pieces ≡ s.log.placed ++ rest) where
-    at-last : AtLast tells seen is_for c0 s.fleet.config set work wide room exs arrivals heads one-so was.ended s.log.pieces (map lane_of last) [] s.log.placed
-    at-last = turned-arrive tells seen is_for c0 s.fleet.config set work wide room exs arrivals heads one-so p.epochs (map lane_of last) 0 0 [] was.ended [] s.log.placed rest s.log.pieces origin
-        sound-ended p.ended_is placed (turned-before p.epochs (map lane_of last) p.turned (subst IsShardCount (sym same) number)) within
-        (subst (λ (i : ℕ). BeginsEpoch setup (past_of tells seen []) s.log.pieces 0 i [] origin) (sym (first-is p.epochs ∙ first)) (begins tells seen setup s.log.pieces fed fed_are)) at-origin read
+    at-last : AtLast setup.choice (map lane_of last) (IsAtHere (map lane_of last)) was.ended [] s.log.placed
+    at-last = turn-all IsSoundHere setup.choice s.log.pieces (map lane_of last) rest (IsAtHere (map lane_of last)) (turn-arrive tells seen is_for c0 s.fleet.config set work wide room exs arrivals heads one-so s.log.pieces (map lane_of last)) p.epochs 0 [] was.ended [] s.log.placed
+        sound-ended p.ended_is placed (turned-before p.epochs (map lane_of last) p.turned (subst IsShardCount (sym same) number)) read
+        (record { m = 0; world = origin; begins = subst (λ (i : ℕ). BeginsEpoch setup (past_of tells seen []) s.log.pieces 0 i [] origin) (sym (first-is p.epochs ∙ first)) (begins tells seen setup s.log.pieces fed fed_are); at = at-origin }, within)
+
+    abbrev last-begun : IsBegun tells seen is_for c0 s.fleet.config set work wide room exs arrivals heads one-so s.log.pieces was.ended at-last.epoch (length (map lane_of last)) at-last.now
+    last-begun = at-last.at.0
 
     within-last : (k i : ℕ) (x : Exchange) → slice_get (exs at-last.epoch k) i ≡ Some x → k < length (map lane_of last)
-    within-last = within-first exs at-last.epoch (map lane_of last) [] at-last.within
+    within-last = within-first exs at-last.epoch (map lane_of last) [] at-last.at.1
 
     whole-log : entries s.log.pieces ≡ at-last.now ++ (at-last.later ++ rest)
     whole-log = read ∙ ap (λ (xs : List Entry). xs ++ rest) at-last.are ∙ append_assoc at-last.now at-last.later rest
@@ -718,7 +647,7 @@ module _ {T : Type 0} (tells : T → Type 0) (seen : T → List Exchange) (is_fo
     no_later m a at lt =
         let d = after-it at-last.epoch a.epoch lt in
         let x = one.receives m a at in
-        none_of_none a.shard (at-last.within (suc d.0) a.shard a.number x.0 (ap (λ (e : ℕ). slice_get (exs e a.shard) a.number) (sym d.1) ∙ x.1))
+        none_of_none a.shard (at-last.at.1 (suc d.0) a.shard a.number x.0 (ap (λ (e : ℕ). slice_get (exs e a.shard) a.number) (sym d.1) ∙ x.1))
 
     all-came : (m : ℕ) → (m ≡ length arrivals) ⊎ ((a : Arrival) × (slice_get arrivals m ≡ Some a) × (at-last.epoch < a.epoch)) → m ≡ length arrivals
     all-came m (inl e) = e
@@ -737,11 +666,11 @@ module _ {T : Type 0} (tells : T → Type 0) (seen : T → List Exchange) (is_fo
       within-left : (k i : ℕ) (x : Exchange) → slice_get (exs at-last.epoch k) i ≡ Some x → k < length last
       within-left = subst (λ (n : ℕ). (k i : ℕ) (x : Exchange) → slice_get (exs at-last.epoch k) i ≡ Some x → k < n) (length-map last lane_of) within-last
 
-      begins-left : BeginsEpoch setup (past_of tells seen was.ended) s.log.pieces at-last.epoch (length last) at-last.now at-last.world
-      begins-left = subst (λ (n : ℕ). BeginsEpoch setup (past_of tells seen was.ended) s.log.pieces at-last.epoch n at-last.now at-last.world) (length-map last lane_of) at-last.begins
+      begins-left : BeginsEpoch setup (past_of tells seen was.ended) s.log.pieces at-last.epoch (length last) at-last.now last-begun.world
+      begins-left = subst (λ (n : ℕ). BeginsEpoch setup (past_of tells seen was.ended) s.log.pieces at-last.epoch n at-last.now last-begun.world) (length-map last lane_of) last-begun.begins
 
-      abbrev gone-left : SoftGone tells seen is_for c0 s.fleet.config set work wide room exs arrivals heads one-so at-last.epoch last known-last some-last at-last.now at-last.later at-last.dealt within-left was.ended s.log.pieces rest at-last.m at-last.world begins-left at-last.at whole-log
-      gone-left = soft-gone tells seen is_for c0 s.fleet.config set work wide room exs arrivals heads one-so at-last.epoch last known-last some-last at-last.now at-last.later at-last.dealt within-left was.ended s.log.pieces rest at-last.m at-last.world begins-left at-last.at whole-log
+      left-came : Came tells seen is_for c0 s.fleet.config set work wide room exs arrivals heads one-so at-last.epoch (IsLeft tells seen is_for c0 s.fleet.config set work wide room exs arrivals heads one-so s.log.pieces at-last.epoch (was.ended ++ last) (at-last.now ++ at-last.later) last)
+      left-came = came-left tells seen is_for c0 s.fleet.config set work wide room exs arrivals heads one-so at-last.epoch last known-last some-last at-last.now at-last.later at-last.dealt within-left was.ended s.log.pieces rest last-begun.m last-begun.world begins-left last-begun.at whole-log
 
       -- nothing is pending but what the report lists
       pending-by : (o : Outcome) → Ends s h.joined o → IsAbandoned o → (p : ℕ) → is_left o p ≡ false → is_in (abandoned_in last) p ≡ false
@@ -750,34 +679,27 @@ module _ {T : Type 0} (tells : T → Type 0) (seen : T → List Exchange) (is_fo
       pending-by (outcome.Abandoned count samples) ends stopped p not_left = ap (λ (ps : List ℕ). is_in ps p) (sym (ends.1 ∙ left-by-last h.joined was.ended last alls.1 resolved)) ∙ not_left
 
       pub held-left : IsHeld s r (heads (length arrivals)).store
-      held-left = held-so setup s r gone-left.world (heads (length arrivals)) gone-left.arrived.events gone-left.arrived.is (gone-left.arrived.head ∙ ap heads (all-came gone-left.m gone-left.stop))
-          (soft-pieces tells seen is_for c0 s.fleet.config set work wide room exs arrivals heads one-so at-last.epoch last known-last some-last at-last.now at-last.later at-last.dealt within-left was.ended s.log.pieces rest at-last.m at-last.world begins-left at-last.at whole-log)
-          choice
-          (tallied-so gone-left.world (soft-tallied tells seen is_for c0 s.fleet.config set work wide room exs arrivals heads one-so at-last.epoch last known-last some-last at-last.now at-last.later at-last.dealt within-left was.ended s.log.pieces rest at-last.m at-last.world begins-left at-last.at whole-log))
-          (λ whole. absurd (whole left))
-          rest read (soft-placed tells seen is_for c0 s.fleet.config set work wide room exs arrivals heads one-so at-last.epoch last known-last some-last at-last.now at-last.later at-last.dealt within-left was.ended s.log.pieces rest at-last.m at-last.world begins-left at-last.at whole-log ∙ ap length (sym at-last.are)) (λ p not_left. soft-pending tells seen is_for c0 s.fleet.config set work wide room exs arrivals heads one-so at-last.epoch last known-last some-last at-last.now at-last.later at-last.dealt within-left was.ended s.log.pieces rest at-last.m at-last.world begins-left at-last.at whole-log p ∙ pending-by r.outcome h.ends left p not_left)
+      held-left = held-so setup s r left-came.world (heads (length arrivals)) left-came.arrived.events left-came.arrived.is (left-came.arrived.head ∙ ap heads (all-came left-came.made left-came.stop)) left-came.holds.pieces_are choice (tallied-so left-came.world left-came.holds.tallied)
+          (λ whole. absurd (whole left)) rest read (left-came.holds.placed_are ∙ ap length (sym at-last.are)) (λ p not_left. left-came.holds.pending p ∙ pending-by r.outcome h.ends left p not_left)
 
     -- ---- if nothing was left
     module _ (resolved_all : AreResolved h.joined) (by : AreEndedBy kind.Orderly (map put_into (map lane_of last))) (none : rest ≡ []) where
       sound-last : AllByRecursion IsSoundHere last
       sound-last = AllByRecursion-right IsSoundHere was.ended last (subst (AllByRecursion IsSoundHere) alls.1 (sound-all tells seen is_for c0 s.fleet.config set work AskedHere h.joined known-joined resolved_all))
 
-      abbrev gone-whole : LastGone tells seen is_for c0 s.fleet.config set work wide room exs arrivals heads one-so at-last.epoch kind.Orderly last sound-last some_lanes by at-last.now at-last.later at-last.dealt within-last was.ended s.log.pieces rest at-last.m at-last.world at-last.begins at-last.at whole-log refl none
-      gone-whole = gone-last tells seen is_for c0 s.fleet.config set work wide room exs arrivals heads one-so at-last.epoch kind.Orderly last sound-last some_lanes by at-last.now at-last.later at-last.dealt within-last was.ended s.log.pieces rest at-last.m at-last.world at-last.begins at-last.at whole-log refl none
+      whole-came : Came tells seen is_for c0 s.fleet.config set work wide room exs arrivals heads one-so at-last.epoch (HasEnded setup s.log.pieces at-last.epoch (at-last.now ++ at-last.later) (past_of tells seen (was.ended ++ last)))
+      whole-came = came-whole tells seen is_for c0 s.fleet.config set work wide room exs arrivals heads one-so at-last.epoch kind.Orderly last sound-last some_lanes by at-last.now at-last.later at-last.dealt within-last was.ended s.log.pieces rest last-begun.m last-begun.world last-begun.begins last-begun.at whole-log refl none
 
-      report-is : report gone-whole.world ≡ Some (ended_as (fault s.log.pieces) (length s.log.placed))
-      report-is = reported tells seen is_for c0 s.fleet.config set work wide room exs arrivals heads one-so at-last.epoch kind.Orderly last sound-last some_lanes by at-last.now at-last.later at-last.dealt within-last was.ended s.log.pieces rest at-last.m at-last.world at-last.begins at-last.at whole-log refl none ∙ ap (λ (es : List Entry). Some (ended_as (fault s.log.pieces) (length es))) (sym at-last.are)
+      report-is : report whole-came.world ≡ Some (ended_as (fault s.log.pieces) (length s.log.placed))
+      report-is = whole-came.holds.reported ∙ ap (λ (es : List Entry). Some (ended_as (fault s.log.pieces) (length es))) (sym at-last.are)
 
-      placed-is : gone-whole.world.placed ≡ length s.log.placed
-      placed-is = last-placed tells seen is_for c0 s.fleet.config set work wide room exs arrivals heads one-so at-last.epoch kind.Orderly last sound-last some_lanes by at-last.now at-last.later at-last.dealt within-last was.ended s.log.pieces rest at-last.m at-last.world at-last.begins at-last.at whole-log refl none ∙ ap length (sym at-last.are)
+      placed-is : whole-came.world.placed ≡ length s.log.placed
+      placed-is = whole-came.holds.placed_are ∙ ap length (sym at-last.are)
 
       pub held-whole : IsHeld s r (heads (length arrivals)).store
-      held-whole = held-so setup s r gone-whole.world (heads (length arrivals)) gone-whole.now.arrived.events gone-whole.now.arrived.is (gone-whole.now.arrived.head ∙ ap heads (all-came gone-whole.made gone-whole.stop))
-          (last-pieces tells seen is_for c0 s.fleet.config set work wide room exs arrivals heads one-so at-last.epoch kind.Orderly last sound-last some_lanes by at-last.now at-last.later at-last.dealt within-last was.ended s.log.pieces rest at-last.m at-last.world at-last.begins at-last.at whole-log refl none)
-          choice
-          (tallied-so gone-whole.world (last-tallied tells seen is_for c0 s.fleet.config set work wide room exs arrivals heads one-so at-last.epoch kind.Orderly last sound-last some_lanes by at-last.now at-last.later at-last.dealt within-last was.ended s.log.pieces rest at-last.m at-last.world at-last.begins at-last.at whole-log refl none))
-          (λ whole l. all-of setup gone-whole.now.arrived.events gone-whole.world gone-whole.now.arrived.is (fault s.log.pieces) (length s.log.placed) report-is placed-is l)
-          rest read placed-is (λ p not_left. none-pending setup p gone-whole.world.shards (lists-at setup gone-whole.world gone-whole.over.tallied.reached) (drained-now tells seen is_for c0 s.fleet.config set work wide room exs arrivals heads one-so at-last.epoch kind.Orderly last sound-last some_lanes by at-last.now at-last.later at-last.dealt within-last was.ended s.log.pieces rest at-last.m at-last.world at-last.begins at-last.at whole-log refl none))
+      held-whole = held-so setup s r whole-came.world (heads (length arrivals)) whole-came.arrived.events whole-came.arrived.is (whole-came.arrived.head ∙ ap heads (all-came whole-came.made whole-came.stop)) whole-came.holds.pieces_are choice (tallied-so whole-came.world whole-came.holds.tallied)
+          (λ whole l. all-of setup whole-came.arrived.events whole-came.world whole-came.arrived.is (fault s.log.pieces) (length s.log.placed) report-is placed-is l)
+          rest read placed-is (λ p not_left. none-pending setup p whole-came.world.shards (lists-at setup whole-came.world whole-came.holds.tallied.reached) whole-came.holds.drained)
 
 resolved-front : {T : Type 0} (xs ys : List (StoppedShard T)) → AreResolved (xs ++ ys) → AreResolved xs
 resolved-front xs ys h k j e = h k j (get-first xs ys k j e)

@@ -43,16 +43,19 @@ module _ (c : Setup) (past : Past) (pieces : List Piece) (epoch n m : ℕ) (fate
   may_ask = and_both (not (is_some w.draining)) (not (is_finished w) && (nat_le 1 m && nat_le m 1000)) (rw put.under.going.2 refl)
       (and_both (not (is_finished w)) (nat_le 1 m && nat_le m 1000) (rw put.under.going.1 refl) (and_both (nat_le 1 m) (nat_le m 1000) (le-leb 1 m least) (le-leb m 1000 most)))
 
-  pub asked : happens c w (event.Reshard m) ≡ draining
+  asked : happens c w (event.Reshard m) ≡ draining
   asked = ap (unless_over c w (event.Reshard m)) (over_not w put.under.going.0 put.under.going.1) ∙ ap (λ (b : Bool). cond b draining w) may_ask
 
   asks : (t : Shard) → mark draining t ≡ shard_end kind.Reshard t
   asks t = rw put.under.going.1 refl
 
   -- each shard is ended
-  pub ended : 1 ≤ c.capacity → ((k : ℕ) → k < n → (fates k).end ≡ Some kind.Reshard) → Reaches (AreUnsent fates) c draining (IsOver c past epoch n fates placed draining)
-  ended some ends = end-all c past epoch n fates placed kind.Reshard ends draining put.under.going.0 asks some put.under.count put.under.parts
-      (tallied-still c past epoch n placed put.under.parts w draining (Of (event.Reshard m) ∷ []) put.under.tallied asked refl refl) put.each
+  pub drain-run : 1 ≤ c.capacity → ((k : ℕ) → k < n → (fates k).end ≡ Some kind.Reshard) → Reaches (AreUnsent fates) c w (IsOver c past epoch n fates placed draining)
+  drain-run some ends = record { events = Of (event.Reshard m) ∷ ended.events; world = ended.world; is = ap (run_freely c ended.events) asked ∙ ended.is; holds = ended.holds; own = λ quiet. (tt, ended.own quiet) }
+    where
+      ended : Reaches (AreUnsent fates) c draining (IsOver c past epoch n fates placed draining)
+      ended = end-all c past epoch n fates placed kind.Reshard ends draining put.under.going.0 asks some put.under.count put.under.parts
+          (tallied-still c past epoch n placed put.under.parts w draining (Of (event.Reshard m) ∷ []) put.under.tallied asked refl refl) put.each
 
 -- ---- the shards are over, and the next ones take over
 module _ (c : Setup) (past next_past : Past) (pieces : List Piece) (epoch n m : ℕ) (first fates : ℕ → ShardFate) (placed : List Entry) (resolved : (k : ℕ) → k < n → IsResolvedFate (fates k)) (w : World) (put : IsAllPut c past pieces epoch n first placed w)
@@ -95,16 +98,14 @@ module _ (c : Setup) (past next_past : Past) (pieces : List Piece) (epoch n m : 
 module _ (c : Setup) (past next_past : Past) (pieces : List Piece) (epoch n m : ℕ) (fates : ℕ → ShardFate) (placed : List Entry) (some : 1 ≤ c.capacity) (least : 1 ≤ m) (most : m ≤ 1000)
     (ends : (k : ℕ) → k < n → (fates k).end ≡ Some kind.Reshard) (resolved : (k : ℕ) → k < n → IsResolvedFate (fates k)) (w : World) (put : IsAllPut c past pieces epoch n fates placed w)
     (passes : Passes c past epoch n next_past (λ k. (fates k).worker.ledger.names) (λ k. (fates k).requests)) where
-  closing : Reaches (AreUnsent fates) c (draining c past pieces epoch n m fates placed least most w put) (IsOver c past epoch n fates placed (draining c past pieces epoch n m fates placed least most w put))
-  closing = ended c past pieces epoch n m fates placed least most w put some ends
+  closing : Reaches (AreUnsent fates) c w (IsOver c past epoch n fates placed (draining c past pieces epoch n m fates placed least most w put))
+  closing = drain-run c past pieces epoch n m fates placed least most w put some ends
 
   pub reshard-run : Reaches ⊥ c w (BeginsEpoch c next_past pieces (suc epoch) m placed)
   reshard-run = record {
-    events = Of (event.Reshard m) ∷ (closing.events ++ Of event.Restart ∷ []);
+    events = closing.events ++ Of event.Restart ∷ [];
     world = next c past next_past pieces epoch n m fates fates placed resolved w put passes closing.world closing.holds;
-    is = ap (run_freely c (closing.events ++ Of event.Restart ∷ [])) (asked c past pieces epoch n m fates placed least most w put)
-        ∙ run-append c closing.events (Of event.Restart ∷ []) (draining c past pieces epoch n m fates placed least most w put)
-        ∙ ap (run_freely c (Of event.Restart ∷ [])) closing.is
+    is = run-append c closing.events (Of event.Restart ∷ []) w ∙ ap (run_freely c (Of event.Restart ∷ [])) closing.is
         ∙ restarts c past next_past pieces epoch n m fates fates placed resolved w put passes closing.world closing.holds;
     holds = next-begins c past next_past pieces epoch n m fates fates placed resolved w put passes closing.world closing.holds;
     own = λ no. absurd no;

@@ -1,15 +1,15 @@
 -- A shipper that was stopped in order, and left nothing, is a run of the machine.
-use Rattle.std.proofs.Common.{◌≡◌, ℕ, zero, suc, ◌-◌, ◌<◌, ◌≤◌, ◌==◌, Bool, true, false, cond, List, [], ◌∷◌, ◌++◌, map, length, Option, None, Some, is_some, slice_get, refl, sym, ap, ◌∙◌, subst, append-nil, append_assoc, arith, ◌⊎◌, inl, inr}
-use Rattle.std.specs.List.{AllByRecursion, list_all}
+use Rattle.std.proofs.Common.{◌≡◌, ℕ, zero, suc, ◌-◌, ◌<◌, ◌≤◌, ◌==◌, true, false, List, [], ◌∷◌, ◌++◌, map, length, Option, None, Some, slice_get, refl, sym, ap, ◌∙◌, subst, append-nil, append_assoc, arith, inl, inr}
+use Rattle.std.specs.List.{AllByRecursion}
 use Rattle.std.specs.Ordering.{nat_cmp}
 use Rattle.std.specs.FinMap.{empty, get, get-empty}
 use Rattle.std.proofs.lemmas.List.{length-drop, length-map, map-append}
-use Rattle.std.proofs.lemmas.Bool.{eq-eqb, eqb-true, and_parts}
+use Rattle.std.proofs.lemmas.Bool.{eqb-true, and_parts}
 use Rattle.std.proofs.lemmas.Option.{same_Some, none-some, slice_get_within}
 use Rattle.rw_types.specs.declared.entry.Entry.{Entry}
 use Rattle.rw_types.specs.declared.place.Place.{Place}
 use Rattle.rw_types.specs.Gathering.{gather_from}
-use Rattle.rw_wal_format.specs.Pieces.{Piece, entries, fault}
+use Rattle.rw_wal_format.specs.Pieces.{Piece, entries}
 use Rattle.rw_wal_format.specs.declared.tail_fault.TailFault.{TailFault}
 use Rattle.rw_wal_tail.specs.Fed.{piece_of}
 use Rattle.rw_wal_tail.specs.declared.piece.Piece as piece
@@ -36,7 +36,7 @@ use Rattle.rw_fleet.specs.declared.joined.Finished.{Finished}
 use Rattle.rw_fleet.specs.Fleets.{EndBy}
 use Rattle.rw_fleet.proofs.LaneLemmas.{same_length}
 use Rattle.rw_sender.specs.Feeders.{HasRead}
-use Rattle.rw_sender.specs.Logs.{Sent, sent, sent_of, filtered}
+use Rattle.rw_sender.specs.Logs.{sent, sent_of, filtered}
 use Rattle.rw_sender.specs.Placement.{IsDealt, IsShardCount, AreTurned, Places, joined}
 use Rattle.rw_sender.specs.Reports.{IsAbandoned}
 use Rattle.rw_sender.specs.Shipping.{Shipping, HasStopped, Ends}
@@ -44,10 +44,10 @@ use Rattle.rw_sender.specs.declared.report.Report.{Report}
 use Rattle.rw_sender.proofs.PlacementLemmas.{whole_is, whole_placed}
 use Rattle.rw_sender.proofs.ShippingLemmas.{all_is, ends_last}
 use Rattle.rw_types.proofs.AllLemmas.{AllByRecursion-left, AllByRecursion-right}
-use Rattle.rw_machine.specs.Shards.{Shard, is_drained, shard_end, shard_flush}
+use Rattle.rw_machine.specs.Shards.{Shard}
 use Rattle.rw_machine.specs.Worlds.{Setup, Request, World, start, log, ended_as, report}
 use Rattle.rw_shard_core.specs.Endings.{Ending, Complete}
-use Rattle.rw_machine.specs.Steps.{happens, mark, unless_over}
+use Rattle.rw_machine.specs.Steps.{happens, unless_over}
 use Rattle.rw_machine.specs.declared.event.Event.TheVariants as event
 use Rattle.rw_machine.specs.Promises.{CanWork}
 use Rattle.rw_machine.proofs.Places.{get_some}
@@ -60,16 +60,17 @@ use Rattle.rw_simulation.specs.FleetRuns.{IsShardRun, fate_by, fate_at}
 use Rattle.rw_simulation.specs.StoppedShards.{IsShardOf}
 use Rattle.rw_shard_core.specs.Endings.{ending_of}
 use Rattle.rw_simulation.specs.StoppedRuns.{IsSetAs, HasNumbers, AreNumbers, EndInTurn, first_number, IsAlike, Tells, IsRun, StopsAsRun, StopsInOrder}
-use Rattle.rw_simulation.proofs.Changes.{run-append}
 use Rattle.rw_simulation.proofs.ReshardRuns.{BeginsEpoch, reshard-run}
 use Rattle.rw_simulation.proofs.WorkerLists.{core_after, after-is, ended-after, last_tail}
 use Rattle.rw_simulation.proofs.EntryRuns.{over_not}
 use Rattle.rw_simulation.proofs.FreeLaws.{keeps-laws}
 use Rattle.rw_simulation.proofs.FleetRuns.{fleet-run}
 use Rattle.rw_simulation.proofs.StoppedShards.{compared-is-run, has-taken, same_items}
-use Rattle.rw_simulation.proofs.EpochRuns.{stay, one_at_most}
-use Rattle.rw_simulation.proofs.EndRuns.{HasCome, IsResolvedFate, IsOver, end-all, tallies-at, drained-all}
-use Rattle.rw_simulation.proofs.Tallies.{Names, Passes, lists-at, tallied-still, tallied-next}
+use Rattle.rw_simulation.proofs.EpochRuns.{stay, go-on, aloud}
+use Rattle.rw_simulation.proofs.EpochTurns.{Split, split_map, AreBefore, Turns, AtLast, turn-all}
+use Rattle.rw_simulation.proofs.OrderlyEnds.{HasEnded, closed, orderly-run, has-ended}
+use Rattle.rw_simulation.proofs.EndRuns.{HasCome, IsResolvedFate, IsOver}
+use Rattle.rw_simulation.proofs.Tallies.{Names, Passes}
 use Rattle.rw_simulation.proofs.Pasts.{get_map, map_get, past_of, ReportsAt, passes-of, seen-is, names-all, sends-all}
 
 -- ---- an End that was taken
@@ -141,77 +142,6 @@ place_count (End k ∷ xs) = place_count xs
 
 none_behind : (all resolved left : ℕ) → left ≡ all - resolved → left ≡ 0 → all ≤ resolved
 none_behind all resolved left e h = omega arith
-
--- the list after a map is two lists, if its image is
-pub record Split {X Y : Type 0} (f : X → Y) (all : List X) (xs ys : List Y) : Type 0 where
-  pub first : List X
-  pub later : List X
-  pub are : all ≡ first ++ later
-  pub first_is : map f first ≡ xs
-  pub later_is : map f later ≡ ys
-
-no_cons : {Y : Type 0} (y : Y) (ys : List Y) → [] ≡ y ∷ ys → ⊥
-no_cons y ys e = cc
-
-head_of : {Y : Type 0} (x y : Y) (xs ys : List Y) → x ∷ xs ≡ y ∷ ys → x ≡ y
-head_of x y xs ys e = cc
-
-tail_of : {Y : Type 0} (x y : Y) (xs ys : List Y) → x ∷ xs ≡ y ∷ ys → xs ≡ ys
-tail_of x y xs ys e = cc
-
-pub split_map : {X Y : Type 0} (f : X → Y) (all : List X) (xs ys : List Y) → map f all ≡ xs ++ ys → Split f all xs ys
-split_map f all [] ys e = record { first = []; later = all; are = refl; first_is = refl; later_is = e }
-split_map f [] (x ∷ xs) ys e = absurd (no_cons x (xs ++ ys) e)
-split_map f (a ∷ all) (x ∷ xs) ys e =
-    let h = split_map f all xs ys (tail_of (f a) x (map f all) (xs ++ ys) e) in
-    record { first = a ∷ h.first; later = h.later; are = ap (λ zs. a ∷ zs) h.are; first_is = λ j. head_of (f a) x (map f all) (xs ++ ys) e j ∷ h.first_is j; later_is = h.later_is }
-
--- the entries are in two parts, if the samples that they give are
-pub record Parted (choice : Choice) (before es : List Entry) (first rest : List Sent) : Type 0 where
-  pub now : List Entry
-  pub later : List Entry
-  pub are : es ≡ now ++ later
-  pub first_is : gather_from (sent_of choice) before now ≡ first
-  pub rest_is : gather_from (sent_of choice) (before ++ now) later ≡ rest
-
-none_first : (first rest : List Sent) → [] ≡ first ++ rest → (first ≡ []) × (rest ≡ [])
-none_first [] rest e = (refl, sym e)
-none_first (x ∷ xs) rest e = absurd (no_cons x (xs ++ rest) e)
-
-pub part : (choice : Choice) (before es : List Entry) (first rest : List Sent) → gather_from (sent_of choice) before es ≡ first ++ rest → Parted choice before es first rest
-part choice before es [] rest e = record { now = []; later = es; are = refl; first_is = refl; rest_is = subst (λ (b : List Entry). gather_from (sent_of choice) b es ≡ rest) (sym (append-nil before)) e }
-part choice before [] (x ∷ xs) rest e = absurd (no_cons x (xs ++ rest) e)
-part choice before (y ∷ ys) (x ∷ xs) rest e = by_entry (λ zs given. part choice (before ++ y ∷ []) ys zs rest given) (one_at_most choice before y)
-  where
-    with-one : (zs : List Sent) → (h : Parted choice (before ++ y ∷ []) ys zs rest) → sent_of choice before y ++ zs ≡ x ∷ xs → Parted choice before (y ∷ ys) (x ∷ xs) rest
-    with-one zs h same = record {
-      now = y ∷ h.now;
-      later = h.later;
-      are = ap (λ es. y ∷ es) h.are;
-      first_is = ap (λ ss. sent_of choice before y ++ ss) h.first_is ∙ same;
-      rest_is = subst (λ (b : List Entry). gather_from (sent_of choice) b h.later ≡ rest) (append_assoc before (y ∷ []) h.now) h.rest_is;
-    }
-
-    by_entry : ((zs : List Sent) → gather_from (sent_of choice) (before ++ y ∷ []) ys ≡ zs ++ rest → Parted choice (before ++ y ∷ []) ys zs rest) → (sent_of choice before y ≡ []) ⊎ ((z : Sent) × (sent_of choice before y ≡ z ∷ [])) → Parted choice before (y ∷ ys) (x ∷ xs) rest
-    by_entry go (inl none) = with-one (x ∷ xs) (go (x ∷ xs) (ap (λ ss. ss ++ gather_from (sent_of choice) (before ++ y ∷ []) ys) (sym none) ∙ e)) (ap (λ ss. ss ++ (x ∷ xs)) none)
-    by_entry go (inr (z, one)) = with-one xs (go xs (tail_of z x (gather_from (sent_of choice) (before ++ y ∷ []) ys) (xs ++ rest) given)) (ap (λ ss. ss ++ xs) one ∙ ap (λ w. w ∷ xs) (head_of z x (gather_from (sent_of choice) (before ++ y ∷ []) ys) (xs ++ rest) given))
-      where
-        given : z ∷ gather_from (sent_of choice) (before ++ y ∷ []) ys ≡ x ∷ (xs ++ rest)
-        given = ap (λ ss. ss ++ gather_from (sent_of choice) (before ++ y ∷ []) ys) (sym one) ∙ e
-
--- ---- the epochs before the last one: each was ended because the number of shards changed, to that
--- of the next one
-abbrev pub AreBefore : List (List ShardHistory) → List ShardHistory → Type 0
-AreBefore [] last = Unit {0}
-AreBefore (lanes ∷ turned) last = (1 ≤ length lanes) × AreEndedBy kind.Reshard (map put_into lanes) × IsShardCount (first_number turned last) × AreBefore turned last
-
-first_count : (turned : List (List ShardHistory)) (last : List ShardHistory) → AreTurned turned → IsShardCount (length last) → IsShardCount (first_number turned last)
-first_count [] last turns number = number
-first_count (x ∷ xs) last turns number = turns.0
-
-pub turned-before : (turned : List (List ShardHistory)) (last : List ShardHistory) → AreTurned turned → IsShardCount (length last) → AreBefore turned last
-turned-before [] last turns number = tt
-turned-before (x ∷ xs) last turns number = (turns.0.0, turns.1, first_count xs last turns.2 number, turned-before xs last turns.2 number)
 
 -- all epochs, with the last one apart
 pub record Divided (lanes : List ShardHistory) (later : List (List ShardHistory)) : Type 0 where
@@ -299,14 +229,11 @@ module _ {T : Type 0} (tells : T → Type 0) (seen : T → List Exchange) (is_fo
 
   -- the machine has come to its report, with these shards at the end
   record Final (done : List (StoppedShard T)) (pieces : List Piece) (all : List Entry) (last : List (StoppedShard T)) (v : World) : Type 0 where
-    pieces_are : v.pieces ≡ pieces
-    placed_are : v.placed ≡ length all
+    epoch : ℕ
+    end : HasEnded c pieces epoch all (past_of tells seen (done ++ last)) v
     counted : v.filtered ≡ length (filtered c.choice all)
     shards : length v.shards ≡ length last
     each : (k : ℕ) (m : Shard) (j : StoppedShard T) → slice_get v.shards k ≡ Some m → slice_get last k ≡ Some j → IsAlike j.finished m
-    reported : report v ≡ Some (ended_as (fault pieces) (length all))
-    epoch : ℕ
-    tallied : IsTallied c (past_of tells seen (done ++ last)) epoch 0 all (λ k. empty) v
 
   -- ---- one epoch
   module _ (epoch : ℕ) (kd : Kind) (js : List (StoppedShard T)) (sound : AllByRecursion Sound js) (some_lanes : 1 ≤ length (map lane_of js)) (by : AreEndedBy kd (map put_into (map lane_of js))) (before es : List Entry) (dealt : IsDealt epoch (map lane_of js) (gather_from (sent_of c.choice) before es)) where
@@ -436,7 +363,7 @@ module _ {T : Type 0} (tells : T → Type 0) (seen : T → List Exchange) (is_fo
         same = same_Some _ _ (sym g.at ∙ at)
 
   -- ---- the last epoch
-  module _ (epoch : ℕ) (js : List (StoppedShard T)) (sound : AllByRecursion Sound js) (some_lanes : 1 ≤ length (map lane_of js)) (by : AreEndedBy kind.Orderly (map put_into (map lane_of js))) (before es : List Entry) (dealt : IsDealt epoch (map lane_of js) (gather_from (sent_of c.choice) before es)) (done : List (StoppedShard T)) (pieces : List Piece) (w : World) (b : BeginsEpoch c (past_of tells seen done) pieces epoch (length (map lane_of js)) before w) (all : entries pieces ≡ before ++ es) where
+  module _ (epoch : ℕ) (js : List (StoppedShard T)) (sound : AllByRecursion Sound js) (some_lanes : 1 ≤ length (map lane_of js)) (by : AreEndedBy kind.Orderly (map put_into (map lane_of js))) (before es : List Entry) (dealt : IsDealt epoch (map lane_of js) (gather_from (sent_of c.choice) before es)) (done : List (StoppedShard T)) (pieces : List Piece) (all : entries pieces ≡ before ++ es) where
     abbrev past : Past
     past = past_of tells seen done
 
@@ -446,146 +373,31 @@ module _ {T : Type 0} (tells : T → Type 0) (seen : T → List Exchange) (is_fo
     abbrev ends_so : ℕ → ShardFate
     ends_so = fates epoch kind.Orderly js sound some_lanes by before es dealt
 
-    reach : Reaches (AreUnsent ends_so) c w (IsAllPut c past pieces epoch m ends_so (before ++ es))
-    reach = put-all epoch kind.Orderly js sound some_lanes by before es dealt past pieces [] w b (all ∙ ap (λ (xs : List Entry). before ++ xs) (sym (append-nil es)))
-
-    abbrev put : World
-    put = reach.world
-
-    put-is : IsAllPut c past pieces epoch m ends_so (before ++ es) put
-    put-is = reach.holds
-
-    abbrev closed : World
-    closed = record put { closed = Some (length (log put)) }
-
-    closes : happens c put event.Close ≡ closed
-    closes = ap (unless_over c put event.Close) (over_not put put-is.under.going.0 put-is.under.going.1) ∙ rw put-is.under.going.1 refl
-
-    all-placed : (put.placed == length (log put)) ≡ true
-    all-placed = eq-eqb put.placed (length (log put)) (put-is.under.placed ∙ ap length (sym all) ∙ ap (λ ps. length (entries ps)) (sym put-is.under.pieces_are))
-
-    asks : (t : Shard) → mark closed t ≡ shard_end kind.Orderly t
-    asks t = ap (λ (x : Bool). cond x (shard_end kind.Orderly t) (cond (is_some put.draining) (shard_end kind.Reshard t) (shard_flush t))) all-placed
-
-    fate-end-so : (k : ℕ) → k < m → (ends_so k).end ≡ Some kind.Orderly
-    fate-end-so = fate-end epoch kind.Orderly js sound some_lanes by before es dealt
-
-    closing : Reaches (AreUnsent ends_so) c closed (IsOver c past epoch m ends_so (before ++ es) closed)
-    closing = end-all c past epoch m ends_so (before ++ es) kind.Orderly fate-end-so closed put-is.under.going.0 asks work.capacity put-is.under.count put-is.under.parts
-        (tallied-still c past epoch m (before ++ es) put-is.under.parts put closed (Of event.Close ∷ []) put-is.under.tallied closes refl refl) put-is.each
-
-    abbrev over : World
-    over = closing.world
-
-    over-is : IsOver c past epoch m ends_so (before ++ es) closed over
-    over-is = closing.holds
-
-    all-drained-now : list_all is_drained over.shards ≡ true
-    all-drained-now = drained-all c epoch m ends_so over.requests over-is.parts over.shards over-is.count (lists-at c over over-is.tallied.reached) over-is.done (fate-resolved epoch kind.Orderly js sound some_lanes by before es dealt)
-
-    last-run : Reaches ⊥ c w (Final done pieces (before ++ es) js)
-    last-run = record {
-      events = reach.events ++ (Of event.Close ∷ closing.events);
-      world = over;
-      own = λ no. absurd no;
-      is = run-append c reach.events (Of event.Close ∷ closing.events) w ∙ ap (run_freely c (Of event.Close ∷ closing.events)) reach.is ∙ ap (run_freely c closing.events) closes ∙ closing.is;
-      holds = record {
-        pieces_are = ap (λ (x : World). x.pieces) over-is.same ∙ put-is.under.pieces_are;
-        placed_are = ap (λ (x : World). x.placed) over-is.same ∙ put-is.under.placed;
-        counted = ap (λ (x : World). x.filtered) over-is.same ∙ put-is.under.counted;
-        shards = over-is.count ∙ length-map js lane_of;
-        each = λ k s j e at. let lt = subst (λ (i : ℕ). k < i) over-is.count (slice_get_within over.shards k s e) in alike epoch kind.Orderly js sound some_lanes by before es dealt k over.requests (over-is.parts k) s j lt (over-is.done k s e) at;
-        reported = ap report over-is.same ∙ rw (put-is.under.going.0, all-placed, all-drained-now) refl
-            ∙ ap Some (ap (λ ps. ended_as (fault ps) put.placed) put-is.under.pieces_are ∙ ap (λ (i : ℕ). ended_as (fault pieces) i) put-is.under.placed);
-        epoch = suc epoch;
-        tallied = tallied-next c past epoch m (past_of tells seen (done ++ js)) (before ++ es) over-is.parts (λ k. (ends_so k).worker.ledger.names) (λ k. (ends_so k).requests) over over [] 0 over-is.tallied refl refl refl
-            (tallies-at epoch m ends_so over.requests over-is.parts over.shards over-is.count over-is.done) (passes epoch kind.Orderly js sound some_lanes by before es dealt done);
-      };
+    final : (put over : World) (is : IsAllPut c past pieces epoch m ends_so (before ++ es) put) → IsOver c past epoch m ends_so (before ++ es) (closed c past pieces epoch m ends_so (before ++ es) all put is) over → Final done pieces (before ++ es) js over
+    final put over is at = record {
+      epoch = epoch;
+      end = has-ended c past pieces epoch m ends_so (before ++ es) all put is (past_of tells seen (done ++ js)) ends_so (fate-resolved epoch kind.Orderly js sound some_lanes by before es dealt) (passes epoch kind.Orderly js sound some_lanes by before es dealt done) over at;
+      counted = ap (λ (x : World). x.filtered) at.same ∙ is.under.counted;
+      shards = at.count ∙ length-map js lane_of;
+      each = λ k s j e got. let lt = subst (λ (i : ℕ). k < i) at.count (slice_get_within over.shards k s e) in alike epoch kind.Orderly js sound some_lanes by before es dealt k over.requests (at.parts k) s j lt (at.done k s e) got;
     }
 
+    last-run : (w : World) → BeginsEpoch c past pieces epoch m before w → Reaches ⊥ c w (Final done pieces (before ++ es) js)
+    last-run w b =
+        go-on c w _ _ (aloud c w _ (put-all epoch kind.Orderly js sound some_lanes by before es dealt past pieces [] w b (all ∙ ap (λ (xs : List Entry). before ++ xs) (sym (append-nil es)))))
+        (λ put is. go-on c put _ _ (aloud c put _ (orderly-run c past pieces epoch m ends_so (before ++ es) all put is work.capacity (fate-end epoch kind.Orderly js sound some_lanes by before es dealt))) (λ over at. stay c over _ (final put over is at)))
+
   -- ---- the epochs before the last one
-  pub record AtLast (done : List (StoppedShard T)) (pieces : List Piece) (last : List ShardHistory) (before es : List Entry) (w : World) : Type 0 where
-    pub epoch : ℕ
-    pub now : List Entry
-    pub later : List Entry
-    pub are : es ≡ now ++ later
-    pub dealt : IsDealt epoch last (gather_from (sent_of c.choice) (before ++ now) later)
-    pub reach : Reaches ⊥ c w (BeginsEpoch c (past_of tells seen done) pieces epoch (length last) (before ++ now))
+  -- the machine comes to the start of this epoch
+  abbrev pub Comes : List Piece → List ShardHistory → List (StoppedShard T) → ℕ → List (List ShardHistory) → List Entry → Type 0
+  Comes pieces last done epoch later before = Reaches ⊥ c (start c) (BeginsEpoch c (past_of tells seen done) pieces epoch (first_number later last) before)
 
-  pub none_joined : (js : List (StoppedShard T)) → map lane_of js ≡ [] → js ≡ []
-  none_joined [] e = refl
-  none_joined (j ∷ js) e = absurd (cc)
-
-  pub turned-run : (turned : List (List ShardHistory)) (last : List ShardHistory) (epoch : ℕ) (done js : List (StoppedShard T)) (before es rest : List Entry) (pieces : List Piece) (w : World) → AllByRecursion Sound js → map lane_of js ≡ joined turned
-      → Places epoch (turned ++ last ∷ []) (gather_from (sent_of c.choice) before es) → AreBefore turned last → BeginsEpoch c (past_of tells seen done) pieces epoch (first_number turned last) before w → entries pieces ≡ before ++ (es ++ rest) → AtLast (done ++ js) pieces last before es w
-  turned-run [] last epoch done js before es rest pieces w sound e p turned b all = record {
-    epoch = epoch;
-    now = [];
-    later = es;
-    are = refl;
-    dealt = subst (λ (bs : List Entry). IsDealt epoch last (gather_from (sent_of c.choice) bs es)) (sym (append-nil before)) (subst (IsDealt epoch last) (sym (p.2 ∙ ap (λ (xs : List Sent). p.0 ++ xs) p.4 ∙ append-nil p.0)) p.3);
-    reach = stay c w (BeginsEpoch c (past_of tells seen (done ++ js)) pieces epoch (length last) (before ++ []))
-        (subst (λ (bs : List Entry). BeginsEpoch c (past_of tells seen (done ++ js)) pieces epoch (length last) bs w) (sym (append-nil before))
-        (subst (λ (ks : List (StoppedShard T)). BeginsEpoch c (past_of tells seen ks) pieces epoch (length last) before w) (sym (ap (λ (ks : List (StoppedShard T)). done ++ ks) (none_joined js e) ∙ append-nil done)) b));
-  }
-  turned-run (lanes ∷ turned) last epoch done js before es rest pieces w sound e p turns b all =
-      with-later (turned-run turned last (suc epoch) (done ++ sp.first) sp.later (before ++ pt.now) pt.later rest pieces r2.world (AllByRecursion-right Sound sp.first sp.later both) sp.later_is (subst (Places (suc epoch) (turned ++ last ∷ [])) (sym pt.rest_is) p.4) turns.3 r2.holds
-      (begins ∙ sym (append_assoc before pt.now (pt.later ++ rest))))
-    where
-      sp : Split lane_of js lanes (joined turned)
-      sp = split_map lane_of js lanes (joined turned) e
-
-      pt : Parted c.choice before es p.0 p.1
-      pt = part c.choice before es p.0 p.1 p.2
-
-      both : AllByRecursion Sound (sp.first ++ sp.later)
-      both = subst (AllByRecursion Sound) sp.are sound
-
-      now : AllByRecursion Sound sp.first
-      now = AllByRecursion-left Sound sp.first sp.later both
-
-      same : lanes ≡ map lane_of sp.first
-      same = sym sp.first_is
-
-      some_now : 1 ≤ length (map lane_of sp.first)
-      some_now = subst (λ (ls : List ShardHistory). 1 ≤ length ls) same turns.0
-
-      by : AreEndedBy kind.Reshard (map put_into (map lane_of sp.first))
-      by = subst (λ (ls : List ShardHistory). AreEndedBy kind.Reshard (map put_into ls)) same turns.1
-
-      dealt : IsDealt epoch (map lane_of sp.first) (gather_from (sent_of c.choice) before pt.now)
-      dealt = subst (λ (ls : List ShardHistory). IsDealt epoch ls (gather_from (sent_of c.choice) before pt.now)) same (subst (IsDealt epoch lanes) (sym pt.first_is) p.3)
-
-      begins : entries pieces ≡ before ++ (pt.now ++ (pt.later ++ rest))
-      begins = all ∙ ap (λ (xs : List Entry). before ++ (xs ++ rest)) pt.are ∙ ap (λ (xs : List Entry). before ++ xs) (append_assoc pt.now pt.later rest)
-
-      r1 : Reaches (AreUnsent (fates epoch kind.Reshard sp.first now some_now by before pt.now dealt)) c w (IsAllPut c (past_of tells seen done) pieces epoch (length (map lane_of sp.first)) (fates epoch kind.Reshard sp.first now some_now by before pt.now dealt) (before ++ pt.now))
-      r1 = put-all epoch kind.Reshard sp.first now some_now by before pt.now dealt (past_of tells seen done) pieces (pt.later ++ rest) w (subst (λ (ls : List ShardHistory). BeginsEpoch c (past_of tells seen done) pieces epoch (length ls) before w) same b) begins
-
-      r2 : Reaches ⊥ c r1.world (BeginsEpoch c (past_of tells seen (done ++ sp.first)) pieces (suc epoch) (first_number turned last) (before ++ pt.now))
-      r2 = reshard-run c (past_of tells seen done) (past_of tells seen (done ++ sp.first)) pieces epoch (length (map lane_of sp.first)) (first_number turned last) (fates epoch kind.Reshard sp.first now some_now by before pt.now dealt) (before ++ pt.now) work.capacity turns.2.0 turns.2.1
-          (fate-end epoch kind.Reshard sp.first now some_now by before pt.now dealt) (fate-resolved epoch kind.Reshard sp.first now some_now by before pt.now dealt) r1.world r1.holds
-          (passes epoch kind.Reshard sp.first now some_now by before pt.now dealt done)
-
-      all_done : (done ++ sp.first) ++ sp.later ≡ done ++ js
-      all_done = append_assoc done sp.first sp.later ∙ ap (λ (ks : List (StoppedShard T)). done ++ ks) (sym sp.are)
-
-      with-later : AtLast ((done ++ sp.first) ++ sp.later) pieces last (before ++ pt.now) pt.later r2.world → AtLast (done ++ js) pieces last before es w
-      with-later a = record {
-        epoch = a.epoch;
-        now = pt.now ++ a.now;
-        later = a.later;
-        are = pt.are ∙ ap (λ (xs : List Entry). pt.now ++ xs) a.are ∙ sym (append_assoc pt.now a.now a.later);
-        dealt = subst (λ (bs : List Entry). IsDealt a.epoch last (gather_from (sent_of c.choice) bs a.later)) (append_assoc before pt.now a.now) a.dealt;
-        reach = record {
-          events = r1.events ++ (r2.events ++ a.reach.events);
-          world = a.reach.world;
-          own = λ no. absurd no;
-          is = run-append c r1.events (r2.events ++ a.reach.events) w ∙ ap (run_freely c (r2.events ++ a.reach.events)) r1.is ∙ run-append c r2.events a.reach.events r1.world ∙ ap (run_freely c a.reach.events) r2.is ∙ a.reach.is;
-          holds = subst (λ (bs : List Entry). BeginsEpoch c (past_of tells seen (done ++ js)) pieces a.epoch (length last) bs a.reach.world) (append_assoc before pt.now a.now)
-              (subst (λ (ks : List (StoppedShard T)). BeginsEpoch c (past_of tells seen ks) pieces a.epoch (length last) ((before ++ pt.now) ++ a.now) a.reach.world) all_done a.reach.holds);
-        };
-      }
+  pub turn-run : (pieces : List Piece) (last : List ShardHistory) (done js : List (StoppedShard T)) (epoch : ℕ) (later : List (List ShardHistory)) (before es : List Entry) → Turns Sound c.choice pieces last epoch js later before es
+      → Comes pieces last done epoch (map lane_of js ∷ later) before → Comes pieces last (done ++ js) (suc epoch) later (before ++ es)
+  turn-run pieces last done js epoch later before es t r =
+      go-on c (start c) _ _ r (λ w b. go-on c w _ _ (aloud c w _ (put-all epoch kind.Reshard js t.sound t.some t.by before es t.dealt (past_of tells seen done) pieces t.rest w b t.begins))
+      (λ v put. reshard-run c (past_of tells seen done) (past_of tells seen (done ++ js)) pieces epoch (length (map lane_of js)) (first_number later last) (fates epoch kind.Reshard js t.sound t.some t.by before es t.dealt) (before ++ es) work.capacity t.number.0 t.number.1
+      (fate-end epoch kind.Reshard js t.sound t.some t.by before es t.dealt) (fate-resolved epoch kind.Reshard js t.sound t.some t.by before es t.dealt) v put (passes epoch kind.Reshard js t.sound t.some t.by before es t.dealt done)))
 
 -- ---- from the start
 -- nothing more is asked of a shard
@@ -633,28 +445,34 @@ module _ {T : Type 0} (tells : T → Type 0) (seen : T → List Exchange) (c : S
     unsent = λ k. refl;
   }
 
+  pub begun-run : Reaches ⊥ c (start c) (BeginsEpoch c (past_of tells seen []) pieces 0 c.shards [])
+  begun-run = record { events = feeds fed; world = begun; is = fed-all; holds = begins; own = λ no. absurd no }
+
 module _ {T : Type 0} (tells : T → Type 0) (seen : T → List Exchange) (is_for : ℕ → ℕ → T → Type 0) (c : Setup) (s : Shipping T) (r : Report T) (fed : List Fed) (h : HasStopped tells seen is_for s r) (set : IsSetAs c s.fleet.config) (choice : c.choice ≡ s.log.choice) (work : CanWork c) (fed_are : s.log.pieces ≡ map piece_of fed) where
-  abbrev origin : World
-  origin = begun tells seen c s.log.pieces fed fed_are
+  abbrev IsSoundHere : StoppedShard T → Type 0
+  IsSoundHere = Sound tells seen is_for c s.fleet.config set work (no_more tells seen is_for)
+
+  abbrev ComesHere : List ShardHistory → List (StoppedShard T) → ℕ → List (List ShardHistory) → List Entry → Type 0
+  ComesHere = Comes tells seen is_for c s.fleet.config set work (no_more tells seen is_for) s.log.pieces
 
   finish : (epochs : List (List ShardHistory)) → map lane_of h.joined ≡ joined epochs → Places 0 epochs (sent c.choice s.log.placed) → HasNumbers c epochs → EndInTurn epochs → AreResolved h.joined → (IsAbandoned r.outcome → ⊥) → (found : Option TailFault) → HasRead s.log.pieces s.log.placed found → ending_of r.outcome ≡ ended_as found (length s.log.placed) → IsRun tells seen c s r
-  finish [] e p numbers turn resolved whole found read out = absurd numbers
-  finish (lanes ∷ later) e p numbers turn resolved whole found read out = (
-    events,
+  finish [] e p numbers turn resolved left_none found read out = absurd numbers
+  finish (lanes ∷ later) e p numbers turn resolved left_none found read out = (
+    whole.events,
     record {
-      log = ap (λ (x : World). x.pieces) leads ∙ last.pieces_are;
-      placed = ap (λ (x : World). x.placed) leads ∙ last.placed_are;
-      filtered = ap (λ (x : World). x.filtered) leads ∙ last.counted ∙ ap (λ (ch : Choice). length (filtered ch s.log.placed)) choice ∙ sym h.filter_count;
+      log = ap (λ (x : World). x.pieces) whole.is ∙ last.end.pieces_are;
+      placed = ap (λ (x : World). x.placed) whole.is ∙ last.end.placed_are;
+      filtered = ap (λ (x : World). x.filtered) whole.is ∙ last.counted ∙ ap (λ (ch : Choice). length (filtered ch s.log.placed)) choice ∙ sym h.filter_count;
       earlier = map finished_of sp.first;
       last = map finished_of sp.later;
       workers = h.workers ∙ ap (map finished_of) sp.are ∙ map-append finished_of sp.first sp.later;
-      shards = ap (λ (x : World). length x.shards) leads ∙ last.shards ∙ sym (length-map sp.later finished_of);
-      each = λ k m f e at. let g = map_get finished_of sp.later k f at in subst (λ (y : Finished T). IsAlike y m) g.2 (last.each k m g.0 (ap (λ (x : World). slice_get x.shards k) (sym leads) ∙ e) g.1);
-      names = names-all tells seen is_for c s r h choice last.epoch (world_of c events) tallied;
-      requests = sends-all tells seen is_for c s r h choice last.epoch (world_of c events) tallied;
-      outcome_is = tells-so r.outcome (report (world_of c events)) whole (ap report leads ∙ last.reported ∙ ap Some (ap (λ (o : Option TailFault). ended_as o (length s.log.placed)) read.fault_is ∙ sym out));
+      shards = ap (λ (x : World). length x.shards) whole.is ∙ last.shards ∙ sym (length-map sp.later finished_of);
+      each = λ k m f e at. let g = map_get finished_of sp.later k f at in subst (λ (y : Finished T). IsAlike y m) g.2 (last.each k m g.0 (ap (λ (x : World). slice_get x.shards k) (sym whole.is) ∙ e) g.1);
+      names = names-all tells seen is_for c s r h choice (suc last.epoch) (world_of c whole.events) tallied;
+      requests = sends-all tells seen is_for c s r h choice (suc last.epoch) (world_of c whole.events) tallied;
+      outcome_is = tells-so r.outcome (report (world_of c whole.events)) left_none (ap report whole.is ∙ last.end.reported ∙ ap Some (ap (λ (o : Option TailFault). ended_as o (length s.log.placed)) read.fault_is ∙ sym out));
     },
-    keeps-laws c events,
+    keeps-laws c whole.events,
   )
     where
       d : Divided lanes later
@@ -663,35 +481,29 @@ module _ {T : Type 0} (tells : T → Type 0) (seen : T → List Exchange) (is_fo
       sp : Split lane_of h.joined (joined d.turned) d.last
       sp = split_map lane_of h.joined (joined d.turned) d.last (e ∙ ap joined d.are ∙ joined-last d.turned d.last)
 
-      sound : AllByRecursion (Sound tells seen is_for c s.fleet.config set work (no_more tells seen is_for)) (sp.first ++ sp.later)
-      sound = subst (AllByRecursion (Sound tells seen is_for c s.fleet.config set work (no_more tells seen is_for))) sp.are (sound-all tells seen is_for c s.fleet.config set work (no_more tells seen is_for) h.joined (known-all tells seen is_for c s.fleet.config set work (no_more tells seen is_for) h.joined h.worked h.setup (none-asked tells seen is_for c s.fleet.config set work h.joined h.worked)) resolved)
+      sound : AllByRecursion IsSoundHere (sp.first ++ sp.later)
+      sound = subst (AllByRecursion IsSoundHere) sp.are (sound-all tells seen is_for c s.fleet.config set work (no_more tells seen is_for) h.joined (known-all tells seen is_for c s.fleet.config set work (no_more tells seen is_for) h.joined h.worked h.setup (none-asked tells seen is_for c s.fleet.config set work h.joined h.worked)) resolved)
 
-      at-last : AtLast tells seen is_for c s.fleet.config set work (no_more tells seen is_for) sp.first s.log.pieces d.last [] s.log.placed origin
-      at-last = turned-run tells seen is_for c s.fleet.config set work (no_more tells seen is_for) d.turned d.last 0 [] sp.first [] s.log.placed [] s.log.pieces origin
-          (AllByRecursion-left (Sound tells seen is_for c s.fleet.config set work (no_more tells seen is_for)) sp.first sp.later sound) sp.first_is (subst (λ (es : List (List ShardHistory)). Places 0 es (sent c.choice s.log.placed)) d.are p) d.before
-          (subst (λ (i : ℕ). BeginsEpoch c (past_of tells seen []) s.log.pieces 0 i [] origin) (sym (d.first ∙ numbers.0)) (begins tells seen c s.log.pieces fed fed_are)) (sym read.all ∙ sym (append-nil s.log.placed))
+      at-last : AtLast c.choice d.last (ComesHere d.last) sp.first [] s.log.placed
+      at-last = turn-all IsSoundHere c.choice s.log.pieces d.last [] (ComesHere d.last) (turn-run tells seen is_for c s.fleet.config set work (no_more tells seen is_for) s.log.pieces d.last) d.turned 0 [] sp.first [] s.log.placed
+          (AllByRecursion-left IsSoundHere sp.first sp.later sound) sp.first_is (subst (λ (es : List (List ShardHistory)). Places 0 es (sent c.choice s.log.placed)) d.are p) d.before (sym read.all ∙ sym (append-nil s.log.placed))
+          (subst (λ (i : ℕ). Reaches ⊥ c (start c) (BeginsEpoch c (past_of tells seen []) s.log.pieces 0 i [])) (sym (d.first ∙ numbers.0)) (begun-run tells seen c s.log.pieces fed fed_are))
 
       same : d.last ≡ map lane_of sp.later
       same = sym sp.later_is
 
-      final : Reaches ⊥ c at-last.reach.world (Final tells seen is_for c s.fleet.config set work (no_more tells seen is_for) sp.first s.log.pieces (at-last.now ++ at-last.later) sp.later)
-      final = last-run tells seen is_for c s.fleet.config set work (no_more tells seen is_for) at-last.epoch sp.later (AllByRecursion-right (Sound tells seen is_for c s.fleet.config set work (no_more tells seen is_for)) sp.first sp.later sound)
+      whole : Reaches ⊥ c (start c) (Final tells seen is_for c s.fleet.config set work (no_more tells seen is_for) sp.first s.log.pieces (at-last.now ++ at-last.later) sp.later)
+      whole = go-on c (start c) _ _ at-last.at (λ w b. last-run tells seen is_for c s.fleet.config set work (no_more tells seen is_for) at-last.epoch sp.later (AllByRecursion-right IsSoundHere sp.first sp.later sound)
           (subst (λ (ls : List ShardHistory). 1 ≤ length ls) same d.some) (subst (λ (ls : List ShardHistory). AreEndedBy kind.Orderly (map put_into ls)) same d.by) at-last.now at-last.later
-          (subst (λ (ls : List ShardHistory). IsDealt at-last.epoch ls (gather_from (sent_of c.choice) at-last.now at-last.later)) same at-last.dealt) sp.first s.log.pieces at-last.reach.world
-          (subst (λ (ls : List ShardHistory). BeginsEpoch c (past_of tells seen sp.first) s.log.pieces at-last.epoch (length ls) at-last.now at-last.reach.world) same at-last.reach.holds) (sym read.all ∙ at-last.are)
+          (subst (λ (ls : List ShardHistory). IsDealt at-last.epoch ls (gather_from (sent_of c.choice) at-last.now at-last.later)) same at-last.dealt) sp.first s.log.pieces (sym read.all ∙ at-last.are) w
+          (subst (λ (ls : List ShardHistory). BeginsEpoch c (past_of tells seen sp.first) s.log.pieces at-last.epoch (length ls) at-last.now w) same b))
 
-      events : List Happening
-      events = feeds fed ++ (at-last.reach.events ++ final.events)
+      last : Final tells seen is_for c s.fleet.config set work (no_more tells seen is_for) sp.first s.log.pieces s.log.placed sp.later whole.world
+      last = subst (λ (es : List Entry). Final tells seen is_for c s.fleet.config set work (no_more tells seen is_for) sp.first s.log.pieces es sp.later whole.world) (sym at-last.are) whole.holds
 
-      leads : world_of c events ≡ final.world
-      leads = run-append c (feeds fed) (at-last.reach.events ++ final.events) (start c) ∙ ap (run_freely c (at-last.reach.events ++ final.events)) (fed-all tells seen c s.log.pieces fed fed_are) ∙ run-append c at-last.reach.events final.events origin ∙ ap (run_freely c final.events) at-last.reach.is ∙ final.is
-
-      last : Final tells seen is_for c s.fleet.config set work (no_more tells seen is_for) sp.first s.log.pieces s.log.placed sp.later final.world
-      last = subst (λ (es : List Entry). Final tells seen is_for c s.fleet.config set work (no_more tells seen is_for) sp.first s.log.pieces es sp.later final.world) (sym at-last.are) final.holds
-
-      tallied : IsTallied c (past_of tells seen h.joined) last.epoch 0 s.log.placed (λ k. empty) (world_of c events)
-      tallied = subst (λ (js : List (StoppedShard T)). IsTallied c (past_of tells seen js) last.epoch 0 s.log.placed (λ k. empty) (world_of c events)) (sym sp.are)
-          (subst (λ (v : World). IsTallied c (past_of tells seen (sp.first ++ sp.later)) last.epoch 0 s.log.placed (λ k. empty) v) (sym leads) last.tallied)
+      tallied : IsTallied c (past_of tells seen h.joined) (suc last.epoch) 0 s.log.placed (λ k. empty) (world_of c whole.events)
+      tallied = subst (λ (js : List (StoppedShard T)). IsTallied c (past_of tells seen js) (suc last.epoch) 0 s.log.placed (λ k. empty) (world_of c whole.events)) (sym sp.are)
+          (subst (λ (v : World). IsTallied c (past_of tells seen (sp.first ++ sp.later)) (suc last.epoch) 0 s.log.placed (λ k. empty) v) (sym whole.is) last.end.tallied)
 
 pub stops-as-run : {T : Type 0} (tells : T → Type 0) (seen : T → List Exchange) (is_for : ℕ → ℕ → T → Type 0) (s : Shipping T) (r : Report T) → StopsAsRun tells seen is_for s r
 stops-as-run {T} tells seen is_for s r c fed h epochs machine work fed_are e p numbers turn left = by_outcome r.outcome refl h.ends left
