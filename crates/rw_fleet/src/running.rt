@@ -36,7 +36,7 @@ impl fmt::Display for Fault {
     fn fmt<W: fmt::Write>(&self, f: &mut fmt::Formatter<W>) -> fmt::Result {
         f.write_str(match self {
             Fault::OutOfMemory => "out of memory",
-            Fault::Gone => "the worker has gone",
+            Fault::Gone => "the worker has stopped",
         })
     }
 }

@@ -41,7 +41,7 @@ impl fmt::Display for OpenError {
     fn fmt<W: fmt::Write>(&self, f: &mut fmt::Formatter<W>) -> fmt::Result {
         match self {
             OpenError::Log(error) => write!(f, "{error}"),
-            OpenError::Foreign => f.write_str("the log has an entry that this head does not take"),
+            OpenError::Foreign => f.write_str("the log has an entry that this head refuses"),
             OpenError::NoReferenceLeft => f.write_str("the log has a reference from 2^63 on"),
         }
     }

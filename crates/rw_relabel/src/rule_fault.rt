@@ -20,7 +20,7 @@ impl fmt::Display for RuleFault {
     fn fmt<W: fmt::Write>(&self, f: &mut fmt::Formatter<W>) -> fmt::Result {
         f.write_str(match self {
             RuleFault::OutOfMemory => "out of memory",
-            RuleFault::BadPattern => "the pattern is not taken",
+            RuleFault::BadPattern => "the regular expression is invalid or too large",
             RuleFault::NoSource => "there is no source label",
         })
     }

@@ -51,7 +51,7 @@ impl fmt::Display for ReopenError {
     fn fmt<W: fmt::Write>(&self, f: &mut fmt::Formatter<W>) -> fmt::Result {
         match self {
             ReopenError::OutOfMemory => f.write_str("out of memory"),
-            ReopenError::Failed => f.write_str("the device failed"),
+            ReopenError::Failed => f.write_str("a device failed"),
             ReopenError::Damaged(damage) => write!(
                 f,
                 "{} in segment {} at byte {}",

@@ -28,7 +28,7 @@ impl fmt::Display for NextFault {
     fn fmt<W: fmt::Write>(&self, f: &mut fmt::Formatter<W>) -> fmt::Result {
         f.write_str(match self {
             NextFault::OutOfMemory => "out of memory",
-            NextFault::NotDrained => "a shard is not drained",
+            NextFault::NotDrained => "a shard still has samples",
         })
     }
 }

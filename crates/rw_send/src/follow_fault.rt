@@ -21,7 +21,7 @@ impl fmt::Display for FollowFault {
         match *self {
             FollowFault::Tool(fault) => fault.fmt(f),
             FollowFault::Missing(segment) => write!(f, "segment {segment} is missing"),
-            FollowFault::Stopped => f.write_str("stopped at once"),
+            FollowFault::Stopped => f.write_str("stopped by a hard stop"),
         }
     }
 }

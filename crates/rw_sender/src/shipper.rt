@@ -51,7 +51,7 @@ impl fmt::Display for FeedFault {
         match self {
             FeedFault::OutOfMemory => f.write_str("out of memory"),
             FeedFault::Damaged(fault) => fault.fmt(f),
-            FeedFault::Gone => f.write_str("a worker has gone"),
+            FeedFault::Gone => f.write_str("a worker has stopped"),
         }
     }
 }

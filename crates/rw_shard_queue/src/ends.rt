@@ -27,7 +27,7 @@ pub struct Gone;
 
 impl fmt::Display for Gone {
     fn fmt<W: fmt::Write>(&self, f: &mut fmt::Formatter<W>) -> fmt::Result {
-        f.write_str("the other end has gone")
+        f.write_str("the other end of the queue no longer exists")
     }
 }
 

@@ -17,7 +17,7 @@ impl fmt::Display for TextFault {
     fn fmt<W: fmt::Write>(&self, f: &mut fmt::Formatter<W>) -> fmt::Result {
         f.write_str(match self {
             TextFault::OutOfMemory => "out of memory",
-            TextFault::NotOfForm => "the text does not have the form that is read",
+            TextFault::NotOfForm => "the text is not valid",
         })
     }
 }

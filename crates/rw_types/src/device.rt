@@ -13,7 +13,7 @@ pub struct Failed;
 
 impl fmt::Display for Failed {
     fn fmt<W: fmt::Write>(&self, f: &mut fmt::Formatter<W>) -> fmt::Result {
-        f.write_str("the device failed")
+        f.write_str("a device failed")
     }
 }
 

@@ -44,9 +44,9 @@ impl fmt::Display for LabelFault {
             LabelFault::EmptyName => "label fault 2: a name is empty",
             LabelFault::BadName => "label fault 3: a name is not allowed",
             LabelFault::EmptyValue => "label fault 4: a value is empty",
-            LabelFault::NotSorted => "label fault 5: the names do not rise",
+            LabelFault::NotSorted => "label fault 5: the names are not sorted, or one is repeated",
             LabelFault::TooMany => "label fault 6: more than 64 labels",
-            LabelFault::TooLong => "label fault 7: names and values have more than 16384 bytes",
+            LabelFault::TooLong => "label fault 7: names and values together have more than 16384 bytes",
         })
     }
 }

@@ -22,7 +22,7 @@ impl fmt::Display for ReadFault {
     fn fmt<W: fmt::Write>(&self, f: &mut fmt::Formatter<W>) -> fmt::Result {
         f.write_str(match self {
             ReadFault::OutOfMemory => "out of memory",
-            ReadFault::Failed => "the reader failed",
+            ReadFault::Failed => "reading failed",
         })
     }
 }

@@ -34,14 +34,14 @@ impl fmt::Display for TailFault {
     fn fmt<W: fmt::Write>(&self, f: &mut fmt::Formatter<W>) -> fmt::Result {
         f.write_str(match self {
             TailFault::OutOfMemory => "out of memory",
-            TailFault::BadType => "log fault 1: a bad type",
-            TailFault::BadLength => "log fault 2: a bad length",
-            TailFault::BadCrc => "log fault 3: a bad CRC",
-            TailFault::Compressed => "log fault 4: a compressed record",
-            TailFault::NonzeroPadding => "log fault 5: padding that is not zero",
-            TailFault::Sequence => "log fault 6: a fragment out of sequence",
-            TailFault::BadRecord => "log fault 7: a bad record",
-            TailFault::TornSegment => "log fault 8: a torn segment",
+            TailFault::BadType => "log fault 1: unknown fragment type",
+            TailFault::BadLength => "log fault 2: invalid fragment length",
+            TailFault::BadCrc => "log fault 3: checksum mismatch",
+            TailFault::Compressed => "log fault 4: compressed record",
+            TailFault::NonzeroPadding => "log fault 5: nonzero padding",
+            TailFault::Sequence => "log fault 6: fragment out of sequence",
+            TailFault::BadRecord => "log fault 7: invalid record",
+            TailFault::TornSegment => "log fault 8: the segment ends inside a record",
         })
     }
 }

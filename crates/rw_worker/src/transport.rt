@@ -19,7 +19,7 @@ pub struct Lost;
 
 impl fmt::Display for Lost {
     fn fmt<W: fmt::Write>(&self, f: &mut fmt::Formatter<W>) -> fmt::Result {
-        f.write_str("no reply came")
+        f.write_str("no reply was received")
     }
 }
 

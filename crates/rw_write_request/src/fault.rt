@@ -34,8 +34,8 @@ impl fmt::Display for WireFault {
             WireFault::OutOfMemory => "out of memory",
             WireFault::Truncated => "message fault 1: a field passes the end of its message",
             WireFault::VarintTooBig => "message fault 2: a varint has more than 64 bits",
-            WireFault::WrongWire => "message fault 3: a field has another wire type than its own",
-            WireFault::BadWire => "message fault 4: a wire type that is none",
+            WireFault::WrongWire => "message fault 3: a field has the wrong wire type",
+            WireFault::BadWire => "message fault 4: unknown wire type",
             WireFault::FieldZero => "message fault 5: a field has the number 0",
             WireFault::NotUtf8 => "message fault 6: a string is not UTF-8",
         })

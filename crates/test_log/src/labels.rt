@@ -223,7 +223,7 @@ static TOLD: [(LabelFault, &str); 7] = [
     (LabelFault::TooMany, "label fault 6: more than 64 "),
     (
         LabelFault::TooLong,
-        "label fault 7: names and values have more than 16384 ",
+        "label fault 7: names and values together have more ",
     ),
 ];
 
