@@ -6,11 +6,12 @@ use Rattle.rw_types.specs.Labels.{Labels}
 use Rattle.rw_types.specs.LabelOrder.{labels_eq}
 use Rattle.rw_write_request.specs.Canon.{series_field, series_head, sample_fields, canon}
 use Rattle.rw_write_request.specs.Message.{Sample, TimeSeries}
-use Rattle.rw_write_request.specs.Valid.{IsSample, IsSeries}
-use Rattle.rw_write_request.proofs.Spelled.{series-field-parts}
-use Rattle.rw_types.proofs.FittingLemmas.{part_fits, one_more}
-use Rattle.rw_batch.specs.Grouping.{LabelledSample, samples_of, distinct, message, series_at}
-use Rattle.rw_batch.specs.Kept.{samples_alone, parts_len, HasLabels}
+use Rattle.rw_write_request.specs.Valid.{IsValidSample, IsSeries}
+use Rattle.rw_write_request.proofs.shared.Spelled.{series-field-parts}
+use Rattle.rw_types.proofs.shared.FittingLemmas.{part_fits, one_more}
+use Rattle.rw_batch.specs.Grouping.{LabelledSample, samples_of, distinct, message}
+use Rattle.rw_batch.specs.inner.Grouping.{series_at}
+use Rattle.rw_batch.specs.inner.Kept.{samples_alone, parts_len, HasLabels}
 
 abbrev one_series : Labels → List Sample → TimeSeries
 one_series l s = record { labels = l; samples = s }
@@ -42,20 +43,20 @@ series_more xs place lt =
     ap length (sym (one_more series_field (message xs) place (series_at xs place) [] front (front ++ field) field lt (place_is xs place lt) refl refl refl)) ∙ length-append front field
 
 -- what a program holds can be spelled
-kept_valid : (b : Bool) (x : LabelledSample) (ys : List LabelledSample) → IsSample x.sample → AllByRecursion IsSample (samples_alone ys) → AllByRecursion IsSample (samples_alone (cond b (x ∷ ys) ys))
+kept_valid : (b : Bool) (x : LabelledSample) (ys : List LabelledSample) → IsValidSample x.sample → AllByRecursion IsValidSample (samples_alone ys) → AllByRecursion IsValidSample (samples_alone (cond b (x ∷ ys) ys))
 kept_valid true x ys p h = (p, h)
 kept_valid false x ys p h = h
 
-filter_valid : (p : LabelledSample → Bool) (xs : List LabelledSample) → AllByRecursion IsSample (samples_alone xs) → AllByRecursion IsSample (samples_alone (filter p xs))
+filter_valid : (p : LabelledSample → Bool) (xs : List LabelledSample) → AllByRecursion IsValidSample (samples_alone xs) → AllByRecursion IsValidSample (samples_alone (filter p xs))
 filter_valid p [] h = h
 filter_valid p (x ∷ xs) h = kept_valid (p x) x (filter p xs) h.0 (filter_valid p xs h.1)
 
-each_valid : (xs : List LabelledSample) (ls : List Labels) → AllByRecursion IsSample (samples_alone xs)
+each_valid : (xs : List LabelledSample) (ls : List Labels) → AllByRecursion IsValidSample (samples_alone xs)
     → AllByRecursion HasLabels (map (λ (l : Labels). one_series l (samples_of l xs)) ls) → AllByRecursion IsSeries (map (λ (l : Labels). one_series l (samples_of l xs)) ls)
 unfolding samples_of
 each_valid xs [] v h = tt
 each_valid xs (l ∷ ls) v h = (record { labels = h.0; samples = filter_valid (λ (x : LabelledSample). labels_eq l x.labels) xs v }, each_valid xs ls v h.1)
 
-pub message_valid : (xs : List LabelledSample) → AllByRecursion IsSample (samples_alone xs) → AllByRecursion HasLabels (message xs) → AllByRecursion IsSeries (message xs)
+pub message_valid : (xs : List LabelledSample) → AllByRecursion IsValidSample (samples_alone xs) → AllByRecursion HasLabels (message xs) → AllByRecursion IsSeries (message xs)
 unfolding message
 message_valid xs v h = each_valid xs (distinct (map (λ (x : LabelledSample). x.labels) xs)) v h

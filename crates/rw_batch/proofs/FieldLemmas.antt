@@ -7,9 +7,9 @@ use Rattle.std.proofs.lemmas.Grind.{flat_map-append}
 use Rattle.std.proofs.lemmas.Option.{slice_get-get_or, get_or_from_slice_get}
 use Rattle.rw_write_request.specs.Canon.{sample_field, sample_fields}
 use Rattle.rw_write_request.specs.Message.{Sample}
-use Rattle.rw_write_request.proofs.Spelled.{sample-field-length}
-use Rattle.rw_plain_queue.proofs.Lists.{get_snoc, get_below}
-use Rattle.rw_batch.specs.Kept.{field_at}
+use Rattle.rw_write_request.proofs.shared.Spelled.{sample-field-length}
+use Rattle.rw_plain_queue.proofs.shared.Lists.{get_snoc, get_below}
+use Rattle.rw_batch.specs.inner.Kept.{field_at}
 
 pub one_field : (s : Sample) → sample_fields (s ∷ []) ≡ sample_field s
 one_field s = flat_map-cons sample_field s [] ∙ append-nil (sample_field s)

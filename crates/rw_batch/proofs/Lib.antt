@@ -2,8 +2,6 @@ pub mod BodyLemmas
 pub mod FieldLemmas
 pub mod GroupsLemmas
 pub mod KeysLemmas
-pub mod LabelLemmas
-pub mod MessageLemmas
-pub mod NumberLemmas
 pub mod RowLemmas
 pub mod StretchLemmas
+pub mod shared

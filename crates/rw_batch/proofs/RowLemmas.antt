@@ -10,17 +10,18 @@ use Rattle.std.proofs.lemmas.Grind.{flat_map-append}
 use Rattle.std.proofs.lemmas.Option.{slice_get-get_or, slice_get-map, get_or_from_slice_get}
 use Rattle.rw_types.specs.Labels.{Labels}
 use Rattle.rw_types.specs.LabelOrder.{labels_eq}
-use Rattle.rw_types.proofs.AllLemmas.{AllByRecursion-append}
+use Rattle.rw_types.proofs.shared.AllLemmas.{AllByRecursion-append}
 use Rattle.rw_write_request.specs.Canon.{sample_fields}
 use Rattle.rw_write_request.specs.Message.{Sample, TimeSeries, WriteRequest}
-use Rattle.rw_write_request.proofs.Spelled.{sample-field-length}
-use Rattle.rw_plain_queue.proofs.Lists.{get_front, get_below}
-use Rattle.rw_batch.specs.Grouping.{LabelledSample, message, with_labels, labels_of, distinct, series_at}
-use Rattle.rw_batch.specs.Kept.{samples_alone, field_at, GoesBack, IsTrail, IsLine, HasLines, Shared, AreRows}
+use Rattle.rw_write_request.proofs.shared.Spelled.{sample-field-length}
+use Rattle.rw_plain_queue.proofs.shared.Lists.{get_front, get_below}
+use Rattle.rw_batch.specs.Grouping.{LabelledSample, message, with_labels, labels_of_series, distinct}
+use Rattle.rw_batch.specs.inner.Grouping.{series_at}
+use Rattle.rw_batch.specs.inner.Kept.{samples_alone, field_at, GoesBack, IsTrail, IsLine, HasLines, Shared, AreRows}
 use Rattle.rw_batch.specs.declared.rows.Line.{Line}
 use Rattle.rw_batch.proofs.FieldLemmas.{one_field, fields-append, fields-push, field_at-is, get_here}
 use Rattle.rw_batch.proofs.KeysLemmas.{any-map, kept_or_pushed, opened, keys_stay, grown}
-use Rattle.rw_batch.proofs.MessageLemmas.{message-push, message_is_distinct, labels_of-with_sample}
+use Rattle.rw_batch.proofs.shared.MessageLemmas.{message-push, message_is_distinct, labels_of-with_sample}
 
 get_last : {A : Type 0} (xs : List A) (x : A) (n : ℕ) → n ≡ length xs → slice_get (xs ++ x ∷ []) n ≡ Some x
 get_last [] x zero e = refl
@@ -116,12 +117,12 @@ no_lines xs before lines e f =
     let P : WriteRequest → List Line → Type 0 = λ gs ls. HasLines xs before gs ls in
     subst (λ (gs : WriteRequest). P gs lines) (sym (ap message e ∙ message-none)) (subst (λ (ls : List Line). P [] ls) (sym f) tt)
 
-pub no_labels : (xs : List LabelledSample) (series : List Shared) → xs ≡ [] → series ≡ [] → map arc_value series ≡ labels_of (message xs)
-no_labels xs series e f = ap (map arc_value) f ∙ sym (ap labels_of (ap message e ∙ message-none))
+pub no_labels : (xs : List LabelledSample) (series : List Shared) → xs ≡ [] → series ≡ [] → map arc_value series ≡ labels_of_series (message xs)
+no_labels xs series e f = ap (map arc_value) f ∙ sym (ap labels_of_series (ap message e ∙ message-none))
 
 -- a sample of a series that is new
 pub lines_open : (xs : List LabelledSample) (x : LabelledSample) (before : List ℕ) (n bytes : ℕ) (series : List Shared) (lines : List Line) (b : Bool) → n ≡ length xs → n ≡ length before
-    → bytes ≡ length (sample_fields (x.sample ∷ [])) → bytes ≤ 22 → HasLines xs before (message xs) lines → map arc_value series ≡ labels_of (message xs)
+    → bytes ≡ length (sample_fields (x.sample ∷ [])) → bytes ≤ 22 → HasLines xs before (message xs) lines → map arc_value series ≡ labels_of_series (message xs)
     → b ≡ not (list_any (λ k. labels_eq x.labels (arc_value k)) series) → b ≡ true
     → HasLines (xs ++ x ∷ []) (before ++ n ∷ []) (message (xs ++ x ∷ [])) (lines ++ record { last = n; count = 1; bytes = bytes } ∷ [])
 lines_open xs x before n bytes series lines b e f len short h same is new =
@@ -134,7 +135,7 @@ lines_open xs x before n bytes series lines b e f len short h same is new =
 
 -- a sample of a series that is known
 pub lines_grow : (xs : List LabelledSample) (x : LabelledSample) (before : List ℕ) (n bytes : ℕ) (series : List Shared) (lines : List Line) (i : ℕ) (line : Line) → n ≡ length xs → n ≡ length before
-    → bytes ≡ length (sample_fields (x.sample ∷ [])) → bytes ≤ 22 → HasLines xs before (message xs) lines → map arc_value series ≡ labels_of (message xs)
+    → bytes ≡ length (sample_fields (x.sample ∷ [])) → bytes ≤ 22 → HasLines xs before (message xs) lines → map arc_value series ≡ labels_of_series (message xs)
     → (k : Shared) → slice_get series i ≡ Some k → labels_eq x.labels (arc_value k) ≡ true → slice_get lines i ≡ Some line
     → HasLines (xs ++ x ∷ []) (before ++ line.last ∷ []) (message (xs ++ x ∷ [])) (set lines i (record { last = n; count = line.count + 1; bytes = line.bytes + bytes }))
 lines_grow xs x before n bytes series lines i line e f len short h same k at equal line_is =
@@ -159,20 +160,20 @@ line_here xs before lines place line h lt e =
     (get_here lines place line (omega (arith, lt, as_many xs before (message xs) lines h)) e)
 
 -- and its labels
-pub labels_here : (xs : List LabelledSample) (series : List Shared) (place : ℕ) (set : Shared) → map arc_value series ≡ labels_of (message xs) → place < length (message xs)
+pub labels_here : (xs : List LabelledSample) (series : List Shared) (place : ℕ) (set : Shared) → map arc_value series ≡ labels_of_series (message xs) → place < length (message xs)
     → set ≡ get_or series place set → arc_value set ≡ (series_at xs place).labels
 labels_here xs series place set same lt e =
     let n : length series ≡ length (message xs) = sym (length-map series arc_value) ∙ ap length same ∙ length-map (message xs) (λ (g : TimeSeries). g.labels) in
     let at : slice_get series place ≡ Some set = get_here series place set (omega (arith, lt, n)) e in
     let one : slice_get (map arc_value series) place ≡ Some (arc_value set) = slice_get-map arc_value series place ∙ ap (option_map arc_value) at in
-    let other : slice_get (labels_of (message xs)) place ≡ Some (series_at xs place).labels =
+    let other : slice_get (labels_of_series (message xs)) place ≡ Some (series_at xs place).labels =
     slice_get-map (λ (g : TimeSeries). g.labels) (message xs) place ∙ ap (option_map (λ (g : TimeSeries). g.labels)) (slice_get-get_or (message xs) place (record { labels = []; samples = [] }) lt) in
     some_same (sym one ∙ ap (λ (ls : List Labels). slice_get ls place) same ∙ other)
   where
     some_same : {A : Type 0} {x y : A} → Some x ≡ Some y → x ≡ y
     some_same e = cc
 
-pub series_below : (xs : List LabelledSample) (series : List Shared) (place : ℕ) → map arc_value series ≡ labels_of (message xs) → place < length (message xs) → place < length series
+pub series_below : (xs : List LabelledSample) (series : List Shared) (place : ℕ) → map arc_value series ≡ labels_of_series (message xs) → place < length (message xs) → place < length series
 series_below xs series place same lt =
     omega (arith, lt, length-map series arc_value, ap length same, length-map (message xs) (λ (g : TimeSeries). g.labels))
 
@@ -218,10 +219,10 @@ within_back xs before at (j ∷ back) ss h =
 
 -- what is kept after one more sample
 module _ (v : Shared → Labels) where
-  labels_after : (series : List Shared) (key : Shared) (xs : List LabelledSample) (x : LabelledSample) → map v series ≡ labels_of (message xs) → x.labels ≡ v key
-      → map v (cond (list_any (λ k. labels_eq (v key) (v k)) series) series (series ++ key ∷ [])) ≡ labels_of (message (xs ++ x ∷ []))
+  labels_after : (series : List Shared) (key : Shared) (xs : List LabelledSample) (x : LabelledSample) → map v series ≡ labels_of_series (message xs) → x.labels ≡ v key
+      → map v (cond (list_any (λ k. labels_eq (v key) (v k)) series) series (series ++ key ∷ [])) ≡ labels_of_series (message (xs ++ x ∷ []))
   labels_after series key xs x same is =
-      sym (ap labels_of (message-push xs x) ∙ labels_of-with_sample x.labels x.sample (message xs) ∙ ap (λ (l : Labels). with_labels l (labels_of (message xs))) is
+      sym (ap labels_of_series (message-push xs x) ∙ labels_of-with_sample x.labels x.sample (message xs) ∙ ap (λ (l : Labels). with_labels l (labels_of_series (message xs))) is
       ∙ ap (with_labels (v key)) (sym same) ∙ ap (λ (b : Bool). cond b (map v series) (map v series ++ v key ∷ [])) (any-map v (v key) series)
       ∙ kept_or_pushed v series key (list_any (λ k. labels_eq (v key) (v k)) series))
 

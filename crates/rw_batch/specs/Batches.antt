@@ -1,12 +1,10 @@
 -- A batch (Remote-Write 1.0): a stretch of one shard's samples, whose id and body never change.
-use Rattle.std.specs.Global.{Global}
-use Rattle.std.specs.Prelude.{◌≡◌, ℕ, ◌+◌, ◌-◌, ◌≤◌, Vec, vec_capacity, List, [], ◌∷◌, ◌++◌, length, Some, slice_get}
+use Rattle.std.specs.Prelude.{◌≡◌, ℕ, ◌+◌, ◌-◌, List, [], ◌∷◌, ◌++◌, length, Some, slice_get}
 use Rattle.rw_types.specs.declared.place.Place.{Place}
 use Rattle.rw_plain_queue.specs.declared.item.Item.{Item}
 use Rattle.rw_plain_queue.specs.declared.item.Item.TheVariants.{Sample, Flush, End}
 use Rattle.rw_write_request.specs.Canon.{canon}
 use Rattle.rw_batch.specs.Grouping.{LabelledSample, message}
-use Rattle.rw_batch.specs.Kept.{Fielded, Rowed, samples_alone}
 use Rattle.rw_batch.specs.declared.batch.BatchId.{BatchId}
 
 -- samples that are taken until there are `room` of them: where each is and what it is, in the same
@@ -22,8 +20,8 @@ pub record Frozen : Type 0 where
   pub body : List ℕ
 
 -- the place is the next one of the same shard, if there is one before it
-abbrev pub Follows : List Place → Place → Type 0
-Follows ps p = (last : Place) → slice_get ps (length ps - 1) ≡ Some last → (p.epoch ≡ last.epoch) × (p.shard ≡ last.shard) × (p.seq ≡ last.seq + 1)
+abbrev pub IsNextPlace : List Place → Place → Type 0
+IsNextPlace ps p = (last : Place) → slice_get ps (length ps - 1) ≡ Some last → (p.epoch ≡ last.epoch) × (p.shard ≡ last.shard) × (p.seq ≡ last.seq + 1)
 
 -- places one after the other in one shard
 abbrev pub IsStretch : List Place → Type 0
@@ -31,7 +29,7 @@ IsStretch ps = (k : ℕ) (p q : Place) → slice_get ps 0 ≡ Some p → slice_g
 
 -- a sample that follows those before it
 abbrev pub MayBeTaken : List Place → Item → Type 0
-MayBeTaken ps (Sample place t word labels) = Follows ps place
+MayBeTaken ps (Sample place t word labels) = IsNextPlace ps place
 MayBeTaken ps Flush = ⊥
 MayBeTaken ps (End kind) = ⊥
 
@@ -49,14 +47,3 @@ id_of (p ∷ ps) = record { epoch = p.epoch; shard = p.shard; seq = p.seq }
 -- label set
 abbrev pub batch_of : Building → Frozen
 batch_of b = record { places = b.places; body = canon (message b.samples) }
-
--- what a builder keeps: a place for each sample, and one shard's samples in order, with their
--- fields and their series
-pub record IsBuilding (batch : ℕ) (places : Vec Place Global) (fields : Fielded) (rows : Rowed) : Type 0 where
-  pub alike : length places.items ≡ length rows.samples
-  pub within : length rows.samples ≤ batch
-  pub place_room : batch ≤ vec_capacity places
-  pub field_room : fields.room ≡ batch
-  pub row_room : rows.room ≡ batch
-  pub same : fields.samples ≡ samples_alone rows.samples
-  pub stretch : IsStretch places.items

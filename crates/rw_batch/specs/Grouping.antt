@@ -1,10 +1,10 @@
 -- The message of a batch (Remote-Write 1.0): one series for each label set, in the order of first
 -- samples, each with its samples in order.
-use Rattle.std.specs.Prelude.{ℕ, List, [], ◌∷◌, ◌++◌, map, filter, length, get_or, sum_by, not, if◌then◌else◌}
+use Rattle.std.specs.Prelude.{ℕ, List, [], ◌∷◌, ◌++◌, map, filter, length, sum_by, not, if◌then◌else◌}
 use Rattle.std.specs.List.{list_any}
 use Rattle.rw_types.specs.Labels.{Labels}
 use Rattle.rw_types.specs.LabelOrder.{labels_eq}
-use Rattle.rw_write_request.specs.Message.{Sample, TimeSeries, WriteRequest}
+use Rattle.rw_write_request.specs.Message.{Sample, WriteRequest}
 
 -- a sample and the labels of its series
 pub record LabelledSample : Type 0 where
@@ -24,10 +24,6 @@ distinct (l ∷ ls) = l ∷ filter (λ m. not (labels_eq l m)) (distinct ls)
 unfoldable pub message : List LabelledSample → WriteRequest
 message xs = map (λ l. record { labels = l; samples = samples_of l xs }) (distinct (map (λ x. x.labels) xs))
 
--- the series at a place of the message of these samples
-abbrev pub series_at : List LabelledSample → ℕ → TimeSeries
-series_at xs place = get_or (message xs) place (record { labels = []; samples = [] })
-
 -- a message with one more sample: at the end of the series with its labels, or in a new series
 -- after the others
 unfoldable pub with_sample : Labels → Sample → WriteRequest → WriteRequest
@@ -36,8 +32,8 @@ with_sample l s (g ∷ gs) =
     if labels_eq l g.labels then record { labels = g.labels; samples = g.samples ++ s ∷ [] } ∷ gs else g ∷ with_sample l s gs
 
 -- the labels of each series
-abbrev pub labels_of : WriteRequest → List Labels
-labels_of gs = map (λ g. g.labels) gs
+abbrev pub labels_of_series : WriteRequest → List Labels
+labels_of_series gs = map (λ g. g.labels) gs
 
 -- how many samples there are in all series together
 abbrev pub sample_count : WriteRequest → ℕ

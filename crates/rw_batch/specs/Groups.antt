@@ -3,7 +3,7 @@ use Rattle.std.specs.Prelude.{◌≡◌, ◌↔◌, ℕ, List, [], ◌∷◌, �
 use Rattle.std.specs.List.{list_any}
 use Rattle.rw_types.specs.Labels.{Labels}
 use Rattle.rw_write_request.specs.Message.{WriteRequest}
-use Rattle.rw_batch.specs.Grouping.{labels_of}
+use Rattle.rw_batch.specs.Grouping.{labels_of_series}
 
 -- the series, and the number of each, in the same order
 pub record Groups : Type 0 where
@@ -12,7 +12,7 @@ pub record Groups : Type 0 where
 
 -- a number stands for labels: each place has this number exactly if its series has these labels
 abbrev pub StandsFor : ℕ → Labels → Groups → Type 0
-StandsFor number l g = (i : ℕ) → (slice_get g.numbers i ≡ Some number) ↔ (slice_get (labels_of g.series) i ≡ Some l)
+StandsFor number l g = (i : ℕ) → (slice_get g.numbers i ≡ Some number) ↔ (slice_get (labels_of_series g.series) i ≡ Some l)
 
 -- numbers, with one that goes to the end if it is new
 abbrev pub with_number : ℕ → List ℕ → List ℕ

@@ -1,4 +1,4 @@
 pub mod Grouping
 pub mod Groups
-pub mod Kept
 pub mod Batches
+pub mod inner

@@ -6,8 +6,9 @@ ghost use Rattle.std.specs.List.{AllByRecursion, flat_map};
 ghost use Rattle.rw_write_request.specs.Canon.{series_field, canon};
 ghost use Rattle.rw_write_request.specs.Spells.{Spells};
 ghost use Rattle.rw_write_request.specs.Valid.{IsLabel};
-ghost use Rattle.rw_batch.specs.Grouping.{message, series_at};
-ghost use Rattle.rw_batch.specs.Kept.{samples_alone, field_at, parts_len, HasLabels};
+ghost use Rattle.rw_batch.specs.Grouping.{message};
+ghost use Rattle.rw_batch.specs.inner.Grouping.{series_at};
+ghost use Rattle.rw_batch.specs.inner.Kept.{samples_alone, field_at, parts_len, HasLabels};
 
 use crate::fields::Fields;
 use crate::rows::Rows;

@@ -4,7 +4,7 @@ ghost use Rattle.std.specs.Prelude.{◌≡◌, ◌↔◌, ◌+◌, ◌<◌, ◌�
 ghost use Rattle.std.specs.Vec.{vec_len, vec_capacity};
 ghost use Rattle.rw_write_request.specs.Canon.{sample_field};
 ghost use Rattle.rw_write_request.specs.Spells.{Spells};
-ghost use Rattle.rw_batch.specs.Batches.{Follows, MayBeTaken, with_item, batch_of};
+ghost use Rattle.rw_batch.specs.Batches.{IsNextPlace, MayBeTaken, with_item, batch_of};
 ghost use Rattle.rw_batch.specs.Grouping.{LabelledSample, message};
 
 use crate::batch::Batch;
@@ -31,7 +31,8 @@ pub struct Builder {
 }
 
 impl Model for Builder {
-    ghost use Rattle.rw_batch.specs.Batches.{Building, IsBuilding};
+    ghost use Rattle.rw_batch.specs.Batches.{Building};
+    ghost use Rattle.rw_batch.specs.inner.Batches.{IsBuilding};
 
     ghost Value = { Building };
 
@@ -46,7 +47,7 @@ impl Model for Builder {
 
 /// Returns whether a place is the next one of the same shard, or there is no place before it.
 fn follows(places: &[Place], place: &Place) -> bool
-    ensures { IsTrue result ↔ Follows places.now place.now }
+    ensures { IsTrue result ↔ IsNextPlace places.now place.now }
 {
     let Some(last) = places.last() else {
         return true;

@@ -4,8 +4,8 @@ ghost use Rattle.std.specs.Prelude.{◌≡◌, ◌<◌, ◌≤◌, [], ◌∷◌
 ghost use Rattle.std.specs.List.{AllByRecursion};
 ghost use Rattle.rw_write_request.specs.Canon.{sample_field, sample_fields};
 ghost use Rattle.rw_write_request.specs.Message.{Sample};
-ghost use Rattle.rw_write_request.specs.Valid.{IsSample};
-ghost use Rattle.rw_batch.specs.Kept.{field_at};
+ghost use Rattle.rw_write_request.specs.Valid.{IsValidSample};
+ghost use Rattle.rw_batch.specs.inner.Kept.{field_at};
 
 use rw_history::History;
 use rw_types::Word;
@@ -27,7 +27,7 @@ pub(crate) struct Fields {
 }
 
 impl Model for Fields {
-    ghost use Rattle.rw_batch.specs.Kept.{Fielded, AreFields};
+    ghost use Rattle.rw_batch.specs.inner.Kept.{Fielded, AreFields};
 
     ghost Value = { Fielded };
 
@@ -78,7 +78,7 @@ impl Fields {
     /// Returns how many fields there are.
     pub(crate) fn len(&self) -> usize
         ensures len { result ≡ length self.now.samples }
-        ensures valid { AllByRecursion IsSample self.now.samples }
+        ensures valid { AllByRecursion IsValidSample self.now.samples }
     {
         self.marks.len() - 1
     }

@@ -5,7 +5,7 @@ ghost use Rattle.std.specs.Arc.{arc_value};
 ghost use Rattle.std.specs.List.{list_any};
 ghost use Rattle.indexmap.specs.IndexSet.{spare};
 ghost use Rattle.rw_types.specs.LabelOrder.{labels_eq};
-ghost use Rattle.rw_batch.specs.Kept.{Shared};
+ghost use Rattle.rw_batch.specs.inner.Kept.{Shared};
 
 use indexmap::IndexSet;
 use rw_types::LabelSet;

@@ -4,7 +4,7 @@ ghost use Rattle.std.specs.Prelude.{◌≡◌, ◌↔◌, ◌∷◌, [], ◌++�
 ghost use Rattle.std.specs.List.{IsDistinct, list_any};
 ghost use Rattle.rw_types.specs.Labels.{text_label};
 ghost use Rattle.rw_types.specs.LabelOrder.{labels_eq};
-ghost use Rattle.rw_batch.specs.Grouping.{with_sample, labels_of};
+ghost use Rattle.rw_batch.specs.Grouping.{with_sample, labels_of_series};
 ghost use Rattle.rw_batch.specs.Groups.{StandsFor, with_number};
 
 use indexmap::IndexSet;
@@ -29,7 +29,7 @@ impl Model for Grouping {
     ghost use Rattle.std.specs.Prelude.{◌≡◌, length};
     ghost use Rattle.std.specs.List.{IsDistinct};
     ghost use Rattle.rw_types.specs.LabelOrder.{labels_eq};
-    ghost use Rattle.rw_batch.specs.Grouping.{labels_of};
+    ghost use Rattle.rw_batch.specs.Grouping.{labels_of_series};
     ghost use Rattle.rw_batch.specs.Groups.{Groups};
 
     ghost Value = { Groups };
@@ -37,7 +37,7 @@ impl Model for Grouping {
     ghost view = { λ g. record { numbers = g.numbers.keys; series = g.series.items } };
 
     ghost invariant = { λ g. (length g.numbers.keys ≡ length g.series.items)
-        × IsDistinct labels_eq (labels_of g.series.items) };
+        × IsDistinct labels_eq (labels_of_series g.series.items) };
 }
 
 /// Returns a copy of labels.
@@ -88,7 +88,7 @@ impl Grouping {
     pub fn len(&self) -> usize
         ensures len { result ≡ length self.now.series }
         ensures numbers { result ≡ length self.now.numbers }
-        ensures distinct { IsDistinct labels_eq (labels_of self.now.series) }
+        ensures distinct { IsDistinct labels_eq (labels_of_series self.now.series) }
     {
         self.series.len()
     }

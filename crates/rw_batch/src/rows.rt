@@ -4,8 +4,9 @@ ghost use Rattle.std.specs.Prelude.{◌≡◌, ℕ, ◌<◌, ◌≤◌, List, []
 ghost use Rattle.std.specs.Vec.{vec_capacity};
 ghost use Rattle.std.specs.List.{AllByRecursion, flat_map};
 ghost use Rattle.rw_write_request.specs.Canon.{sample_fields};
-ghost use Rattle.rw_batch.specs.Grouping.{message, series_at};
-ghost use Rattle.rw_batch.specs.Kept.{samples_alone, field_at, IsTrail};
+ghost use Rattle.rw_batch.specs.Grouping.{message};
+ghost use Rattle.rw_batch.specs.inner.Grouping.{series_at};
+ghost use Rattle.rw_batch.specs.inner.Kept.{samples_alone, field_at, IsTrail};
 
 use crate::found::{NOWHERE, place_of};
 use indexmap::IndexSet;
@@ -58,7 +59,7 @@ pub(crate) struct Rows {
 
 impl Model for Rows {
     ghost use Rattle.indexmap.specs.IndexSet.{spare};
-    ghost use Rattle.rw_batch.specs.Kept.{Rowed, AreRows};
+    ghost use Rattle.rw_batch.specs.inner.Kept.{Rowed, AreRows};
 
     ghost Value = { Rowed };
 

@@ -6,9 +6,9 @@ use Rattle.rw_types.specs.Labels.{Labels}
 use Rattle.rw_types.specs.declared.entry.Entry.{Entry}
 use Rattle.rw_types.specs.declared.entry.Entry.TheVariants.{Def, Sample}
 use Rattle.rw_wal_format.specs.Series.{labels_of, has_labels, samples_after}
+use Rattle.rw_wal_format.proofs.shared.SeriesRows.{labels_of-push}
 use Rattle.rw_relabel.specs.declared.choice.Choice.{Choice}
 use Rattle.rw_series_cache.specs.Points.{is_kept, kept_points}
-use Rattle.rw_series_cache.proofs.KnownLemmas.{labels_of-push}
 use Rattle.rw_head.specs.Order.{Point}
 use Rattle.rw_checkpoint.specs.Owed.{pairs_of, rising, owed_of, EndsWith, is_from, those_from}
 use Rattle.rw_checkpoint.specs.Checkpoints.{is_used, SaySame, IsCheckpointFor, IsInTime}

@@ -5,14 +5,11 @@ use Rattle.std.proofs.lemmas.Bool.Decides.{nat_tests}
 use Rattle.std.proofs.lemmas.List.Elements.{filter-append}
 use Rattle.std.specs.List.{AllByRecursion}
 use Rattle.rw_types.specs.Rising.{Rises}
-use Rattle.rw_types.proofs.TimeLemmas.{int_lt-trans}
+use Rattle.rw_types.proofs.shared.TimeLemmas.{int_lt-trans}
+use Rattle.rw_types.proofs.shared.Booleans.{either}
 use Rattle.rw_head.specs.Lists.{IsEarlier}
 use Rattle.rw_head.specs.Order.{Point}
 use Rattle.rw_checkpoint.specs.Owed.{is_after_each, rising_after, rising, EndsWith, is_from, those_from}
-
-either : {X : Type 0} (P : X → Type 0) (b : Bool) (x y : X) → (b ≡ true → P x) → (b ≡ false → P y) → P (cond b x y)
-either P true x y on off = on refl
-either P false x y on off = off refl
 
 -- ---- timestamps
 before_floor : (d t f : ℕ) → ltb d f ≡ true → ltb t f ≡ false → ltb d t ≡ true

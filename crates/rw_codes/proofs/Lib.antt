@@ -1,5 +1,4 @@
-pub mod Digits
-pub mod VarintLaws
 pub mod CrcLaws
 pub mod CrcTables
 mod CodeRows
+pub mod shared

@@ -10,7 +10,7 @@ use Rattle.rw_endpoint.specs.Judgement.{closes_after, finding_of, body_finding, 
 use Rattle.rw_endpoint.specs.Fields.{NameValue, has_field}
 use Rattle.rw_endpoint.specs.Values.{announced}
 use Rattle.rw_endpoint.specs.Reading.{BeginsWithHead}
-use Rattle.rw_endpoint.specs.Replies.{reply, is_verdict}
+use Rattle.rw_endpoint.specs.Replies.{reply_bytes, is_verdict}
 use Rattle.rw_endpoint.specs.Serving.{Replies, RepliesTo, last, further, Ends, Serves, ends, stays, HasWritten, IsTooSmall}
 use Rattle.rw_endpoint.specs.Alone.{IsOneRequest, IsServedAlone}
 use Rattle.rw_endpoint.specs.declared.finding.Finding.{Finding}
@@ -18,7 +18,7 @@ use Rattle.rw_endpoint.specs.declared.finding.Finding.TheVariants.{Refused, Body
 use Rattle.rw_endpoint.specs.declared.serve_end.ServeEnd.{ServeEnd}
 use Rattle.rw_endpoint.specs.declared.serve_end.ServeEnd.TheVariants.{Eof, Closed, Torn, Device, OutOfMemory}
 use Rattle.rw_endpoint.proofs.FrontLemmas.{begins_more, head_longer}
-use Rattle.rw_endpoint.proofs.ReplyLemmas.{reply_len, is_reply_status}
+use Rattle.rw_endpoint.proofs.shared.ReplyLemmas.{reply_len, is_reply_status}
 
 -- an input begins with one head
 pub one_head : (input : List ℕ) (head other : RequestHead) (rest left : List ℕ) → BeginsWithHead input head rest → BeginsWithHead input other left →
@@ -36,12 +36,12 @@ record IsReply {S : Type 0} (answers : S → List ℕ → ℕ → S → Type 0) 
   closing : closes ≡ true
   given : answers old body status new
   verdict : IsTrue (is_verdict status)
-  written : text ≡ reply status true
+  written : text ≡ reply_bytes status true
 
 -- bodies of one length after one head
 answered : {S : Type 0} (path : List ℕ) (limit : ℕ) (answers : S → List ℕ → ℕ → S → Type 0) (head : RequestHead) (body part left text : List ℕ) (old : S) (closes : Bool) (status : ℕ) (new : S) →
     finding_of path limit head ≡ Body (length body) true → finding_of path limit head ≡ Body (length part) closes → body ≡ part ++ left →
-    answers old part status new → IsTrue (is_verdict status) → text ≡ reply status closes → IsReply answers body old text closes new
+    answers old part status new → IsTrue (is_verdict status) → text ≡ reply_bytes status closes → IsReply answers body old text closes new
 answered path limit answers head body part left text old closes status new f h e given verdict written =
     let len : length part ≡ length body = cc in
     let closing : closes ≡ true = cc in
@@ -50,7 +50,7 @@ answered path limit answers head body part left text old closes status new f h e
       closing = closing;
       given = subst (λ (t : List ℕ). answers old t status new) (whole_front body part left e len) given;
       verdict = verdict;
-      written = written ∙ ap (reply status) closing;
+      written = written ∙ ap (reply_bytes status) closing;
     }
 
 -- what replies to it

@@ -2,7 +2,7 @@
 use Rattle.std.proofs.Common.{◌≡◌, ℕ, List, [], ◌++◌, length, drop, take, Bool, true, false, refl, sym, subst, ◌∙◌, ap, inl, inr, arith}
 use Rattle.std.proofs.Math.Seq.{take-append_seam, drop-append_seam}
 use Rattle.rw_endpoint.specs.Judgement.{finding_of}
-use Rattle.rw_endpoint.specs.Replies.{reply}
+use Rattle.rw_endpoint.specs.Replies.{reply_bytes}
 use Rattle.rw_endpoint.specs.Serving.{Replies, Ends, Serves, ends, stays}
 use Rattle.rw_endpoint.specs.Determined.{IsFunction, IsServedWhole, AreDetermined}
 use Rattle.rw_endpoint.specs.declared.finding.Finding.TheVariants.{Refused, Body}
@@ -47,7 +47,7 @@ same_reply path limit answers input old text other rest left closes ending new l
     let same = one_head input a.head b.head a.rest b.rest a.begins b.begins in
     let status : a.status ≡ b.status = (let e : Refused a.status ≡ Refused b.status = sym a.finding ∙ ap (finding_of path limit) same.0 ∙ b.finding in cc) in
     record {
-      same_text = a.written ∙ ap (λ (s : ℕ). reply s true) status ∙ sym b.written;
+      same_text = a.written ∙ ap (λ (s : ℕ). reply_bytes s true) status ∙ sym b.written;
       same_end = a.closing ∙ sym b.closing;
       same_state = a.unasked ∙ sym b.unasked;
       same_rest = λ e. absurd (let f : true ≡ false = sym a.closing ∙ e in cc);
@@ -66,7 +66,7 @@ same_reply path limit answers input old text other rest left closes ending new l
     let parts = fronts a.body b.body rest left same.1 len in
     let told = one old a.body a.status b.status new last a.status_given (subst (λ (t : List ℕ). answers old t b.status last) (sym parts.0) b.status_given) in
     record {
-      same_text = a.written ∙ ap (λ (s : ℕ). reply s closes) told.0 ∙ ap (reply b.status) end ∙ sym b.written;
+      same_text = a.written ∙ ap (λ (s : ℕ). reply_bytes s closes) told.0 ∙ ap (reply_bytes b.status) end ∙ sym b.written;
       same_end = end;
       same_state = told.1;
       same_rest = λ f. parts.1;

@@ -2,12 +2,13 @@
 use Rattle.std.proofs.Common.{◌+◌, ◌<◌, ◌≤◌, false, arith, length, length-append, ◌≡◌, ℕ, List, [], ◌++◌, drop, Bool, true, Option, Some, Result, Ok, Err, refl, sym, subst, ◌∙◌, ap, inl, inr, append_assoc}
 use Rattle.std.specs.Io.KnownBytes.{prepend_known}
 use Rattle.httparse.specs.Grammar.{IsRequestHead, RequestHead, print_request}
-use Rattle.rw_endpoint.specs.Reading.{BeginsWithHead, NeverHasHead, Judges}
+use Rattle.rw_endpoint.specs.Reading.{BeginsWithHead, NeverHasHead}
+use Rattle.rw_endpoint.specs.inner.Reading.{Judges}
 use Rattle.rw_endpoint.specs.declared.finding.Finding.TheVariants.{Refused, Body}
 use Rattle.rw_endpoint.specs.declared.head.Reading.TheVariants.{Head}
-use Rattle.rw_endpoint.specs.Replies.{reply}
+use Rattle.rw_endpoint.specs.Replies.{reply_bytes}
 use Rattle.rw_endpoint.specs.Serving.{Replies, AsksForBody}
-use Rattle.rw_endpoint.specs.Steps.{IsBodyAnswered, HasBodyServed, HasServed}
+use Rattle.rw_endpoint.specs.inner.Steps.{IsBodyAnswered, HasBodyServed, HasServed}
 use Rattle.rw_endpoint.specs.declared.serve_end.ServeEnd.{ServeEnd}
 use Rattle.rw_endpoint.specs.declared.serve_end.ServeEnd.TheVariants.{Eof, Closed, Torn, Device, OutOfMemory}
 use Rattle.rw_endpoint.proofs.KnownLemmas.{prepend_split}
@@ -24,7 +25,7 @@ never_more p y never more head rest b =
 
 -- bytes that no head begins
 pub no_request : {S : Type 0} (path : List ℕ) (limit : ℕ) (answers : S → List ℕ → ℕ → S → Type 0) (p : List ℕ) (r : Option (List ℕ)) (input : List ℕ) (s : S) →
-    NeverHasHead p → prepend_known p r ≡ Some input → Replies path limit answers input s (reply 400 true) [] true s
+    NeverHasHead p → prepend_known p r ≡ Some input → Replies path limit answers input s (reply_bytes 400 true) [] true s
 no_request path limit answers p r input s never e =
     let split = prepend_split p r input e in
     inl (record { never = subst NeverHasHead (sym split.2) (never_more p split.0 never); written = refl; closing = refl; unasked = refl })
@@ -32,7 +33,7 @@ no_request path limit answers p r input s never e =
 -- a request that its head refuses
 pub refused : {S : Type 0} (path : List ℕ) (limit : ℕ) (answers : S → List ℕ → ℕ → S → Type 0) (p : List ℕ) (r : Option (List ℕ)) (input : List ℕ) (s : S) (status len : ℕ) →
     Judges path limit p (Head (Refused status) len) → prepend_known p r ≡ Some input →
-    Replies path limit answers input s (reply status true) [] true s
+    Replies path limit answers input s (reply_bytes status true) [] true s
 refused path limit answers p r input s status len j e =
     let split = prepend_split p r input e in
     inr (inl (record { head = j.0; rest = drop len p ++ split.0; status = status; begins = subst (λ (t : List ℕ). BeginsWithHead t j.0 (drop len p ++ split.0)) (sym split.2) (begins_more p split.0 j.0 (drop len p) j.1); finding = sym j.3; written = refl; closing = refl; unasked = refl }))

@@ -2,7 +2,7 @@
 use Rattle.std.proofs.Common.{ℕ, ◌≤◌, List, length, drop, arith}
 use Rattle.httparse.specs.Grammar.{HasNoRequest, print_request}
 use Rattle.rw_endpoint.specs.Reading.{NeverHasHead}
-use Rattle.rw_types.proofs.AnswerLemmas.{front_within}
+use Rattle.rw_types.proofs.shared.AnswerLemmas.{front_within}
 
 -- a full buffer without a head never gets one within the limit
 pub never_past : (buf : List ℕ) → HasNoRequest buf → 8192 ≤ length buf → NeverHasHead buf

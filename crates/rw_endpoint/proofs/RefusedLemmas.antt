@@ -2,7 +2,7 @@
 use Rattle.std.proofs.Common.{◌≡◌, ◌≤◌, ℕ, List, [], ◌++◌, length, Bool, true, false, IsTrue, Option, Some, refl, sym, subst, ◌∙◌, ap, inl, inr, arith, length-append}
 use Rattle.std.proofs.lemmas.Bool.{or_right}
 use Rattle.rw_endpoint.specs.Judgement.{finding_of, is_refusal}
-use Rattle.rw_endpoint.specs.Replies.{reply, is_verdict}
+use Rattle.rw_endpoint.specs.Replies.{reply_bytes, is_verdict}
 use Rattle.rw_endpoint.specs.Serving.{Replies, RepliesTo, last, further, Ends, Serves, ends, stays, HasWritten, IsTooSmall, RepliesUpTo, nothing_yet, one_more, AsksForBody, IsStoppedAtBody}
 use Rattle.rw_endpoint.specs.Alone.{IsOneRefusal, IsTurnedAway}
 use Rattle.rw_endpoint.specs.declared.finding.Finding.TheVariants.{Refused, Body}
@@ -10,13 +10,13 @@ use Rattle.rw_endpoint.specs.declared.serve_end.ServeEnd.{ServeEnd}
 use Rattle.rw_endpoint.specs.declared.serve_end.ServeEnd.TheVariants.{Eof, Closed, Torn, Device, OutOfMemory}
 use Rattle.rw_endpoint.proofs.AloneLemmas.{one_head, FindingWithin, finding_within}
 use Rattle.rw_endpoint.proofs.FrontLemmas.{begins_more, head_longer}
-use Rattle.rw_endpoint.proofs.ReplyLemmas.{reply_len}
+use Rattle.rw_endpoint.proofs.shared.ReplyLemmas.{reply_len}
 
 -- the reply
 record IsRefusal {S : Type 0} (status : ℕ) (old : S) (text : List ℕ) (closes : Bool) (new : S) : Type 0 where
   closing : closes ≡ true
   unasked : new ≡ old
-  written : text ≡ reply status true
+  written : text ≡ reply_bytes status true
 
 refusal_of : {S : Type 0} (path : List ℕ) (limit : ℕ) (answers : S → List ℕ → ℕ → S → Type 0) (input : List ℕ) (status : ℕ) (old : S) (text rest : List ℕ) (closes : Bool) (new : S) →
     IsOneRefusal path limit input status → Replies path limit answers input old text rest closes new → IsRefusal status old text closes new
@@ -26,7 +26,7 @@ refusal_of path limit answers input status old text rest closes new one (inr (in
     let same = one_head input one.head r.head one.rest r.rest one.begins r.begins in
     let e : Refused status ≡ Refused r.status = sym one.finding ∙ ap (finding_of path limit) same.0 ∙ r.finding in
     let statuses : r.status ≡ status = cc in
-    record { closing = r.closing; unasked = r.unasked; written = r.written ∙ ap (λ (s : ℕ). reply s true) statuses }
+    record { closing = r.closing; unasked = r.unasked; written = r.written ∙ ap (λ (s : ℕ). reply_bytes s true) statuses }
 refusal_of path limit answers input status old text rest closes new one (inr (inr r)) =
     let same = one_head input one.head r.head one.rest (r.body ++ rest) one.begins r.begins in
     absurd (let e : Refused status ≡ Body (length r.body) closes = sym one.finding ∙ ap (finding_of path limit) same.0 ∙ r.finding in cc)
@@ -36,7 +36,7 @@ refusal_status : (path : List ℕ) (limit : ℕ) (input : List ℕ) (status : �
 refusal_status path limit input status one = subst (FindingWithin limit) one.finding (finding_within path limit one.head).bound
 
 -- it is short
-refusal_len : (path : List ℕ) (limit : ℕ) (input : List ℕ) (status : ℕ) → IsOneRefusal path limit input status → length (reply status true) ≤ 86
+refusal_len : (path : List ℕ) (limit : ℕ) (input : List ℕ) (status : ℕ) → IsOneRefusal path limit input status → length (reply_bytes status true) ≤ 86
 refusal_len path limit input status one =
     reply_len status true (or_right (is_verdict status) (is_refusal status) (refusal_status path limit input status one))
 
@@ -53,10 +53,10 @@ replies_short path limit answers input status old text one (further {first = fir
 nothing_before : {S : Type 0} (path : List ℕ) (limit : ℕ) (answers : S → List ℕ → ℕ → S → Type 0) (input : List ℕ) (status : ℕ) (old : S) (text left : List ℕ) (new : S) →
     IsOneRefusal path limit input status → RepliesUpTo path limit answers input old text left new → left ≡ input
 nothing_before path limit answers input status old text left new one nothing_yet = refl
-nothing_before path limit answers input status old text left new one (one_more {text = so_far} {left = middle} {first = first} {rest = rest} {middle = was} r reply) =
+nothing_before path limit answers input status old text left new one (one_more {text = so_far} {left = middle} {first = first} {rest = rest} {middle = was} r reply_bytes) =
     let same = nothing_before path limit answers input status old so_far middle was one r in
     let p = refusal_of path limit answers input status was first left false new one
-    (subst (λ (t : List ℕ). Replies path limit answers t was first left false new) same reply) in
+    (subst (λ (t : List ℕ). Replies path limit answers t was first left false new) same reply_bytes) in
     absurd (let e : false ≡ true = p.closing in cc)
 
 -- it asks for no body

@@ -3,7 +3,7 @@ use Rattle.std.specs.Prelude.{◌≡◌, ℕ, ◌⊎◌, List, ◌++◌, length,
 use Rattle.httparse.specs.Grammar.{RequestHead}
 use Rattle.rw_endpoint.specs.Judgement.{finding_of, is_refusal}
 use Rattle.rw_endpoint.specs.Reading.{BeginsWithHead}
-use Rattle.rw_endpoint.specs.Replies.{reply, is_verdict}
+use Rattle.rw_endpoint.specs.Replies.{reply_bytes, is_verdict}
 use Rattle.rw_endpoint.specs.declared.finding.Finding.TheVariants.{Refused, Body}
 use Rattle.rw_endpoint.specs.declared.serve_end.ServeEnd.{ServeEnd}
 use Rattle.rw_endpoint.specs.declared.serve_end.ServeEnd.TheVariants.{Closed, OutOfMemory}
@@ -18,7 +18,7 @@ pub record IsOneRequest (path : List ℕ) (limit : ℕ) (input body : List ℕ) 
 -- nothing was written
 abbrev pub IsServedAlone : {S : Type 0} → (S → List ℕ → ℕ → S → Type 0) → List ℕ → S → List ℕ → Option (List ℕ) → S → ServeEnd → Type 0
 IsServedAlone answers body old before contents new how =
-    ((how ≡ Closed) × (status : ℕ) × answers old body status new × IsTrue (is_verdict status) × (contents ≡ Some (before ++ reply status true)))
+    ((how ≡ Closed) × (status : ℕ) × answers old body status new × IsTrue (is_verdict status) × (contents ≡ Some (before ++ reply_bytes status true)))
     ⊎ ((how ≡ OutOfMemory) × (new ≡ old) × (contents ≡ Some before))
 
 -- the input begins with a request that its head refuses with this status
@@ -31,4 +31,4 @@ pub record IsOneRefusal (path : List ℕ) (limit : ℕ) (input : List ℕ) (stat
 -- nothing was asked, and that is the reply
 abbrev pub IsTurnedAway : {S : Type 0} → ℕ → S → List ℕ → Option (List ℕ) → S → ServeEnd → Type 0
 IsTurnedAway status old before contents new how =
-    (new ≡ old) × (how ≡ Closed) × IsTrue (is_refusal status) × (contents ≡ Some (before ++ reply status true))
+    (new ≡ old) × (how ≡ Closed) × IsTrue (is_refusal status) × (contents ≡ Some (before ++ reply_bytes status true))

@@ -4,7 +4,7 @@ pub mod Judgement
 pub mod Reading
 pub mod Replies
 pub mod Serving
-pub mod Steps
 pub mod Alone
 pub mod Determined
 pub mod HeadAnswers
+pub mod inner

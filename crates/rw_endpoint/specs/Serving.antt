@@ -3,7 +3,7 @@ use Rattle.std.specs.Prelude.{◌≡◌, ◌≢◌, ℕ, ◌<◌, ◌⊎◌, Lis
 use Rattle.httparse.specs.Grammar.{RequestHead}
 use Rattle.rw_endpoint.specs.Judgement.{finding_of}
 use Rattle.rw_endpoint.specs.Reading.{BeginsWithHead, IsPartOfHead, NeverHasHead}
-use Rattle.rw_endpoint.specs.Replies.{reply, is_verdict}
+use Rattle.rw_endpoint.specs.Replies.{reply_bytes, is_verdict}
 use Rattle.rw_endpoint.specs.declared.finding.Finding.TheVariants.{Refused, Body}
 use Rattle.rw_endpoint.specs.declared.serve_end.ServeEnd.{ServeEnd}
 use Rattle.rw_endpoint.specs.declared.serve_end.ServeEnd.TheVariants.{Eof, Closed, Torn, Device, OutOfMemory}
@@ -11,23 +11,23 @@ use Rattle.rw_endpoint.specs.declared.serve_end.ServeEnd.TheVariants.{Eof, Close
 -- no head can be at the front of the input
 pub record IsNoRequest {S : Type 0} (input : List ℕ) (old : S) (text : List ℕ) (closes : Bool) (new : S) : Type 0 where
   pub never : NeverHasHead input
-  pub written : text ≡ reply 400 true
+  pub written : text ≡ reply_bytes 400 true
   pub closing : closes ≡ true
   pub unasked : new ≡ old
 
 -- the input begins with a request that its head refuses
-pub record IsRefused {S : Type 0} (path : List ℕ) (limit : ℕ) (input : List ℕ) (old : S) (text : List ℕ) (closes : Bool) (new : S) : Type 0 where
+pub record IsHeadRefused {S : Type 0} (path : List ℕ) (limit : ℕ) (input : List ℕ) (old : S) (text : List ℕ) (closes : Bool) (new : S) : Type 0 where
   pub head : RequestHead
   pub rest : List ℕ
   pub status : ℕ
   pub begins : BeginsWithHead input head rest
   pub finding : finding_of path limit head ≡ Refused status
-  pub written : text ≡ reply status true
+  pub written : text ≡ reply_bytes status true
   pub closing : closes ≡ true
   pub unasked : new ≡ old
 
 -- the input begins with a request whose body is answered
-pub record IsAnswered {S : Type 0} (path : List ℕ) (limit : ℕ) (answers : S → List ℕ → ℕ → S → Type 0) (input : List ℕ) (old : S) (text left : List ℕ) (closes : Bool) (new : S) : Type 0 where
+pub record IsRequestAnswered {S : Type 0} (path : List ℕ) (limit : ℕ) (answers : S → List ℕ → ℕ → S → Type 0) (input : List ℕ) (old : S) (text left : List ℕ) (closes : Bool) (new : S) : Type 0 where
   pub head : RequestHead
   pub body : List ℕ
   pub status : ℕ
@@ -35,17 +35,17 @@ pub record IsAnswered {S : Type 0} (path : List ℕ) (limit : ℕ) (answers : S 
   pub finding : finding_of path limit head ≡ Body (length body) closes
   pub status_given : answers old body status new
   pub verdict : IsTrue (is_verdict status)
-  pub written : text ≡ reply status closes
+  pub written : text ≡ reply_bytes status closes
 
 -- the text replies to the request at the front of the input
 abbrev pub Replies : {S : Type 0} → List ℕ → ℕ → (S → List ℕ → ℕ → S → Type 0) → List ℕ → S → List ℕ → List ℕ → Bool → S → Type 0
 Replies path limit answers input old text rest closes new =
-    IsNoRequest input old text closes new ⊎ IsRefused path limit input old text closes new
-    ⊎ IsAnswered path limit answers input old text rest closes new
+    IsNoRequest input old text closes new ⊎ IsHeadRefused path limit input old text closes new
+    ⊎ IsRequestAnswered path limit answers input old text rest closes new
 
 -- the input ends inside a request: inside its head, or inside its body
-abbrev pub IsCut : List ℕ → ℕ → List ℕ → Type 0
-IsCut path limit input =
+abbrev pub IsCutRequest : List ℕ → ℕ → List ℕ → Type 0
+IsCutRequest path limit input =
     (input ≢ []) × IsPartOfHead input
     ⊎ ((head : RequestHead) × (part : List ℕ) × (n : ℕ) × (closes : Bool) × BeginsWithHead input head part
     × (finding_of path limit head ≡ Body n closes) × (length part < n))
@@ -57,7 +57,7 @@ IsSilent old text new = (text ≡ []) × (new ≡ old)
 -- the input's last part, what is written for it, and how the connection ends
 abbrev pub Ends : {S : Type 0} → List ℕ → ℕ → (S → List ℕ → ℕ → S → Type 0) → List ℕ → S → List ℕ → S → ServeEnd → Type 0
 Ends path limit answers input old text new Eof = (input ≡ []) × IsSilent old text new
-Ends path limit answers input old text new Torn = IsCut path limit input × IsSilent old text new
+Ends path limit answers input old text new Torn = IsCutRequest path limit input × IsSilent old text new
 Ends path limit answers input old text new Closed = (rest : List ℕ) × Replies path limit answers input old text rest true new
 Ends path limit answers input old text new Device =
     IsSilent old text new

@@ -1,7 +1,7 @@
 //! Reads the head of a request.
 
 ghost use Rattle.std.specs.Prelude.{◌≤◌, length};
-ghost use Rattle.rw_endpoint.specs.Reading.{Judges};
+ghost use Rattle.rw_endpoint.specs.inner.Reading.{Judges};
 
 use crate::fields::has_field;
 use crate::finding::{Finding, judge_body};

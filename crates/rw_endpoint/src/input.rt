@@ -2,7 +2,7 @@
 
 ghost use Rattle.std.specs.Prelude.{true, ◌≡◌, ◌≢◌, ◌+◌, ◌*◌, ◌<◌, ◌≤◌, max, length, Some, Err, IfOk, OnOk, OnErr, IsOk, vec_len, vec_capacity, option_map};
 ghost use Rattle.std.specs.Io.KnownBytes.{Keeps, IsAtEnd, prepend_known};
-ghost use Rattle.rw_endpoint.specs.Reading.{HasRead, HasBody};
+ghost use Rattle.rw_endpoint.specs.inner.Reading.{HasRead, HasBody};
 
 use crate::finding::Finding;
 use crate::head::{Reading, read_head};

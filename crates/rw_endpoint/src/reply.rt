@@ -2,13 +2,13 @@
 
 ghost use Rattle.std.specs.Prelude.{◌≡◌, ◌||◌, IsTrue, true, false};
 ghost use Rattle.rw_endpoint.specs.Judgement.{is_refusal};
-ghost use Rattle.rw_endpoint.specs.Replies.{reply, is_verdict};
+ghost use Rattle.rw_endpoint.specs.Replies.{reply_bytes, is_verdict};
 
 /// Returns the reply with this status after which the connection closes.
-#[tactic(auto, unfolding(crate::specs::Replies::reply))]
+#[tactic(auto, unfolding(crate::specs::Replies::reply_bytes))]
 pub(crate) fn closing_reply(status: u16) -> &'static [u8]
     requires { IsTrue (is_verdict status || is_refusal status) }
-    ensures { result.now ≡ reply status true }
+    ensures { result.now ≡ reply_bytes status true }
 {
     match status {
         204 => b"HTTP/1.1 204 No Content\r\nConnection: close\r\n\r\n".as_slice(),
@@ -32,10 +32,10 @@ pub(crate) fn closing_reply(status: u16) -> &'static [u8]
 }
 
 /// Returns the reply with this status after which the connection stays open.
-#[tactic(auto, unfolding(crate::specs::Replies::reply))]
+#[tactic(auto, unfolding(crate::specs::Replies::reply_bytes))]
 pub(crate) fn staying_reply(status: u16) -> &'static [u8]
     requires { IsTrue (is_verdict status) }
-    ensures { result.now ≡ reply status false }
+    ensures { result.now ≡ reply_bytes status false }
 {
     match status {
         204 => b"HTTP/1.1 204 No Content\r\n\r\n".as_slice(),

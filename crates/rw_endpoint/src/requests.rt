@@ -4,7 +4,7 @@ ghost use Rattle.std.specs.Prelude.{length, ◌<◌, ◌-◌, ◌^◌, true, fal
 ghost use Rattle.std.specs.Io.KnownBytes.{prepend_known};
 ghost use Rattle.rw_endpoint.specs.Serving.{Replies, HasWritten, IsTooSmall, AsksForBody, IsStoppedAtBody};
 ghost use Rattle.rw_endpoint.specs.Alone.{IsOneRequest, IsServedAlone, IsOneRefusal, IsTurnedAway};
-ghost use Rattle.rw_endpoint.specs.Steps.{IsBodyAnswered, HasBodyServed, HasServed};
+ghost use Rattle.rw_endpoint.specs.inner.Steps.{IsBodyAnswered, HasBodyServed, HasServed};
 
 use crate::answer::Answer;
 use crate::finding::Finding;

@@ -6,8 +6,8 @@ use Rattle.rw_worker.specs.Transcript.{Exchange}
 use Rattle.rw_fleet.specs.declared.joined.StoppedShard.{StoppedShard}
 use Rattle.rw_fleet.specs.ShardHistories.{ShardHistory, AreSame, AreSetUp}
 use Rattle.rw_fleet.specs.Work.{IsWorked, AreWorked, lane_of}
-use Rattle.rw_fleet.proofs.ListLemmas.{more_length}
-use Rattle.rw_fleet.proofs.LaneLemmas.{set_up_append, set_up_same}
+use Rattle.rw_fleet.proofs.shared.ListLemmas.{more_length}
+use Rattle.rw_fleet.proofs.shared.LaneLemmas.{set_up_append, set_up_same}
 
 module _ {T : Type 0} (tells : T → Type 0) (seen : T → List Exchange) (is_for : ℕ → ℕ → T → Type 0) where
   pub worked_push : (js : List (StoppedShard T)) (j : StoppedShard T) → AreWorked tells seen is_for js → IsWorked tells seen is_for j → AreWorked tells seen is_for (js ++ j ∷ [])

@@ -11,7 +11,7 @@ use Rattle.rw_plain_queue.specs.History.{IsFew}
 use Rattle.rw_fleet.specs.ShardHistories.{ShardHistory, put_as, item_as, marks_in}
 use Rattle.rw_series_cache.specs.declared.sample.RoutedSample.{RoutedSample}
 use Rattle.rw_fleet.specs.Work.{positions_in}
-use Rattle.rw_plain_queue.proofs.Histories.{samples_in-append, places_in-append}
+use Rattle.rw_plain_queue.proofs.shared.Histories.{samples_in-append, places_in-append}
 
 -- with a sample more they are not too many
 pub few_more : (put : List Item) (p : Place) (t : ℤ) (w : _) (l : _) → length (places_in put) < 2 ^ 60 → IsFew (put ++ item.Sample p t w l ∷ [])

@@ -8,7 +8,7 @@ use Rattle.rw_plain_queue.specs.declared.item.Item.TheVariants as item
 use Rattle.rw_plain_queue.specs.declared.item.Kind.{Kind}
 use Rattle.rw_plain_queue.specs.declared.item.Kind.TheVariants.{Orderly, Reshard, Hard}
 use Rattle.rw_worker.specs.Report.{is_hard, drain_of, IsOrderly, StopsAtHard, IsReport}
-use Rattle.rw_worker.specs.Setups.{Setup}
+use Rattle.rw_worker.specs.Setups.{WorkerSetup}
 use Rattle.rw_worker.specs.Steps.{Step, Takes, Freezes, Sends, Waits, items_of}
 use Rattle.rw_worker.specs.Transcript.{Exchange}
 use Rattle.rw_worker.specs.declared.report.TakingEnd.{TakingEnd}
@@ -18,7 +18,8 @@ use Rattle.rw_fleet.specs.declared.ends.Ends.{Ends}
 use Rattle.rw_fleet.specs.declared.ends.Ends.TheVariants.{Compared, Apart}
 use Rattle.rw_fleet.specs.declared.joined.StoppedShard.{StoppedShard}
 use Rattle.rw_fleet.specs.ShardHistories.{ShardHistory, put_into}
-use Rattle.rw_fleet.specs.Work.{put_of, taken_of, positions_in, lane_of, is_compared, is_resolved, put_by, finished_of, IsSoft, AreSoft, IsUnended, IsEndedBy, AreEndedBy, IsEndTaken, IsWorked, AreWorked, HasCut, HasUnresolved}
+use Rattle.rw_fleet.specs.Work.{put_of, taken_of, positions_in, lane_of, is_compared, is_resolved, put_by, finished_of, IsSoft, IsEndedBy, AreEndedBy, IsWorked, AreWorked, HasCut}
+use Rattle.rw_fleet.specs.inner.Work.{AreSoft, IsUnended, IsEndTaken, HasUnresolved}
 
 abbrev last_of : Item → List Item → Item
 last_of x [] = x
@@ -140,7 +141,7 @@ module _ {T : Type 0} where
 
 module _ {T : Type 0} (tells : T → Type 0) (seen : T → List Exchange) (is_for : ℕ → ℕ → T → Type 0) where
   -- a worker that took the End, which was not hard, and did not stop, has resolved all
-  pub report_done : (setup : Setup) (begun : T) (r : WorkerReport T) (ends : Ends) (left : List ℕ) → IsReport tells seen setup begun r → taken_of ends ≡ (drain_of r.end).taken → (is_compared ends ≡ true → IsEndTaken r.end)
+  pub report_done : (setup : WorkerSetup) (begun : T) (r : WorkerReport T) (ends : Ends) (left : List ℕ) → IsReport tells seen setup begun r → taken_of ends ≡ (drain_of r.end).taken → (is_compared ends ≡ true → IsEndTaken r.end)
       → left ≡ drop r.resolved (positions_in (put_of ends)) → is_compared ends ≡ true → r.stopped ≡ None → IsSoft (put_of ends) → (is_compared ends && (length left == 0)) ≡ true
   report_done setup begun r (Apart f e) left h taken ended is compared live soft = absurd (cc)
   report_done setup begun r (Compared w) left h taken ended is compared live soft =

@@ -7,7 +7,7 @@ use Rattle.rw_types.specs.Beginnings.{Begins}
 use Rattle.rw_shard_queue.specs.Ends.{Feeding, Draining}
 use Rattle.rw_fleet.specs.Work.{positions_in}
 use Rattle.rw_fleet.proofs.PutLemmas.{positions_length}
-use Rattle.rw_plain_queue.proofs.Histories.{places_in-append}
+use Rattle.rw_plain_queue.proofs.shared.Histories.{places_in-append}
 
 places_fewer : (xs : List Item) → length (places_in xs) ≤ length xs
 places_fewer [] = omega arith

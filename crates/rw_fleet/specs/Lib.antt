@@ -1,5 +1,5 @@
-pub mod Positions
 pub mod ShardHistories
 pub mod Work
 pub mod Fleets
 pub mod Loads
+pub mod inner

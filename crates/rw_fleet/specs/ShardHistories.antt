@@ -1,23 +1,23 @@
 -- The shards of an epoch as their feeder sees them.
-use Rattle.std.specs.Prelude.{◌≡◌, ℕ, zero, suc, ◌≤◌, ◌^◌, List, [], ◌∷◌, ◌++◌, length, set, Some, slice_get, ⊤}
+use Rattle.std.specs.Prelude.{◌≡◌, ℕ, ◌≤◌, ◌^◌, List, [], ◌∷◌, ◌++◌, length, set, Some, slice_get, ⊤}
 use Rattle.std.specs.Arc.{arc_value}
 use Rattle.rw_shard_core.specs.declared.config.ConfigFields.{ConfigFields}
 use Rattle.rw_plain_queue.specs.Items.{Placed, samples_in, places_in}
 use Rattle.rw_plain_queue.specs.declared.item.Item.{Item}
 use Rattle.rw_plain_queue.specs.declared.item.Item.TheVariants as item
-use Rattle.rw_worker.specs.Setups.{Setup}
+use Rattle.rw_worker.specs.Setups.{WorkerSetup}
 use Rattle.rw_series_cache.specs.declared.sample.RoutedSample.{RoutedSample}
 
 -- what a shard's worker is set up with, its queue among it, and what was put into the queue
 pub record ShardHistory : Type 0 where
-  pub setup : Setup
+  pub setup : WorkerSetup
   pub put : List Item
 
 abbrev pub put_into : ShardHistory → List Item
 put_into lane = lane.put
 
 -- a worker sends as it was configured, out of a queue of that capacity
-abbrev pub IsSetUp : ConfigFields → Setup → Type 0
+abbrev pub IsSetUp : ConfigFields → WorkerSetup → Type 0
 IsSetUp config setup =
     (setup.target ≡ config.target) × (setup.batch ≡ config.batch) × (setup.queue.capacity ≡ config.capacity)
     × (setup.min_backoff ≡ config.min_backoff_ms) × (setup.max_backoff ≡ config.max_backoff_ms)
@@ -85,9 +85,3 @@ pub record IsMarked (k : ℕ) (old new : List ShardHistory) : Type 0 where
   pub was : ShardHistory
   pub at : slice_get old k ≡ Some was
   pub is : new ≡ set old k (marked was)
-
--- the first n of the shards with a Flush put
-abbrev pub marks : ℕ → List ShardHistory → List ShardHistory
-marks zero ls = ls
-marks (suc n) [] = []
-marks (suc n) (l ∷ ls) = marked l ∷ marks n ls

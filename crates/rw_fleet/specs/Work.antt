@@ -25,9 +25,9 @@ abbrev pub feeding : Fed → Feeding
 feeding (fed.Open f) = f
 feeding (fed.Ended f) = f
 
-abbrev pub queue_of : Ends → QueueId
-queue_of (Compared w) = w.queue
-queue_of (Apart f end) = (feeding f).queue
+abbrev pub queue_of_ends : Ends → QueueId
+queue_of_ends (Compared w) = w.queue
+queue_of_ends (Apart f end) = (feeding f).queue
 
 abbrev pub put_of : Ends → List Item
 put_of (Compared w) = w.items
@@ -67,10 +67,6 @@ is_resolved j = is_compared j.finished.ends && (length j.abandoned.items == 0)
 abbrev pub IsSoft : List Item → Type 0
 IsSoft put = (before : List Item) → put ≡ before ++ item.End Hard ∷ [] → ⊥
 
--- the last item is not an End
-abbrev pub IsUnended : List Item → Type 0
-IsUnended put = (kind : Kind) (before : List Item) → put ≡ before ++ item.End kind ∷ [] → ⊥
-
 -- if the last item is an End, it is of this kind
 abbrev pub IsEndedBy : Kind → List Item → Type 0
 IsEndedBy kind put = (other : Kind) (before : List Item) → put ≡ before ++ item.End other ∷ [] → other ≡ kind
@@ -86,15 +82,6 @@ put_by f = put_of f.ends
 abbrev pub finished_of : {T : Type 0} → StoppedShard T → Finished T
 finished_of j = j.finished
 
-abbrev pub AreSoft : List ShardHistory → Type 0
-AreSoft [] = ⊤
-AreSoft (l ∷ ls) = IsSoft l.put × AreSoft ls
-
--- the worker took the End
-abbrev pub IsEndTaken : TakingEnd → Type 0
-IsEndTaken (taking.Ended kind d) = ⊤
-IsEndTaken (taking.Killed d) = ⊥
-
 -- A shard's ends and counts are what a worker of this queue reported, over a transport that was
 -- made for it and had recorded nothing. The samples after those resolved are abandoned: at most as
 -- many as the queue holds, and a batch. What was put went through the queue in order, and what was
@@ -106,7 +93,7 @@ pub record IsWorked {T : Type 0} (tells : T → Type 0) (seen : T → List Excha
   pub gone : Option ℕ
   pub none : seen begun ≡ []
   pub made : is_for j.worker.value.queue.epoch j.worker.value.queue.shard begun
-  pub queue : queue_of j.finished.ends ≡ j.worker.value.queue
+  pub queue : queue_of_ends j.finished.ends ≡ j.worker.value.queue
   pub taken : taken_of j.finished.ends ≡ (drain_of end).taken
   pub begins : IsTakenOf j.finished.ends
   pub report : IsReport tells seen j.worker.value begun (record { end = end; resolved = j.finished.resolved; stopped = j.finished.stopped; gone = gone; ledger = j.part; transport = j.finished.transport })
@@ -133,6 +120,3 @@ IsCut f = IsApart f.ends ⊎ IsSome f.stopped
 -- one of these queues was cut
 abbrev pub HasCut : {T : Type 0} → List (StoppedShard T) → Type 0
 HasCut {T} js = (k : ℕ) × (j : StoppedShard T) × (slice_get js k ≡ Some j) × IsCut j.finished
-
-abbrev pub HasUnresolved : {T : Type 0} → List (StoppedShard T) → Type 0
-HasUnresolved {T} js = (k : ℕ) × (j : StoppedShard T) × (slice_get js k ≡ Some j) × (is_resolved j ≡ false)

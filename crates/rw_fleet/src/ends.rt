@@ -4,7 +4,8 @@ ghost use Rattle.std.specs.Prelude.{◌≡◌, ◌+◌, ◌≤◌, length, true,
 ghost use Rattle.rw_plain_queue.specs.Items.{samples_in, places_in};
 ghost use Rattle.rw_plain_queue.specs.History.{IsHistory, IsEnded};
 ghost use Rattle.rw_worker.specs.Report.{drain_of};
-ghost use Rattle.rw_fleet.specs.Work.{feeding, queue_of, put_of, taken_of, is_compared, IsApart, IsTakenOf, IsUnended, IsEndedBy, IsEndTaken};
+ghost use Rattle.rw_fleet.specs.Work.{feeding, queue_of_ends, put_of, taken_of, is_compared, IsApart, IsTakenOf, IsEndedBy};
+ghost use Rattle.rw_fleet.specs.inner.Work.{IsUnended, IsEndTaken};
 
 use rw_shard_queue::{Ended, Feed, Kind, Open, Whole, begins, compare};
 use rw_worker::TakingEnd;
@@ -45,7 +46,7 @@ pub(crate) fn end_of<R: Wait>(rt: &R, feed: Feed<Open>, kind: Kind) -> Fed
 /// if an End was put and taken.
 pub(crate) fn meet<R>(rt: &R, fed: Fed, end: TakingEnd) -> Ends
     requires { (feeding fed).queue ≡ (drain_of end).queue }
-    ensures queue { queue_of result ≡ (feeding fed).queue }
+    ensures queue { queue_of_ends result ≡ (feeding fed).queue }
     ensures put { put_of result ≡ (feeding fed).put }
     ensures taken { taken_of result ≡ (drain_of end).taken }
     ensures begins { IsTakenOf result }

@@ -46,7 +46,8 @@ impl<C: Connect + Drop> Model for ShardSet<C> {
     ghost use Rattle.std.specs.Coded.{codes};
     ghost use Rattle.std.specs.FinMap as names;
     ghost use Rattle.rw_fleet.specs.ShardHistories.{AreSetUp};
-    ghost use Rattle.rw_fleet.specs.Work.{AreWorked, AreSoft, lane_of};
+    ghost use Rattle.rw_fleet.specs.Work.{AreWorked, lane_of};
+    ghost use Rattle.rw_fleet.specs.inner.Work.{AreSoft};
     ghost use Rattle.rw_fleet.specs.Fleets.{Shards};
 
     ghost Value = { Shards C.T };

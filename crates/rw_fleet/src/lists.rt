@@ -4,7 +4,8 @@ ghost use Rattle.std.specs.Prelude.{◌≡◌, ◌+◌, ◌≤◌, ℕ, List, []
 ghost use Rattle.std.specs.List.{sum_by};
 ghost use Rattle.rw_fleet.specs.ShardHistories.{AreFresh, AreSame, AreSetUp, marked, put_into};
 ghost use Rattle.rw_fleet.specs.Loads.{load_of, resolved_in, left_in, IsAdvised};
-ghost use Rattle.rw_fleet.specs.Work.{AreResolved, HasUnresolved, AreEndedBy, AreWorked, lane_of};
+ghost use Rattle.rw_fleet.specs.Work.{AreResolved, AreEndedBy, AreWorked, lane_of};
+ghost use Rattle.rw_fleet.specs.inner.Work.{HasUnresolved};
 
 use crate::connect::Connect;
 use crate::joined::{Resolution, StoppedShard};

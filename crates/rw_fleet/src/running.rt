@@ -60,7 +60,8 @@ pub(crate) struct RunningShard<T: Transport + Send + Drop + 'static> {
 impl<T: Transport + Send + Drop + 'static> Model for RunningShard<T> {
     ghost use Rattle.std.specs.Prelude.{◌≡◌, ◌+◌, []};
     ghost use Rattle.rw_fleet.specs.ShardHistories.{ShardHistory};
-    ghost use Rattle.rw_fleet.specs.Work.{positions_in, IsUnended};
+    ghost use Rattle.rw_fleet.specs.Work.{positions_in};
+    ghost use Rattle.rw_fleet.specs.inner.Work.{IsUnended};
 
     ghost Value = { ShardHistory };
 

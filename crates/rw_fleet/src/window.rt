@@ -20,7 +20,7 @@ pub(crate) struct Window {
 impl Model for Window {
     ghost use Rattle.std.specs.Prelude.{◌≡◌, ◌<◌, ◌≤◌, length};
     ghost use Rattle.std.specs.VecDeque.{deque_capacity};
-    ghost use Rattle.rw_fleet.specs.Positions.{Positions, latest};
+    ghost use Rattle.rw_fleet.specs.inner.Positions.{Positions, latest};
 
     ghost Value = { Positions };
 

@@ -3,7 +3,7 @@ use Rattle.std.proofs.Common.{◌≡◌, subst, ℕ, ◌+◌, ◌≤◌, List, [
 use Rattle.std.proofs.lemmas.Grind.{common_steps}
 use Rattle.std.proofs.lemmas.List.{append-nil, append_assoc}
 use Rattle.std.specs.Prelude.{Option, None, Some}
-use Rattle.rw_follow.specs.Growth.{Grown, HadAll, IsFollowed, IsGivenAt, IsLast, IsRead, Known, Later, Meal, Moment, Passes, Stepped, Steps, texts, with_next, with_piece}
+use Rattle.rw_follow.specs.Growth.{Grown, HadAll, HasNextSegment, IsGivenAt, IsLastSegment, IsSegmentRead, Known, Later, Meal, Moment, MovesOn, Stepped, Steps, texts, with_next, with_piece}
 
 -- no segment goes
 pub grown_length : (xs ys : List (List ℕ)) → Grown xs ys → length xs ≤ length ys
@@ -30,13 +30,13 @@ after_grows m n bytes p =
 
 -- ---- what was fed is what was given
 
-pub passed : (o n : Option Moment) (bytes : List ℕ) (meal : Meal) → Known o (λ m. IsGivenAt meal m) → Passes o bytes n → Known n (λ m. IsGivenAt (with_piece meal bytes) m)
+pub passed : (o n : Option Moment) (bytes : List ℕ) (meal : Meal) → Known o (λ m. IsGivenAt meal m) → MovesOn o bytes n → Known n (λ m. IsGivenAt (with_piece meal bytes) m)
 passed None None bytes meal h p = h
 passed None (Some n) bytes meal h p = absurd p
 passed (Some m) None bytes meal h p = absurd p
 passed (Some m) (Some n) bytes meal h p = record { whole = h.whole ∙ sym p.done; begun = ap (λ b. b ++ bytes) h.begun ∙ sym p.given }
 
-pub same_given : (o n : Option Moment) (meal : Meal) → Known o (λ m. IsGivenAt meal m) → Passes o [] n → Known n (λ m. IsGivenAt meal m)
+pub same_given : (o n : Option Moment) (meal : Meal) → Known o (λ m. IsGivenAt meal m) → MovesOn o [] n → Known n (λ m. IsGivenAt meal m)
 same_given None None meal h p = h
 same_given None (Some n) meal h p = absurd p
 same_given (Some m) None meal h p = absurd p
@@ -52,22 +52,22 @@ stepped (Some m) (Some n) meal h p = record {
 }
 
 -- a read of no byte gave nothing
-pub nothing : (o n : Option Moment) (k : ℕ) (bytes : List ℕ) → k ≡ 0 → Passes o (take k bytes) n → Passes o [] n
-nothing o n k bytes e p = subst (λ j. Passes o (take j bytes) n) e p
+pub nothing : (o n : Option Moment) (k : ℕ) (bytes : List ℕ) → k ≡ 0 → MovesOn o (take k bytes) n → MovesOn o [] n
+nothing o n k bytes e p = subst (λ j. MovesOn o (take j bytes) n) e p
 
 -- ---- what comes after
 
-pub stays_followed : (o n : Option Moment) (bytes : List ℕ) → Passes o bytes n → Known o IsFollowed → Known n IsFollowed
+pub stays_followed : (o n : Option Moment) (bytes : List ℕ) → MovesOn o bytes n → Known o HasNextSegment → Known n HasNextSegment
 stays_followed None None bytes p h = h
 stays_followed None (Some n) bytes p h = absurd p
 stays_followed (Some m) None bytes p h = absurd p
 stays_followed (Some m) (Some n) bytes p h = let l = after_grows m n bytes p in omega (arith, l, h)
 
-was_last : (m n : Moment) → Later m [] n → IsLast n → IsLast m
+was_last : (m n : Moment) → Later m [] n → IsLastSegment n → IsLastSegment m
 was_last m n p h = let l = after_grows m n [] p in let z = ap (λ (xs : List (List ℕ)). length xs) h in none_of m.after (omega (arith, l, z))
 
 -- nothing was left, and then nothing came after it
-pub had_all : (o n : Option Moment) (meal : Meal) → Known o (λ m. IsGivenAt meal m) → Known o IsRead → Passes o [] n → Known n IsLast → Known n (HadAll meal)
+pub had_all : (o n : Option Moment) (meal : Meal) → Known o (λ m. IsGivenAt meal m) → Known o IsSegmentRead → MovesOn o [] n → Known n IsLastSegment → Known n (HadAll meal)
 had_all None None meal h r p l = h
 had_all None (Some n) meal h r p l = absurd p
 had_all (Some m) None meal h r p l = absurd p

@@ -29,11 +29,11 @@ pub record Later (old : Moment) (bytes : List ℕ) (new : Moment) : Type 0 where
   pub grown : Grown (texts old) (texts new)
 
 -- if both moments are known; what is known stays known, and what is not known stays unknown
-abbrev pub Passes : Option Moment → List ℕ → Option Moment → Type 0
-Passes None bytes None = ⊤
-Passes None bytes (Some n) = ⊥
-Passes (Some m) bytes None = ⊥
-Passes (Some m) bytes (Some n) = Later m bytes n
+abbrev pub MovesOn : Option Moment → List ℕ → Option Moment → Type 0
+MovesOn None bytes None = ⊤
+MovesOn None bytes (Some n) = ⊥
+MovesOn (Some m) bytes None = ⊥
+MovesOn (Some m) bytes (Some n) = Later m bytes n
 
 -- a fact of the moment, if it is known
 abbrev pub Known : Option Moment → (Moment → Type 0) → Type 0
@@ -41,24 +41,24 @@ Known None p = ⊤
 Known (Some m) p = p m
 
 -- nothing is left of the current segment
-abbrev pub IsRead : Moment → Type 0
-IsRead m = m.rest ≡ []
+abbrev pub IsSegmentRead : Moment → Type 0
+IsSegmentRead m = m.rest ≡ []
 
 -- a segment comes after the current one
-abbrev pub IsFollowed : Moment → Type 0
-IsFollowed m = 0 < length m.after
+abbrev pub HasNextSegment : Moment → Type 0
+HasNextSegment m = 0 < length m.after
 
 -- no segment does
-abbrev pub IsLast : Moment → Type 0
-IsLast m = m.after ≡ []
+abbrev pub IsLastSegment : Moment → Type 0
+IsLastSegment m = m.after ≡ []
 
 -- the segment of this number is missing after the current one
 abbrev pub HasGap : ℕ → Moment → Type 0
-HasGap n m = IsLast m × (m.gap ≡ Some n)
+HasGap n m = IsLastSegment m × (m.gap ≡ Some n)
 
 -- A read gives the next bytes of the current segment, and no byte only if nothing is left of it.
 abbrev pub Reads : {E : Type 0} → Option Moment → Option Moment → Result ℕ E → List ℕ → Type 0
-Reads old new r buf = MatchResult r (λ n. Passes old (take n buf) new × (n ≡ 0 → 0 < length buf → Known new IsRead)) (λ _. Passes old [] new)
+Reads old new r buf = MatchResult r (λ n. MovesOn old (take n buf) new × (n ≡ 0 → 0 < length buf → Known new IsSegmentRead)) (λ _. MovesOn old [] new)
 
 -- The current segment is read whole, and the next one is the current one.
 pub record Stepped (old new : Moment) : Type 0 where
@@ -91,7 +91,7 @@ pub record IsGivenAt (meal : Meal) (m : Moment) : Type 0 where
   pub begun : meal.begun ≡ m.given
 
 -- What was fed is a prefix of the texts, in order.
-pub record IsBeginning (meal : Meal) (segments : List (List ℕ)) : Type 0 where
+pub record IsFedPrefix (meal : Meal) (segments : List (List ℕ)) : Type 0 where
   pub rest : List ℕ
   pub after : List (List ℕ)
   pub whole : segments ≡ meal.whole ++ (meal.begun ++ rest) ∷ after
@@ -102,8 +102,8 @@ pub record HadAll (meal : Meal) (now : Moment) : Type 0 where
   pub earlier : Moment
   pub later : Later earlier [] now
   pub given : IsGivenAt meal earlier
-  pub is_read : IsRead earlier
-  pub is_last : IsLast earlier
+  pub is_read : IsSegmentRead earlier
+  pub is_last : IsLastSegment earlier
 
 -- A read over memory returns the next bytes of what was left, after the log may have grown.
 abbrev pub Gives : {E : Type 0} → Moment → Moment → Result ℕ E → List ℕ → Type 0

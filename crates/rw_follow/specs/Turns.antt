@@ -14,13 +14,13 @@ given_by turn.Finished buf meal = meal
 given_by turn.Aborted buf meal = meal
 
 -- its bytes are in a buffer of this length
-abbrev pub IsWithin : Turn → ℕ → Type 0
-IsWithin (turn.Piece n) len = n ≤ len
-IsWithin turn.Over len = ⊤
-IsWithin turn.Flush len = ⊤
-IsWithin turn.Nothing len = ⊤
-IsWithin turn.Finished len = ⊤
-IsWithin turn.Aborted len = ⊤
+abbrev pub FitsBuffer : Turn → ℕ → Type 0
+FitsBuffer (turn.Piece n) len = n ≤ len
+FitsBuffer turn.Over len = ⊤
+FitsBuffer turn.Flush len = ⊤
+FitsBuffer turn.Nothing len = ⊤
+FitsBuffer turn.Finished len = ⊤
+FitsBuffer turn.Aborted len = ⊤
 
 -- this much more of the log was read
 abbrev pub Moves : Option Moment → Option Moment → (Meal → Meal) → Type 0

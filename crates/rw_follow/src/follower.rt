@@ -1,8 +1,8 @@
 //! What a follower does at each turn.
 
 ghost use Rattle.std.specs.Prelude.{◌≡◌, ◌<◌, ℕ, length, suc, true, Ok, Err, IfErr, IfOk};
-ghost use Rattle.rw_follow.specs.Growth.{HadAll, HasGap, IsFollowed, IsGivenAt, Known, Meal};
-ghost use Rattle.rw_follow.specs.Turns.{IsWithin, Moves, given_by};
+ghost use Rattle.rw_follow.specs.Growth.{HadAll, HasGap, HasNextSegment, IsGivenAt, Known, Meal};
+ghost use Rattle.rw_follow.specs.Turns.{FitsBuffer, Moves, given_by};
 ghost use Rattle.rw_types.specs.declared.transfer.ReadFault.{ReadFault};
 ghost use Rattle.rw_follow.specs.declared.follower.SegmentError.TheVariants as SegmentError;
 ghost use Rattle.rw_follow.specs.declared.follower.Turn.TheVariants as Turn;
@@ -91,12 +91,12 @@ impl Follower {
         buf: &mut [u8],
     ) -> Result<Turn, SegmentError>
         requires buffer { 0 < length buf.old }
-        requires followed { self.old ≡ true → Known (S.now segments.old) IsFollowed }
+        requires followed { self.old ≡ true → Known (S.now segments.old) HasNextSegment }
         ensures given { IfOk result
             (λ turn. Moves (S.now segments.old) (S.now segments.new) (given_by turn buf.new)) }
         ensures stays { IfErr result
             (λ _. Moves (S.now segments.old) (S.now segments.new) (λ meal. meal)) }
-        ensures piece { IfOk result (λ turn. IsWithin turn (length buf.new)) }
+        ensures piece { IfOk result (λ turn. FitsBuffer turn (length buf.new)) }
         ensures some { (n : ℕ) → result ≡ Ok (Turn.Piece n) → 0 < n }
         ensures orderly { result ≡ Ok Turn.Finished → (meal : Meal)
             → Known (S.now segments.old) (λ m. IsGivenAt meal m)
@@ -111,7 +111,7 @@ impl Follower {
         ensures flushed { result ≡ Ok Turn.Flush → W.due watch.new ≡ true }
         ensures missing { (n : ℕ) → result ≡ Err (SegmentError.Missing n)
             → Known (S.now segments.new) (HasGap n) }
-        ensures followed { self.new ≡ true → Known (S.now segments.new) IsFollowed }
+        ensures followed { self.new ≡ true → Known (S.now segments.new) HasNextSegment }
         ensures sure { S.is_sure segments.old ≡ true → (S.is_sure segments.new ≡ true)
             × ((f : ReadFault) → result ≡ Err (SegmentError.Unreadable f) → ⊥) }
         ensures room { length buf.new ≡ length buf.old }

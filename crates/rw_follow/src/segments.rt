@@ -2,7 +2,7 @@
 
 ghost use Rattle.std.specs.Prelude.{◌≡◌, ◌<◌, ℕ, [], Bool, true, Option, Ok, IsOk, OnOk, OnErr};
 ghost use Rattle.std.specs.Io.{ReadsAtMost};
-ghost use Rattle.rw_follow.specs.Growth.{HasGap, IsFollowed, IsLast, IsRead, Known, Moment, Passes, Reads, Steps};
+ghost use Rattle.rw_follow.specs.Growth.{HasGap, HasNextSegment, IsLastSegment, IsSegmentRead, Known, Moment, MovesOn, Reads, Steps};
 ghost use Rattle.rw_follow.specs.declared.segments.Ahead.TheVariants as Ahead;
 
 use rw_types::ReadFault;
@@ -36,18 +36,18 @@ pub trait Segments {
 
     /// Returns what comes after the current segment.
     fn look(&mut self) -> Result<Ahead, ReadFault>
-        ensures passes { Passes (now self.old) [] (now self.new) }
-        ensures nothing { result ≡ Ok Ahead.Nothing → Known (now self.new) IsLast }
-        ensures followed { result ≡ Ok Ahead.Segment → Known (now self.new) IsFollowed }
+        ensures passes { MovesOn (now self.old) [] (now self.new) }
+        ensures nothing { result ≡ Ok Ahead.Nothing → Known (now self.new) IsLastSegment }
+        ensures followed { result ≡ Ok Ahead.Segment → Known (now self.new) HasNextSegment }
         ensures missing { (n : ℕ) → result ≡ Ok (Ahead.Missing n)
             → Known (now self.new) (HasGap n) }
         ensures sure { is_sure self.old ≡ true → (is_sure self.new ≡ true) × IsOk result };
 
     /// Goes to the next segment. An `Err` stays at the current one.
     fn advance(&mut self) -> Result<(), ReadFault>
-        requires read { Known (now self.old) IsRead }
-        requires followed { Known (now self.old) IsFollowed }
+        requires read { Known (now self.old) IsSegmentRead }
+        requires followed { Known (now self.old) HasNextSegment }
         ensures steps { OnOk result (Steps (now self.old) (now self.new)) }
-        ensures stays { OnErr result (Passes (now self.old) [] (now self.new)) }
+        ensures stays { OnErr result (MovesOn (now self.old) [] (now self.new)) }
         ensures sure { is_sure self.old ≡ true → (is_sure self.new ≡ true) × IsOk result };
 }

@@ -5,14 +5,15 @@ use Rattle.std.specs.List.{list_any}
 use Rattle.std.proofs.lemmas.Bool.{true≢false}
 use Rattle.std.proofs.lemmas.List.{length-map, length-drop}
 use Rattle.rw_types.specs.Beginnings.{Begins}
-use Rattle.rw_types.proofs.OrderLemmas.{same_if_equal, equal_if_same}
+use Rattle.rw_types.proofs.shared.OrderLemmas.{same_if_equal, equal_if_same}
 use Rattle.rw_types.specs.Labels.{Labels}
 use Rattle.rw_types.specs.LabelOrder.{labels_cmp, labels_eq}
-use Rattle.rw_head.specs.Added.{Added, samples_of, AddsUp}
+use Rattle.rw_head.specs.Added.{Added, samples_added, AddsUp}
 use Rattle.rw_head.specs.Order.{Point}
 use Rattle.rw_head.specs.Store.{list_of}
-use Rattle.rw_head.specs.Names.{AreNamed}
-use Rattle.rw_head.specs.Lists.{Lists, no_lists, more_of, added_at, added_of, AreNoted, Settled, kept_store, staged_store}
+use Rattle.rw_head.specs.inner.Names.{AreNamed}
+use Rattle.rw_head.specs.Lists.{Lists, no_lists, more_of, added_at, added_of}
+use Rattle.rw_head.specs.inner.Lists.{AreNoted, Settled, kept_store, staged_store}
 use Rattle.rw_head.proofs.NameLemmas.{get_or_any}
 use Rattle.rw_head.proofs.PlaceLemmas.{Index, staged_at, staged_nowhere, kept_in, kept_nowhere}
 
@@ -25,10 +26,10 @@ more_is x h = h.1 ∙ ap (λ ys. x.kept ++ ys) (sym (drop_after x.kept h.0) ∙ 
     drop_after (x ∷ xs) ys = drop_after xs ys
 
 sum_elsewhere : (names : List Labels) (lists : List Lists) (l : Labels) (ts : List ℕ) → ((k : ℕ) → k < length ts → labels_eq (get_or names (get_or ts k 0) []) l ≡ false)
-    → samples_of l (map (added_at names lists) ts) ≡ []
+    → samples_added l (map (added_at names lists) ts) ≡ []
 sum_elsewhere names lists l [] h = refl
 sum_elsewhere names lists l (t ∷ ts) h =
-    ap (λ b. cond b (more_of (get_or lists t no_lists)) [] ++ samples_of l (map (added_at names lists) ts)) (h 0 (omega arith))
+    ap (λ b. cond b (more_of (get_or lists t no_lists)) [] ++ samples_added l (map (added_at names lists) ts)) (h 0 (omega arith))
     ∙ sum_elsewhere names lists l ts (λ k small. h (suc k) (omega (arith, small)))
 
 -- a label set is at one place alone
@@ -47,14 +48,14 @@ here_at index names l n h at = equal_if_same (get_or names n []) l (h.named l n 
 
 sum_here : (index : Index) (names : List Labels) (lists : List Lists) (l : Labels) (n : ℕ) (ts : List ℕ) (b : Bool) → AreNamed index names → get labels_cmp index l ≡ Some n
     → ((k : ℕ) → k < length ts → get_or ts k 0 < length names) → AllPairs (λ i j. i ≢ j) ts → list_any (nat_eq n) ts ≡ b
-    → samples_of l (map (added_at names lists) ts) ≡ cond b (more_of (get_or lists n no_lists)) []
+    → samples_added l (map (added_at names lists) ts) ≡ cond b (more_of (get_or lists n no_lists)) []
 sum_here index names lists l n [] true h at within once e = absurd cc
 sum_here index names lists l n [] false h at within once e = refl
 sum_here index names lists l n (t ∷ ts) b h at within once e =
     by_test (λ c. sum_here index names lists l n ts c h at (λ k small. within (suc k) (omega (arith, small))) (λ i j d lt small. once (suc i) (suc j) d (omega (arith, lt)) (omega (arith, small)))) (nat_eq n t) refl
   where
     rest : List Point
-    rest = samples_of l (map (added_at names lists) ts)
+    rest = samples_added l (map (added_at names lists) ts)
 
     by_test : ((c : Bool) → list_any (nat_eq n) ts ≡ c → rest ≡ cond c (more_of (get_or lists n no_lists)) []) → (c : Bool) → nat_eq n t ≡ c
         → cond (labels_eq (get_or names t []) l) (more_of (get_or lists t no_lists)) [] ++ rest ≡ cond b (more_of (get_or lists n no_lists)) []
@@ -73,7 +74,7 @@ sum_here index names lists l n (t ∷ ts) b h at within once e =
 
 lists_add_up : (index : Index) (names : List Labels) (lists : List Lists) (touched : List ℕ) (l : Labels) (o : Option ℕ) → AreNamed index names → length names ≡ length lists
     → Settled touched lists → AreNoted touched lists → get labels_cmp index l ≡ o
-    → list_of (staged_store index.entries lists) l ≡ list_of (kept_store index.entries lists) l ++ samples_of l (map (added_at names lists) touched)
+    → list_of (staged_store index.entries lists) l ≡ list_of (kept_store index.entries lists) l ++ samples_added l (map (added_at names lists) touched)
 lists_add_up index names lists touched l None h len settled are e =
     staged_nowhere index lists l e
     ∙ sym (ap (λ ys. list_of (kept_store index.entries lists) l ++ ys) (sum_elsewhere names lists l touched (λ k small. not_here (get_or touched k 0) (omega (arith, settled.within k small, len))))
@@ -89,9 +90,9 @@ lists_add_up index names lists touched l None h len settled are e =
 lists_add_up index names lists touched l (Some n) h len settled are e =
     let lt : n < length lists = omega (arith, (h.named l n e).0, len) in
     let x = get_or lists n no_lists in
-    staged_at index lists l n e ∙ here lt (list_any (nat_eq n) touched) refl ∙ ap (λ xs. xs ++ samples_of l (map (added_at names lists) touched)) (sym (kept_in index lists l n e))
+    staged_at index lists l n e ∙ here lt (list_any (nat_eq n) touched) refl ∙ ap (λ xs. xs ++ samples_added l (map (added_at names lists) touched)) (sym (kept_in index lists l n e))
   where
-    here : n < length lists → (b : Bool) → list_any (nat_eq n) touched ≡ b → (get_or lists n no_lists).staged ≡ (get_or lists n no_lists).kept ++ samples_of l (map (added_at names lists) touched)
+    here : n < length lists → (b : Bool) → list_any (nat_eq n) touched ≡ b → (get_or lists n no_lists).staged ≡ (get_or lists n no_lists).kept ++ samples_added l (map (added_at names lists) touched)
     here lt true any =
         more_is (get_or lists n no_lists) (are.begun n lt)
         ∙ ap (λ ys. (get_or lists n no_lists).kept ++ ys) (sym (sum_here index names lists l n touched true h e (λ k small. omega (arith, settled.within k small, len)) are.once any))

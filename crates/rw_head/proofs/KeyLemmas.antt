@@ -10,8 +10,8 @@ use Rattle.std.specs.declared.cmp.Ordering.{Ordering}
 use Rattle.std.specs.declared.cmp.Ordering.TheVariants.{Less, Equal, Greater}
 use Rattle.rw_types.specs.Labels.{Label, Labels}
 use Rattle.rw_types.specs.LabelOrder.{labels_cmp}
-use Rattle.rw_types.proofs.AllLemmas.{AllByRecursion-append}
-use Rattle.rw_head.specs.Keys.{text_key, labels_key}
+use Rattle.rw_types.proofs.shared.AllLemmas.{AllByRecursion-append}
+use Rattle.rw_head.specs.inner.Keys.{text_key, labels_key}
 
 in_turn : (o p q : Ordering) → ordering_then (ordering_then o p) q ≡ ordering_then o (ordering_then p q)
 in_turn Less p q = refl

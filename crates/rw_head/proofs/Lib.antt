@@ -1,14 +1,9 @@
 pub mod AddedLemmas
 pub mod BlockLemmas
-pub mod BodyLemmas
-pub mod GrowthLemmas
 pub mod KeyLemmas
 pub mod NameLemmas
 pub mod NotedLemmas
-pub mod OrderLemmas
 pub mod PartLemmas
 pub mod PlaceLemmas
-pub mod StagingLemmas
-pub mod StoreLemmas
 pub mod TableLemmas
-pub mod VerdictLemmas
+pub mod shared

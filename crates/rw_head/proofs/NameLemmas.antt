@@ -8,8 +8,8 @@ use Rattle.std.proofs.lemmas.Bool.{lt-ltb, le-ltb, cases_lt}
 use Rattle.std.proofs.lemmas.Option.{get_or_from_slice_get, slice_get-get_or}
 use Rattle.rw_types.specs.Labels.{Labels}
 use Rattle.rw_types.specs.LabelOrder.{labels_cmp, labels_eq}
-use Rattle.rw_types.proofs.OrderLemmas.{same_if_equal, equal_if_same}
-use Rattle.rw_head.specs.Names.{AreNamed, below}
+use Rattle.rw_types.proofs.shared.OrderLemmas.{same_if_equal, equal_if_same}
+use Rattle.rw_head.specs.inner.Names.{AreNamed, below}
 
 abbrev Index : Type 0
 Index = BTreeMap Labels ℕ

@@ -5,10 +5,11 @@ use Rattle.std.proofs.lemmas.Bool.{cases_lt, true≢false}
 use Rattle.std.proofs.lemmas.List.{get_or-set_same, get_or-set_other, get_or_append_left, get_or_push, length-set, length_push, length-append}
 use Rattle.std.proofs.lemmas.List.Folds.{list_any-append}
 use Rattle.rw_types.specs.Beginnings.{Begins}
-use Rattle.rw_types.proofs.BeginningLemmas.{begins_itself}
+use Rattle.rw_types.proofs.shared.BeginningLemmas.{begins_itself}
 use Rattle.rw_head.specs.Order.{Point}
-use Rattle.rw_head.specs.Lists.{Lists, no_lists, more_count, note_of, AreNoted, IsStagedAt, Settled, has_samples}
-use Rattle.rw_head.proofs.StoreLemmas.{no_points}
+use Rattle.rw_head.specs.Lists.{Lists, no_lists, has_samples}
+use Rattle.rw_head.specs.inner.Lists.{more_count, note_of, AreNoted, IsStagedAt, Settled}
+use Rattle.rw_head.proofs.shared.StoreLemmas.{no_points}
 use Rattle.rw_head.proofs.NameLemmas.{get_or_any}
 
 -- ---- lists that differ from what is kept

@@ -2,7 +2,7 @@
 use Rattle.std.proofs.Common.{◌≡◌, ◌≢◌, ℕ, List, [], ◌∷◌, ◌++◌, length, Option, Some, None, Result, Ok, Err, refl, sym, ◌∙◌, ap, subst, arith}
 use Rattle.std.proofs.lemmas.List.{map-append}
 use Rattle.rw_types.specs.Labels.{Labels}
-use Rattle.rw_types.proofs.OrderLemmas.{equal_if_same}
+use Rattle.rw_types.proofs.shared.OrderLemmas.{equal_if_same}
 use Rattle.rw_write_request.specs.Message.{Sample, TimeSeries}
 use Rattle.rw_write_request.specs.Parts.{series_on}
 use Rattle.rw_write_request.specs.Read.{fields_in, read_series}
@@ -10,14 +10,15 @@ use Rattle.rw_write_request.specs.declared.fault.WireFault.{WireFault}
 use Rattle.rw_write_request.specs.declared.fault.WireFault.TheVariants.{OutOfMemory}
 use Rattle.rw_head.specs.declared.verdict.Verdict.{Verdict}
 use Rattle.rw_head.specs.declared.verdict.Verdict.TheVariants.{NoMemory}
-use Rattle.rw_head.specs.Bodies.{verdict_of, Takes, Refuses}
+use Rattle.rw_head.specs.Bodies.{verdict_of}
+use Rattle.rw_head.specs.inner.Bodies.{Takes, Refuses}
 use Rattle.rw_head.specs.Head.{status_of}
 use Rattle.rw_head.specs.Order.{Point, point_of, points, accept_next, accept}
 use Rattle.rw_head.specs.Store.{Store, list_of, with_list}
 use Rattle.rw_head.specs.Verdicts.{LabelLimits, refusal, accepted, taken_unless, taken}
-use Rattle.rw_head.proofs.BodyLemmas.{refuses, faulty}
-use Rattle.rw_head.proofs.OrderLemmas.{accept-none}
-use Rattle.rw_head.proofs.StoreLemmas.{list_of-with_list, with_list-twice}
+use Rattle.rw_head.proofs.shared.BodyLemmas.{refuses, faulty}
+use Rattle.rw_head.proofs.shared.OrderLemmas.{accept-none}
+use Rattle.rw_head.proofs.shared.StoreLemmas.{list_of-with_list, with_list-twice}
 
 -- ---- samples in two parts
 accept-append : (o : Option (List Point)) (xs ys : List Point) → accept o (xs ++ ys) ≡ accept (accept o xs) ys

@@ -16,15 +16,17 @@ use Rattle.std.proofs.lemmas.Option.{slice_get-get_or}
 use Rattle.std.proofs.lemmas.List.Folds.{list_any-append}
 use Rattle.std.proofs.lemmas.Cmp.{eq_by_cmp_equiv}
 use Rattle.rw_types.specs.Labels.{Labels}
-use Rattle.rw_types.specs.LabelOrder.{labels_cmp, labels_eq, labels_cmp-total}
-use Rattle.rw_types.proofs.OrderLemmas.{same_if_equal, equal_if_same}
+use Rattle.rw_types.specs.LabelOrder.{labels_cmp, labels_eq}
+use Rattle.rw_types.specs.inner.LabelOrder.{labels_cmp-total}
+use Rattle.rw_types.proofs.shared.OrderLemmas.{same_if_equal, equal_if_same}
 use Rattle.rw_head.specs.Order.{Point}
 use Rattle.rw_head.specs.Store.{Store, list_of, with_list, total, label_sets, held_series, AreListsOf, HasNoEmptyList}
 use Rattle.rw_head.specs.Verdicts.{LabelLimits}
-use Rattle.rw_head.specs.Growth.{HoldsNoneRefused}
-use Rattle.rw_head.specs.Lists.{Lists, no_lists, IsSound, IsFresh, IsAdded, AllFilled, has_samples, with_samples, AreWithin, listed, store_of_lists, kept_store, staged_store, HasPlaces}
-use Rattle.rw_head.specs.Names.{below, HasNoneRefused}
-use Rattle.rw_head.proofs.StoreLemmas.{list_of-empty, list_of-with_list, HasNoEmptyList-empty, HasNoEmptyList-with_list, same_store, with_list-same, total-with_list, list_of-few, is_less, find_below}
+use Rattle.rw_head.specs.inner.Growth.{HoldsNoneRefused}
+use Rattle.rw_head.specs.Lists.{Lists, no_lists, has_samples, with_samples}
+use Rattle.rw_head.specs.inner.Lists.{IsSound, IsFresh, IsAdded, AllFilled, AreWithin, listed, store_of_lists, kept_store, staged_store, HasPlaces}
+use Rattle.rw_head.specs.inner.Names.{below, HasNoneRefused}
+use Rattle.rw_head.proofs.shared.StoreLemmas.{list_of-empty, list_of-with_list, HasNoEmptyList-empty, HasNoEmptyList-with_list, same_store, with_list-same, total-with_list, list_of-few, is_less, find_below}
 use Rattle.rw_head.proofs.NameLemmas.{get_or_any}
 use Rattle.rw_head.proofs.NotedLemmas.{Settled-added, AreNoted-added}
 

@@ -7,9 +7,10 @@ use Rattle.rw_head.specs.Order.{Point, accept}
 use Rattle.rw_head.specs.Store.{Store, list_of, with_list}
 use Rattle.rw_head.specs.declared.verdict.Verdict.{Verdict}
 use Rattle.rw_head.specs.Verdicts.{accepted}
-use Rattle.rw_head.specs.Lists.{Lists, no_lists, IsStagedAt, IsAdded, ListGives, StoreGives, IsSound, has_samples, kept_store, staged_store}
+use Rattle.rw_head.specs.Lists.{Lists, no_lists, has_samples}
+use Rattle.rw_head.specs.inner.Lists.{IsStagedAt, IsAdded, ListGives, StoreGives, IsSound, kept_store, staged_store}
 use Rattle.rw_head.proofs.PlaceLemmas.{Index, IsSound-added, staged_at, staged_nowhere, staged-set, kept-set, kept-added, staged-added}
-use Rattle.rw_head.proofs.StagingLemmas.{IsSound-staged, StoreGives-list}
+use Rattle.rw_head.proofs.shared.StagingLemmas.{IsSound-staged, StoreGives-list}
 
 -- It holds what it held, and these points of a label set were staged over what was staged.
 pub record Holds (before index : Index) (lists news : List Lists) (touched : List ℕ) (fresh : List Labels) (count staged : ℕ) (r : Result (Unit {0}) Verdict) (l : Labels) (points : List Point) (s : Store) : Type 0 where

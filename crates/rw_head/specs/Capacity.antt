@@ -35,9 +35,9 @@ pub record StaysWithin (capacity : Capacity) (old new : Store) : Type 0 where
   pub series : IsWithin capacity.max_series (series_count old) (series_count new)
 
 -- the status of a request
-abbrev pub told : Admission → ℕ
-told (Answered status) = status
-told Full = 503
+abbrev pub status_of_admission : Admission → ℕ
+status_of_admission (Answered status) = status
+status_of_admission Full = 503
 
 -- the answer, unless the head after it would be above the capacity
 abbrev pub unless_above : Capacity → State → Answer → Answer

@@ -2,13 +2,11 @@ pub mod Added
 pub mod Blocks
 pub mod Bodies
 pub mod Capacity
-pub mod Finds
 pub mod Growth
 pub mod Head
-pub mod Keys
 pub mod Lists
-pub mod Names
 pub mod Order
 pub mod Staged
 pub mod Store
 pub mod Verdicts
+pub mod inner

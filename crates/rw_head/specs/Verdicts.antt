@@ -16,14 +16,14 @@ pub record LabelLimits : Type 0 where
   pub max_label_bytes : ℕ
 
 -- more labels, or more bytes of names and values
-abbrev pub is_over : LabelLimits → Labels → Bool
-is_over limits ls = nat_lt limits.max_labels (length ls) || nat_lt limits.max_label_bytes (text_len ls)
+abbrev pub is_over_limits : LabelLimits → Labels → Bool
+is_over_limits limits ls = nat_lt limits.max_labels (length ls) || nat_lt limits.max_label_bytes (text_len ls)
 
 -- why a head does not take these labels
 abbrev pub refusal : LabelLimits → Labels → Option Verdict
 refusal limits ls =
     if is_some (label_fault limits.names ls) then Some BadLabels
-    else (if is_over limits ls then Some OverLimit
+    else (if is_over_limits limits ls then Some OverLimit
     else None)
 
 abbrev pub accepted : Labels → Store → Option (List Point) → Result Store Verdict

@@ -3,8 +3,8 @@
 ghost use Rattle.std.specs.Prelude.{◌≡◌, ◌≢◌, ◌≤◌, false, true};
 ghost use Rattle.rw_head.specs.declared.capacity.Admission.TheVariants.{Answered, Full};
 ghost use Rattle.rw_head.specs.Blocks.{KeepsBlocks};
-ghost use Rattle.rw_head.specs.Capacity.{answer_within, exceeds, told, unlimited, StaysWithin};
-ghost use Rattle.rw_head.specs.Growth.{EachRises, HasTaken};
+ghost use Rattle.rw_head.specs.Capacity.{answer_within, exceeds, status_of_admission, unlimited, StaysWithin};
+ghost use Rattle.rw_head.specs.Growth.{EachRises, HasStoredBody};
 ghost use Rattle.rw_head.specs.Head.{answer, judged_body, status_of, IsStatus, SpellsMessage};
 ghost use Rattle.rw_head.specs.Store.{total};
 ghost use Rattle.rw_write_request.specs.Read.{read};
@@ -16,16 +16,18 @@ use crate::head::{Head, status_of};
 impl Head {
     /// Takes the message that a body spells, unless that would take the head above the capacity.
     fn admit_body(&mut self, body: &[u8], capacity: &Capacity) -> Admission
-        ensures status { told result ≢ 503
-            → told result ≡ status_of (judged_body self.old (read body.now)).verdict }
-        ensures store { told result ≢ 503
+        ensures status { status_of_admission result ≢ 503
+            → status_of_admission result
+            ≡ status_of (judged_body self.old (read body.now)).verdict }
+        ensures store { status_of_admission result ≢ 503
             → self.new.store ≡ (judged_body self.old (read body.now)).store }
-        ensures readable { told result ≡ 503 → SpellsMessage body.now }
-        ensures statuses { IsStatus (told result) }
+        ensures readable { status_of_admission result ≡ 503 → SpellsMessage body.now }
+        ensures statuses { IsStatus (status_of_admission result) }
         ensures limits { self.new.limits ≡ self.old.limits }
         ensures busy { self.new.busy ≡ self.old.busy }
-        ensures refused { told result ≢ 204 → self.new.store ≡ self.old.store }
-        ensures taken { told result ≡ 204 → HasTaken body.now self.old.store self.new.store }
+        ensures refused { status_of_admission result ≢ 204 → self.new.store ≡ self.old.store }
+        ensures taken { status_of_admission result ≡ 204
+            → HasStoredBody body.now self.old.store self.new.store }
         ensures more { total self.old.store ≤ total self.new.store }
         ensures rises { EachRises self.new.store }
         ensures blocks { KeepsBlocks self.old.store self.new.store }
@@ -59,13 +61,17 @@ impl Head {
     /// answered with 204 by a head that is at its capacity or above it. The message is judged once,
     /// and its samples are held until then, so this takes the memory that `answer` takes.
     pub fn admit(&mut self, body: &[u8], capacity: &Capacity) -> Admission
-        ensures status { told result ≢ 503 → told result ≡ (answer self.old body.now).status }
-        ensures head { told result ≢ 503 → self.new ≡ (answer self.old body.now).head }
-        ensures unavailable { told result ≡ 503 → (self.new ≡ self.old) × (self.old.busy ≡ 0) }
-        ensures readable { told result ≡ 503 → SpellsMessage body.now }
-        ensures statuses { IsStatus (told result) }
-        ensures refused { told result ≢ 204 → self.new.store ≡ self.old.store }
-        ensures taken { told result ≡ 204 → HasTaken body.now self.old.store self.new.store }
+        ensures status { status_of_admission result ≢ 503
+            → status_of_admission result ≡ (answer self.old body.now).status }
+        ensures head { status_of_admission result ≢ 503
+            → self.new ≡ (answer self.old body.now).head }
+        ensures unavailable { status_of_admission result ≡ 503
+            → (self.new ≡ self.old) × (self.old.busy ≡ 0) }
+        ensures readable { status_of_admission result ≡ 503 → SpellsMessage body.now }
+        ensures statuses { IsStatus (status_of_admission result) }
+        ensures refused { status_of_admission result ≢ 204 → self.new.store ≡ self.old.store }
+        ensures taken { status_of_admission result ≡ 204
+            → HasStoredBody body.now self.old.store self.new.store }
         ensures more { total self.old.store ≤ total self.new.store }
         ensures rises { EachRises self.new.store }
         ensures blocks { KeepsBlocks self.old.store self.new.store }
@@ -75,7 +81,7 @@ impl Head {
         ensures repeats { result ≡ Full → (answer self.old body.now).head.store ≢ self.old.store }
         ensures limited { result ≡ Full → capacity.now ≢ unlimited }
         ensures exact_status { result ≢ Answered 503
-            → told result ≡ (answer_within capacity.now self.old body.now).status }
+            → status_of_admission result ≡ (answer_within capacity.now self.old body.now).status }
         ensures exact_head { result ≢ Answered 503
             → self.new ≡ (answer_within capacity.now self.old body.now).head }
     {

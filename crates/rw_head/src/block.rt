@@ -1,7 +1,7 @@
 //! A full block of the samples of a series.
 
 ghost use Rattle.std.specs.Prelude.{◌≡◌, IfOk, length};
-ghost use Rattle.rw_head.specs.Blocks.{first_time};
+ghost use Rattle.rw_head.specs.inner.Blocks.{first_time};
 
 use rw_types::Word;
 use std::alloc::{AllocError, Global};

@@ -4,7 +4,8 @@ ghost use Rattle.std.specs.Prelude.{◌≡◌, ◌+◌, ◌-◌, ◌^◌, ◌<�
 ghost use Rattle.rw_types.specs.Rising.{Rises};
 ghost use Rattle.rw_head.specs.Order.{is_later, holds};
 ghost use Rattle.rw_head.specs.Lists.{IsEarlier};
-ghost use Rattle.rw_head.specs.Blocks.{joined, AreFull, Begun, begins_after, sealed_of, open_of};
+ghost use Rattle.rw_head.specs.Blocks.{joined_blocks, AreFull, sealed_of};
+ghost use Rattle.rw_head.specs.inner.Blocks.{Begun, begins_after, open_of};
 
 use crate::block::Block;
 use rw_types::Word;
@@ -25,11 +26,12 @@ pub(crate) struct Blocks {
 impl Model for Blocks {
     ghost use Rattle.std.specs.Prelude.{◌++◌, List, map, vec_capacity};
     ghost use Rattle.rw_head.specs.Order.{Point};
-    ghost use Rattle.rw_head.specs.Blocks.{joined, AreBlocks};
+    ghost use Rattle.rw_head.specs.Blocks.{joined_blocks};
+    ghost use Rattle.rw_head.specs.inner.Blocks.{AreBlocks};
 
     ghost Value = { List Point };
 
-    ghost view = { λ s. joined (map (λ b. b.value) s.sealed.items) ++ s.rest.items };
+    ghost view = { λ s. joined_blocks (map (λ b. b.value) s.sealed.items) ++ s.rest.items };
 
     ghost invariant = { λ s. AreBlocks (map (λ b. b.value) s.sealed.items) s.rest.items
         (vec_capacity s.rest) };
@@ -68,7 +70,7 @@ fn holds(samples: &[(i64, Word)], t: i64, word: Word) -> bool
 
 /// Returns how many of the blocks begin at `t` or before it.
 fn count_begun(sealed: &[Box<Block>], t: i64) -> usize
-    requires rises { Rises IsEarlier (joined (map (λ b. b.value) sealed.now)) }
+    requires rises { Rises IsEarlier (joined_blocks (map (λ b. b.value) sealed.now)) }
     requires full { AreFull (map (λ b. b.value) sealed.now) }
     ensures { Begun t (map (λ b. b.value) sealed.now) result }
 {
@@ -118,7 +120,7 @@ fn copy_part(
 /// Appends a copy of the samples of these blocks.
 fn copy_blocks(sealed: &[Box<Block>], samples: &mut Vec<(i64, Word)>) -> Result<(), AllocError>
     ensures { OnOk result
-        (samples.new.items ≡ samples.old.items ++ joined (map (λ b. b.value) sealed.now)) }
+        (samples.new.items ≡ samples.old.items ++ joined_blocks (map (λ b. b.value) sealed.now)) }
 {
     for block in sealed {
         samples.extend_from_slice(block.samples())?;

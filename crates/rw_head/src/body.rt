@@ -4,8 +4,8 @@ ghost use Rattle.std.specs.Prelude.{◌≡◌, ◌≤◌, length, Ok, OnOk, IfEr
 ghost use Rattle.rw_write_request.specs.Message.{WriteRequest};
 ghost use Rattle.rw_write_request.specs.Read.{read, read_series};
 ghost use Rattle.rw_head.specs.declared.verdict.Verdict.TheVariants.{NoMemory};
-ghost use Rattle.rw_head.specs.Bodies.{SeriesGives, BodyGives, HasFewLabels};
-ghost use Rattle.rw_head.specs.Growth.{HoldsNoneRefused};
+ghost use Rattle.rw_head.specs.inner.Bodies.{SeriesGives, BodyGives, HasFewLabels};
+ghost use Rattle.rw_head.specs.inner.Growth.{HoldsNoneRefused};
 
 use crate::label_bounds::LabelBounds;
 use crate::table::Table;

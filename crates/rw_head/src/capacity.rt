@@ -2,7 +2,7 @@
 
 ghost use Rattle.std.specs.Prelude.{◌≡◌, ◌↔◌, IsTrue};
 ghost use Rattle.rw_head.specs.declared.capacity.Admission.TheVariants.{Full};
-ghost use Rattle.rw_head.specs.Capacity.{unlimited, told};
+ghost use Rattle.rw_head.specs.Capacity.{unlimited, status_of_admission};
 
 /// The most that a head may hold. It limits what `Head::admit` adds, and not what a head holds
 /// already.
@@ -38,7 +38,7 @@ pub enum Admission {
 impl Admission {
     /// Returns the HTTP status, which is 503 if the head is full.
     pub fn status(self) -> u16
-        ensures { result ≡ told self }
+        ensures { result ≡ status_of_admission self }
     {
         match self {
             Admission::Answered(status) => status,

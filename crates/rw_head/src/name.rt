@@ -1,7 +1,7 @@
 //! Label sets with several owners.
 
 ghost use Rattle.std.specs.Prelude.{◌≡◌, ◌++◌, IfOk, OnOk};
-ghost use Rattle.rw_head.specs.Keys.{labels_key, text_key};
+ghost use Rattle.rw_head.specs.inner.Keys.{labels_key, text_key};
 
 use rw_types::{LabelSet, Names};
 use std::alloc::{AllocError, Global};
@@ -96,7 +96,7 @@ impl Name {
 
 impl PartialEq for Name {
     ghost use Rattle.rw_types.specs.LabelOrder.{labels_eq};
-    ghost use Rattle.rw_types.specs.LabelOrder.{labels_cmp-total};
+    ghost use Rattle.rw_types.specs.inner.LabelOrder.{labels_cmp-total};
     ghost use Rattle.std.proofs.lemmas.Cmp.{eq_by_cmp_equiv};
     ghost use Rattle.std.specs.Cmp.{partial_equiv_from_equiv};
 
@@ -110,7 +110,7 @@ impl PartialEq for Name {
 }
 
 impl Eq for Name {
-    ghost use Rattle.rw_types.specs.LabelOrder.{labels_cmp-total};
+    ghost use Rattle.rw_types.specs.inner.LabelOrder.{labels_cmp-total};
     ghost use Rattle.std.proofs.lemmas.Cmp.{eq_by_cmp_equiv};
 
     ghost laws = { eq_by_cmp_equiv labels_cmp-total };
@@ -118,7 +118,7 @@ impl Eq for Name {
 
 impl PartialOrd for Name {
     ghost use Rattle.rw_types.specs.LabelOrder.{labels_cmp};
-    ghost use Rattle.rw_types.specs.LabelOrder.{labels_cmp-total};
+    ghost use Rattle.rw_types.specs.inner.LabelOrder.{labels_cmp-total};
     ghost use Rattle.std.proofs.Common.{refl};
     ghost use Rattle.std.specs.Ordering.{as_partial_cmp};
     ghost use Rattle.std.specs.Cmp.{partial_order_from_agreeing_total};
@@ -134,7 +134,7 @@ impl PartialOrd for Name {
 
 impl Ord for Name {
     ghost use Rattle.rw_types.specs.LabelOrder.{labels_cmp};
-    ghost use Rattle.rw_types.specs.LabelOrder.{labels_cmp-total};
+    ghost use Rattle.rw_types.specs.inner.LabelOrder.{labels_cmp-total};
     ghost use Rattle.std.proofs.Common.{refl};
 
     ghost cmp = { labels_cmp };

@@ -24,7 +24,7 @@ pub(crate) struct Place {
 
 impl Model for Place {
     ghost use Rattle.std.specs.Prelude.{ℕ, List, ◌≤◌, length};
-    ghost use Rattle.rw_head.specs.Bodies.{HasHead};
+    ghost use Rattle.rw_head.specs.inner.Bodies.{HasHead};
 
     ghost Value = { List (List ℕ × List ℕ) };
 

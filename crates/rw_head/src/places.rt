@@ -7,9 +7,9 @@ ghost use Rattle.rw_types.specs.Labels.{Labels, text_label};
 ghost use Rattle.rw_types.specs.LabelOrder.{labels_cmp};
 ghost use Rattle.rw_head.specs.declared.verdict.Verdict.TheVariants.{NoMemory};
 ghost use Rattle.rw_head.specs.Verdicts.{refusal};
-ghost use Rattle.rw_head.specs.Names.{below, AreNamed, HasNoneRefused};
-ghost use Rattle.rw_head.specs.Finds.{Finds};
-ghost use Rattle.rw_head.specs.Bodies.{IsKnown};
+ghost use Rattle.rw_head.specs.inner.Names.{below, AreNamed, HasNoneRefused};
+ghost use Rattle.rw_head.specs.inner.Finds.{Finds};
+ghost use Rattle.rw_head.specs.inner.Bodies.{IsKnown};
 
 use crate::label_bounds::LabelBounds;
 use crate::name::Name;

@@ -3,8 +3,10 @@
 ghost use Rattle.std.specs.Prelude.{◌≡◌, ◌+◌, ◌^◌, ◌<◌, ◌≤◌, true, Err, IfOk, OnOk, length, map};
 ghost use Rattle.rw_head.specs.Order.{points, is_later, accept_one, accept};
 ghost use Rattle.rw_types.specs.Beginnings.{Begins};
-ghost use Rattle.rw_head.specs.Lists.{no_lists, has_samples, more_of, more_count, ListGives};
-ghost use Rattle.rw_head.specs.Blocks.{sealed_of, open_of};
+ghost use Rattle.rw_head.specs.Lists.{no_lists, has_samples, more_of};
+ghost use Rattle.rw_head.specs.inner.Lists.{more_count, ListGives};
+ghost use Rattle.rw_head.specs.Blocks.{sealed_of};
+ghost use Rattle.rw_head.specs.inner.Blocks.{open_of};
 ghost use Rattle.rw_head.specs.declared.verdict.Verdict.TheVariants.{NoMemory};
 
 use crate::block::Block;

@@ -1,7 +1,8 @@
 //! The series that have samples.
 
 ghost use Rattle.std.specs.Prelude.{◌≡◌, length, IfOk};
-ghost use Rattle.rw_head.specs.Lists.{with_samples, AreWithin};
+ghost use Rattle.rw_head.specs.Lists.{with_samples};
+ghost use Rattle.rw_head.specs.inner.Lists.{AreWithin};
 ghost use Rattle.std.specs.Iterator.{YieldsFirst, item_count};
 
 use crate::name::Name;
@@ -54,7 +55,8 @@ pub struct AllSeries<'a> {
 
 impl<'a> Model for AllSeries<'a> {
     ghost use Rattle.std.specs.Prelude.{ℕ, List, length};
-    ghost use Rattle.rw_head.specs.Lists.{with_samples, AreWithin};
+    ghost use Rattle.rw_head.specs.Lists.{with_samples};
+    ghost use Rattle.rw_head.specs.inner.Lists.{AreWithin};
     ghost use Rattle.rw_head.specs.Order.{Point};
 
     ghost Value = { List (List (List ℕ × List ℕ) × List Point) };

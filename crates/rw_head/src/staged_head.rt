@@ -6,7 +6,7 @@ ghost use Rattle.rw_types.specs.Labels.{Labels};
 ghost use Rattle.rw_head.specs.Added.{AddsUp};
 ghost use Rattle.rw_head.specs.Blocks.{KeepsBlocks};
 ghost use Rattle.rw_head.specs.Capacity.{exceeds, unlimited};
-ghost use Rattle.rw_head.specs.Growth.{EachRises, HasTaken};
+ghost use Rattle.rw_head.specs.Growth.{EachRises, HasStoredBody};
 ghost use Rattle.rw_head.specs.Head.{answer, SpellsMessage, IsStatus};
 ghost use Rattle.rw_head.specs.Store.{list_of, total};
 
@@ -35,7 +35,8 @@ impl Model for StagedHead {
     ghost use Rattle.std.specs.Prelude.{◌≡◌, length};
     ghost use Rattle.std.specs.Coded.{codes};
     ghost use Rattle.std.specs.FinMap as map;
-    ghost use Rattle.rw_head.specs.Staged.{Staging, IsStaging};
+    ghost use Rattle.rw_head.specs.Staged.{Staging};
+    ghost use Rattle.rw_head.specs.inner.Staged.{IsStaging};
 
     ghost Value = { Staging };
 
@@ -61,7 +62,7 @@ impl Head {
         ensures before { IfOk result (λ s. s.before ≡ self) }
         ensures after { IfOk result (λ s. s.after ≡ (answer self body.now).head) }
         ensures taken { IfOk result (λ s. (answer self body.now).status ≡ 204) }
-        ensures message { IfOk result (λ s. HasTaken body.now self.store s.after.store) }
+        ensures message { IfOk result (λ s. HasStoredBody body.now self.store s.after.store) }
         ensures status { IfErr result (λ e. e.1 ≢ 503 → e.1 ≡ (answer self body.now).status) }
         ensures head { IfErr result (λ e. e.1 ≢ 503 → e.0 ≡ (answer self body.now).head) }
         ensures no_memory { IfErr result (λ e. e.1 ≡ 503 → (e.0 ≡ self) × (self.busy ≡ 0)) }

@@ -9,13 +9,15 @@ ghost use Rattle.rw_head.specs.declared.verdict.Verdict.TheVariants.{OutOfOrder,
 ghost use Rattle.rw_head.specs.Order.{points, accept};
 ghost use Rattle.rw_head.specs.Store.{list_of, total, label_sets, held_series, AreListsOf, HasNoEmptyList};
 ghost use Rattle.rw_head.specs.Verdicts.{LabelLimits, taken};
-ghost use Rattle.rw_head.specs.Bodies.{known_of, KnownGives};
+ghost use Rattle.rw_head.specs.inner.Bodies.{known_of, KnownGives};
 ghost use Rattle.rw_write_request.specs.Read.{read_series};
-ghost use Rattle.rw_head.specs.Growth.{HoldsNoneRefused};
-ghost use Rattle.rw_head.specs.Blocks.{sealed_of, open_of};
+ghost use Rattle.rw_head.specs.inner.Growth.{HoldsNoneRefused};
+ghost use Rattle.rw_head.specs.Blocks.{sealed_of};
+ghost use Rattle.rw_head.specs.inner.Blocks.{open_of};
 ghost use Rattle.rw_head.specs.Added.{AddsUp};
 ghost use Rattle.rw_head.specs.Capacity.{exceeds, is_above, unlimited};
-ghost use Rattle.rw_head.specs.Lists.{no_lists, more_count, note_of, Settled, IsAdded, IsStagedAt, ListGives, StoreGives};
+ghost use Rattle.rw_head.specs.Lists.{no_lists};
+ghost use Rattle.rw_head.specs.inner.Lists.{more_count, note_of, Settled, IsAdded, IsStagedAt, ListGives, StoreGives};
 
 use crate::added::AllAdded;
 use crate::block::Block;
@@ -53,7 +55,8 @@ impl Model for Table {
     ghost use Rattle.std.specs.Prelude.{◌≡◌, ◌+◌, length};
     ghost use Rattle.std.specs.Coded.{codes};
     ghost use Rattle.std.specs.FinMap as map;
-    ghost use Rattle.rw_head.specs.Lists.{Stores, kept_store, staged_store, added_of, IsSound};
+    ghost use Rattle.rw_head.specs.Lists.{added_of};
+    ghost use Rattle.rw_head.specs.inner.Lists.{Stores, kept_store, staged_store, IsSound};
 
     ghost Value = { Stores };
 

@@ -2,12 +2,12 @@
 use Rattle.std.proofs.Common.{◌≡◌, ◌⊎◌, inl, inr, ℕ, zero, suc, ◌<◌, ◌≤◌, ◌^◌, true, List, decimal, length, length-append, Option, None, Some, sym, ap, ◌∙◌, subst, arith}
 use Rattle.rw_types.specs.Requests.{is_host_name, is_request_path}
 use Rattle.rw_shard_core.specs.SentRequest.{request_of, request_head}
-use Rattle.rw_roundtrip.proofs.RequestLemmas.{one_request, one_refusal}
+use Rattle.rw_roundtrip.proofs.shared.RequestLemmas.{one_request, one_refusal}
 use Rattle.rw_endpoint.specs.Alone.{IsOneRequest, IsOneRefusal, IsServedAlone, IsTurnedAway}
 use Rattle.rw_endpoint.specs.declared.serve_end.ServeEnd.{ServeEnd}
 use Rattle.rw_head.specs.Head.{State}
 use Rattle.rw_recv_head.specs.Seats.{Seated, HasAsked}
-use Rattle.rw_in_memory.specs.Lines.{IsAskedOnce}
+use Rattle.rw_in_memory.specs.inner.Lines.{IsAskedOnce}
 
 -- what fits, or does not
 pub within : (n limit : ℕ) → (n ≤ limit) ⊎ (limit < n)

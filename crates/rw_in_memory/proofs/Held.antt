@@ -13,7 +13,7 @@ use Rattle.rw_head.specs.Head.{State}
 use Rattle.rw_head.specs.Store.{Store}
 use Rattle.rw_recv_head.specs.Seats.{Seated}
 use Rattle.rw_worker.specs.Transcript.{Exchange, Settled, Settles, AreTries, AreTriesOf, IsTranscript, batch_request}
-use Rattle.rw_worker.specs.Setups.{Setup as WorkerSetup, start_of}
+use Rattle.rw_worker.specs.Setups.{WorkerSetup as WorkerSetup, start_of}
 use Rattle.rw_worker.specs.Steps.{exchanges_of, after}
 use Rattle.rw_fleet.specs.ShardHistories.{ShardHistory, AreSame, AreSetUp, IsSetUp}
 use Rattle.rw_fleet.specs.Work.{IsWorked, AreWorked, AreResolved, lane_of, finished_of}
@@ -32,10 +32,10 @@ use Rattle.rw_simulation.specs.Arrivals.{Arrival, IsOneReceiver}
 use Rattle.rw_simulation.specs.Seatings.{IsSeatOf, AreSeated}
 use Rattle.rw_simulation.specs.StoppedRuns.{IsMachineOf, first_number}
 use Rattle.rw_simulation.specs.Received.{AreOfSteps, AreExchangesOf, IsHeld}
-use Rattle.rw_simulation.proofs.Pasts.{map_get, get_map}
-use Rattle.rw_simulation.proofs.Seatings.{seats-as-one}
-use Rattle.rw_simulation.proofs.ReceivedRuns.{receives-in-order, receives-abandoned}
-use Rattle.rw_in_memory.specs.Lines.{Line, AreMade, IsLine}
+use Rattle.rw_simulation.proofs.shared.Pasts.{map_get, get_map}
+use Rattle.rw_simulation.proofs.shared.Seatings.{seats-as-one}
+use Rattle.rw_simulation.proofs.shared.ReceivedRuns.{receives-in-order, receives-abandoned}
+use Rattle.rw_in_memory.specs.Lines.{SeatLine, AreMade, IsSeatLine}
 use Rattle.rw_in_memory.specs.Held.{seen_by, IsAnyones, seat_of, AreLines, IsFirst, HasEnded, HoldsInMemory}
 
 -- ---- a worker's requests are such as a sender makes
@@ -60,14 +60,14 @@ module _ (target : Target) (host : is_host_name target.host ≡ true) where
   made-tried (x ∷ xs) es t = made-tries (x ∷ xs) es t
 
 -- ---- lists
-worked-at : (opening : State) (path : List ℕ) (limit : ℕ) (js : List (StoppedShard Line)) (k : ℕ) (j : StoppedShard Line) → AreWorked (IsLine opening path limit) seen_by IsAnyones js → slice_get js k ≡ Some j → IsWorked (IsLine opening path limit) seen_by IsAnyones j
+worked-at : (opening : State) (path : List ℕ) (limit : ℕ) (js : List (StoppedShard SeatLine)) (k : ℕ) (j : StoppedShard SeatLine) → AreWorked (IsSeatLine opening path limit) seen_by IsAnyones js → slice_get js k ≡ Some j → IsWorked (IsSeatLine opening path limit) seen_by IsAnyones j
 worked-at opening path limit [] k j w e = absurd (none-some j e)
-worked-at opening path limit (i ∷ is) zero j w e = subst (IsWorked (IsLine opening path limit) seen_by IsAnyones) (same_Some i j e) w.0
+worked-at opening path limit (i ∷ is) zero j w e = subst (IsWorked (IsSeatLine opening path limit) seen_by IsAnyones) (same_Some i j e) w.0
 worked-at opening path limit (i ∷ is) (suc k) j w e = worked-at opening path limit is k j w.1 e
 
-setup-at : (config : ConfigFields) (js : List (StoppedShard Line)) (k : ℕ) (j : StoppedShard Line) → AreSetUp config (map lane_of js) → slice_get js k ≡ Some j → IsSetUp config j.worker.value
+setup-at : (config : ConfigFields) (js : List (StoppedShard SeatLine)) (k : ℕ) (j : StoppedShard SeatLine) → AreSetUp config (map lane_of js) → slice_get js k ≡ Some j → IsSetUp config j.worker.value
 setup-at config [] k j w e = absurd (none-some j e)
-setup-at config (i ∷ is) zero j w e = subst (λ (x : StoppedShard Line). IsSetUp config x.worker.value) (same_Some i j e) w.0
+setup-at config (i ∷ is) zero j w e = subst (λ (x : StoppedShard SeatLine). IsSetUp config x.worker.value) (same_Some i j e) w.0
 setup-at config (i ∷ is) (suc k) j w e = setup-at config is k j w.1 e
 
 -- the first of two lists of same shards has a shard if the second has one
@@ -82,37 +82,37 @@ none-turned : (epochs : List (List ShardHistory)) → 0 ≡ length epochs → ep
 none-turned [] e = refl
 none-turned (x ∷ xs) e = absurd (omega arith)
 
-abbrev seen_at : Option (Finished Line) → List Exchange
+abbrev seen_at : Option (Finished SeatLine) → List Exchange
 seen_at None = []
 seen_at (Some f) = f.transport.seen
 
 -- the exchanges of each worker of the first epoch
-abbrev exchanges_by : List (Finished Line) → ℕ → ℕ → List Exchange
+abbrev exchanges_by : List (Finished SeatLine) → ℕ → ℕ → List Exchange
 exchanges_by fs zero k = seen_at (slice_get fs k)
 exchanges_by fs (suc e) k = []
 
-module _ (opening : State) (path : List ℕ) (limit : ℕ) (s : Shipping Line) (r : Report Line) (store : Store) (c : Setup) (h : HasStopped (IsLine opening path limit) seen_by IsAnyones s r) (p : PlacesAll s.log s.fleet) (machine : IsMachineOf c s) (first : IsFirst c s) (lines : AreLines c opening path limit r.workers.items store) where
+module _ (opening : State) (path : List ℕ) (limit : ℕ) (s : Shipping SeatLine) (r : Report SeatLine) (store : Store) (c : Setup) (h : HasStopped (IsSeatLine opening path limit) seen_by IsAnyones s r) (p : PlacesAll s.log s.fleet) (machine : IsMachineOf c s) (first : IsFirst c s) (lines : AreLines c opening path limit r.workers.items store) where
   abbrev exs : ℕ → ℕ → List Exchange
   exs = exchanges_by r.workers.items
 
   joined_is : h.joined ≡ h.all.0
-  joined_is = h.all.1 ∙ ap (λ (js : List (StoppedShard Line)). js ++ h.all.0) first.none_ended
+  joined_is = h.all.1 ∙ ap (λ (js : List (StoppedShard SeatLine)). js ++ h.all.0) first.none_ended
 
   -- what a worker's line has seen are the exchanges of its steps
-  told : (j : StoppedShard Line) → IsLine opening path limit j.finished.transport → (work : IsWorked (IsLine opening path limit) seen_by IsAnyones j) → j.finished.transport.seen ≡ exchanges_of work.report.steps
+  told : (j : StoppedShard SeatLine) → IsSeatLine opening path limit j.finished.transport → (work : IsWorked (IsSeatLine opening path limit) seen_by IsAnyones j) → j.finished.transport.seen ≡ exchanges_of work.report.steps
   told j line work = (work.report.made.adds line).1 ∙ ap (λ (xs : List Exchange). xs ++ exchanges_of work.report.steps) work.none
 
   -- the k-th shard is of the first epoch, and has this number
-  record IsShardAt (k : ℕ) (j : StoppedShard Line) : Type 0 where
+  record IsShardAt (k : ℕ) (j : StoppedShard SeatLine) : Type 0 where
     epoch_is : j.worker.value.queue.epoch ≡ 0
     shard_is : j.worker.value.queue.shard ≡ k
-    work : IsWorked (IsLine opening path limit) seen_by IsAnyones j
-    line : IsLine opening path limit j.finished.transport
+    work : IsWorked (IsSeatLine opening path limit) seen_by IsAnyones j
+    line : IsSeatLine opening path limit j.finished.transport
     seen_is : j.finished.transport.seen ≡ exchanges_of work.report.steps
     exchanges_are : exs 0 k ≡ j.finished.transport.seen
     made : AreMade c.target.path j.finished.transport.seen
 
-  shard-at : (k : ℕ) (j : StoppedShard Line) → slice_get h.joined k ≡ Some j → IsShardAt k j
+  shard-at : (k : ℕ) (j : StoppedShard SeatLine) → slice_get h.joined k ≡ Some j → IsShardAt k j
   shard-at k j at = record {
     epoch_is = ap (λ (x : WorkerSetup). x.queue.epoch) lane.2 ∙ (p.dealt.each k lane.0 lane.1).0 ∙ first.epoch_is;
     shard_is = ap (λ (x : WorkerSetup). x.queue.shard) lane.2 ∙ (p.dealt.each k lane.0 lane.1).1;
@@ -126,15 +126,15 @@ module _ (opening : State) (path : List ℕ) (limit : ℕ) (s : Shipping Line) (
   }
     where
       here : slice_get r.workers.items k ≡ Some (finished_of j)
-      here = ap (λ (fs : List (Finished Line)). slice_get fs k) h.workers ∙ get_map finished_of h.joined k j at
+      here = ap (λ (fs : List (Finished SeatLine)). slice_get fs k) h.workers ∙ get_map finished_of h.joined k j at
 
       lane : (l : ShardHistory) × (slice_get s.fleet.current k ≡ Some l) × ((lane_of j).setup ≡ l.setup)
-      lane = same-at s.fleet.current (map lane_of h.all.0) k (lane_of j) h.all.2 (get_map lane_of h.all.0 k j (ap (λ (js : List (StoppedShard Line)). slice_get js k) (sym joined_is) ∙ at))
+      lane = same-at s.fleet.current (map lane_of h.all.0) k (lane_of j) h.all.2 (get_map lane_of h.all.0 k j (ap (λ (js : List (StoppedShard SeatLine)). slice_get js k) (sym joined_is) ∙ at))
 
-      work : IsWorked (IsLine opening path limit) seen_by IsAnyones j
+      work : IsWorked (IsSeatLine opening path limit) seen_by IsAnyones j
       work = worked-at opening path limit h.joined k j h.worked at
 
-      line : IsLine opening path limit j.finished.transport
+      line : IsSeatLine opening path limit j.finished.transport
       line = lines.each k (finished_of j) here
 
       seen : j.finished.transport.seen ≡ exchanges_of work.report.steps
@@ -150,35 +150,35 @@ module _ (opening : State) (path : List ℕ) (limit : ℕ) (s : Shipping Line) (
       host = subst (λ (t : Target). is_host_name t.host ≡ true) (sym target_is) lines.host
 
   -- ---- the exchanges are those of the shards' workers
-  of-steps : (js : List (StoppedShard Line)) (w : AreWorked (IsLine opening path limit) seen_by IsAnyones js) → ((k : ℕ) (j : StoppedShard Line) (work : IsWorked (IsLine opening path limit) seen_by IsAnyones j) → slice_get js k ≡ Some j → exs j.worker.value.queue.epoch j.worker.value.queue.shard ≡ exchanges_of work.report.steps)
-      → AreOfSteps (IsLine opening path limit) seen_by IsAnyones exs js w
+  of-steps : (js : List (StoppedShard SeatLine)) (w : AreWorked (IsSeatLine opening path limit) seen_by IsAnyones js) → ((k : ℕ) (j : StoppedShard SeatLine) (work : IsWorked (IsSeatLine opening path limit) seen_by IsAnyones j) → slice_get js k ≡ Some j → exs j.worker.value.queue.epoch j.worker.value.queue.shard ≡ exchanges_of work.report.steps)
+      → AreOfSteps (IsSeatLine opening path limit) seen_by IsAnyones exs js w
   of-steps [] w f = tt
   of-steps (j ∷ js) w f = (f 0 j w.0 refl, of-steps js w.1 (λ k i work at. f (suc k) i work at))
 
-  by-number : (j : StoppedShard Line) (k : ℕ) → j.worker.value.queue.epoch ≡ 0 → j.worker.value.queue.shard ≡ k → exs j.worker.value.queue.epoch j.worker.value.queue.shard ≡ exs 0 k
+  by-number : (j : StoppedShard SeatLine) (k : ℕ) → j.worker.value.queue.epoch ≡ 0 → j.worker.value.queue.shard ≡ k → exs j.worker.value.queue.epoch j.worker.value.queue.shard ≡ exs 0 k
   by-number j k e n i = exs (e i) (n i)
 
   -- whose exchange it is
   record IsOwned (e k i : ℕ) : Type 0 where
     epoch_is : e ≡ 0
-    f : Finished Line
+    f : Finished SeatLine
     at : slice_get r.workers.items k ≡ Some f
-    j : StoppedShard Line
+    j : StoppedShard SeatLine
     there : slice_get h.joined k ≡ Some j
     same : finished_of j ≡ f
 
-  shard-of : (k : ℕ) (f : Finished Line) → slice_get r.workers.items k ≡ Some f → (j : StoppedShard Line) × (slice_get h.joined k ≡ Some j) × (finished_of j ≡ f)
-  shard-of k f at = map_get finished_of h.joined k f (ap (λ (fs : List (Finished Line)). slice_get fs k) (sym h.workers) ∙ at)
+  shard-of : (k : ℕ) (f : Finished SeatLine) → slice_get r.workers.items k ≡ Some f → (j : StoppedShard SeatLine) × (slice_get h.joined k ≡ Some j) × (finished_of j ≡ f)
+  shard-of k f at = map_get finished_of h.joined k f (ap (λ (fs : List (Finished SeatLine)). slice_get fs k) (sym h.workers) ∙ at)
 
   owned : (e k i : ℕ) (x : Exchange) → slice_get (exs e k) i ≡ Some x → IsOwned e k i
   owned (suc e) k i x got = absurd (none-some x got)
   owned zero k i x got = by_found (slice_get r.workers.items k) refl got
     where
-      by_found : (o : Option (Finished Line)) → slice_get r.workers.items k ≡ o → slice_get (seen_at o) i ≡ Some x → IsOwned 0 k i
+      by_found : (o : Option (Finished SeatLine)) → slice_get r.workers.items k ≡ o → slice_get (seen_at o) i ≡ Some x → IsOwned 0 k i
       by_found None at got = absurd (none-some x got)
       by_found (Some f) at got = let j = shard-of k f at in record { epoch_is = refl; f = f; at = at; j = j.0; there = j.1; same = j.2 }
 
-  exchanges-of-all : AreExchangesOf (IsLine opening path limit) seen_by IsAnyones h.joined h.worked exs
+  exchanges-of-all : AreExchangesOf (IsSeatLine opening path limit) seen_by IsAnyones h.joined h.worked exs
   exchanges-of-all = record {
     each = of-steps h.joined h.worked (λ k j work at. let i = shard-at k j at in by-number j k i.epoch_is i.shard_is ∙ i.exchanges_are ∙ told j i.line work);
     owned = λ e k i x got. let o = owned e k i x got in let a = shard-at k o.j o.there in (k, o.j, o.there, a.epoch_is ∙ sym o.epoch_is, a.shard_is);
@@ -192,14 +192,14 @@ module _ (opening : State) (path : List ℕ) (limit : ℕ) (s : Shipping Line) (
       (subst (λ (d : List ℕ). IsSeatOf d limit opening m.0.transport.seen m.0.transport.seat) lines.path_is
       (lines.each k m.0 m.1 (subst (λ (d : List ℕ). AreMade d m.0.transport.seen) (sym lines.path_is) made)))))
     where
-      m : (f : Finished Line) × (slice_get r.workers.items k ≡ Some f) × (seat_of f ≡ t)
+      m : (f : Finished SeatLine) × (slice_get r.workers.items k ≡ Some f) × (seat_of f ≡ t)
       m = map_get seat_of r.workers.items k t at
 
-      j : (j : StoppedShard Line) × (slice_get h.joined k ≡ Some j) × (finished_of j ≡ m.0)
+      j : (j : StoppedShard SeatLine) × (slice_get h.joined k ≡ Some j) × (finished_of j ≡ m.0)
       j = shard-of k m.0 m.1
 
       made : AreMade c.target.path m.0.transport.seen
-      made = subst (λ (f : Finished Line). AreMade c.target.path f.transport.seen) j.2 (shard-at k j.0 j.1).made
+      made = subst (λ (f : Finished SeatLine). AreMade c.target.path f.transport.seen) j.2 (shard-at k j.0 j.1).made
 
       exchanges_are : exs 0 k ≡ m.0.transport.seen
       exchanges_are = ap seen_at m.1
@@ -225,13 +225,13 @@ module _ (opening : State) (path : List ℕ) (limit : ℕ) (s : Shipping Line) (
       one = seats-as-one c exs opening (map seat_of r.workers.items) store lines.calm seated
 
       resolved : AreResolved s.fleet.ended
-      resolved k j at = absurd (none-some j (ap (λ (js : List (StoppedShard Line)). slice_get js k) (sym first.none_ended) ∙ at))
+      resolved k j at = absurd (none-some j (ap (λ (js : List (StoppedShard SeatLine)). slice_get js k) (sym first.none_ended) ∙ at))
 
       left : IsAbandoned r.outcome → IsHeld s r (one.1 (length one.0)).store
-      left stopped = receives-abandoned (IsLine opening path limit) seen_by IsAnyones s r c fed h s.fleet p machine work fed_are h.all resolved first.number first-number stopped exs one.0 one.1 exchanges-of-all one.2
+      left stopped = receives-abandoned (IsSeatLine opening path limit) seen_by IsAnyones s r c fed h s.fleet p machine work fed_are h.all resolved first.number first-number stopped exs one.0 one.1 exchanges-of-all one.2
 
       whole : EndBy Orderly s.fleet r.workers.items → (IsAbandoned r.outcome → ⊥) → IsHeld s r (one.1 (length one.0)).store
-      whole ends none = receives-in-order (IsLine opening path limit) seen_by IsAnyones s r c fed h p machine work fed_are first.number first-number ends none exs one.0 one.1 exchanges-of-all one.2
+      whole ends none = receives-in-order (IsSeatLine opening path limit) seen_by IsAnyones s r c fed h p machine work fed_are first.number first-number ends none exs one.0 one.1 exchanges-of-all one.2
 
       is_abandoned : (o : Outcome) → (IsAbandoned o → ⊥) ⊎ IsAbandoned o
       is_abandoned (outcome.Complete end) = inl (λ a. a)
@@ -243,5 +243,5 @@ module _ (opening : State) (path : List ℕ) (limit : ℕ) (s : Shipping Line) (
       by_end (inr stopped) any = left stopped
       by_end (inl ends) (inl none) = whole ends none
 
-pub holds-in-memory : (opening : State) (path : List ℕ) (limit : ℕ) (s : Shipping Line) (r : Report Line) (store : Store) → HoldsInMemory opening path limit s r store
+pub holds-in-memory : (opening : State) (path : List ℕ) (limit : ℕ) (s : Shipping SeatLine) (r : Report SeatLine) (store : Store) → HoldsInMemory opening path limit s r store
 holds-in-memory opening path limit s r store c fed h p machine work fed_are first lines ended = held opening path limit s r store c h p machine first lines fed work fed_are ended

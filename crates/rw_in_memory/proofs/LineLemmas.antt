@@ -14,10 +14,11 @@ use Rattle.rw_recv_head.specs.declared.question.Question.{Question}
 use Rattle.rw_recv_head.specs.Seats.{Seated, HasAsked, own}
 use Rattle.rw_simulation.specs.SharedReceivers.{IsAnsweredAt}
 use Rattle.rw_simulation.specs.Seatings.{Asks, AreAskedFor, IsSeatOf}
-use Rattle.rw_simulation.proofs.Pasts.{get-either}
-use Rattle.rw_simulation.proofs.Seatings.{last_or}
-use Rattle.rw_simulation.proofs.Passed.{passed, passes_at}
-use Rattle.rw_in_memory.specs.Lines.{AreMade, IsAskedOnce}
+use Rattle.rw_simulation.proofs.shared.Pasts.{get-either}
+use Rattle.rw_simulation.proofs.shared.Seatings.{last_or}
+use Rattle.rw_simulation.proofs.shared.Passed.{passed, passes_at}
+use Rattle.rw_in_memory.specs.Lines.{AreMade}
+use Rattle.rw_in_memory.specs.inner.Lines.{IsAskedOnce}
 
 -- ---- lists
 -- two lists with one element after them

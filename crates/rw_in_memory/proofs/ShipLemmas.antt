@@ -7,7 +7,7 @@ use Rattle.rw_fleet.specs.Fleets.{Shards}
 use Rattle.rw_sender.specs.Shipping.{Shipping, Feeds, Joins}
 use Rattle.rw_sender.specs.declared.shipper.FeedFault.{FeedFault}
 use Rattle.rw_sender.specs.declared.shipper.FeedFault.TheVariants.{OutOfMemory, Damaged, Gone}
-use Rattle.rw_in_memory.specs.Shipped.{HasFed}
+use Rattle.rw_in_memory.specs.inner.Shipped.{HasFed}
 
 module _ {T : Type 0} (old was now : Shipping T) (log yielded rest : List Piece) (piece : Piece) (left : log ≡ yielded ++ (piece ∷ rest))
     (pieces : was.log.pieces ≡ old.log.pieces ++ map piece_of yielded) (choice : was.log.choice ≡ old.log.choice) (fleet : was.fleet ≡ record old.fleet { current = was.fleet.current }) (len : length was.fleet.current ≡ length old.fleet.current)

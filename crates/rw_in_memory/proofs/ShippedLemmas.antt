@@ -23,8 +23,9 @@ use Rattle.rw_fleet.specs.Fleets.{Shards, EndBy}
 use Rattle.rw_fleet.specs.declared.joined.StoppedShard.{StoppedShard}
 use Rattle.rw_fleet.specs.declared.running.Fault.{Fault}
 use Rattle.rw_fleet.specs.declared.running.Fault.TheVariants as queue_fault
-use Rattle.rw_sender.specs.Reports.{IsAbandoned, kind_of}
-use Rattle.rw_sender.specs.Shipping.{Shipping, HasStopped, Ends, Feeds}
+use Rattle.rw_fleet.proofs.shared.LaneLemmas.{same_length}
+use Rattle.rw_sender.specs.Reports.{IsAbandoned, end_kind}
+use Rattle.rw_sender.specs.Shipping.{Shipping, HasStopped, HasEndedAs, Feeds}
 use Rattle.rw_sender.specs.declared.report.Report.{Report}
 use Rattle.rw_sender.specs.declared.shipper.FeedFault.{FeedFault}
 use Rattle.rw_sender.specs.declared.shipper.FeedFault.TheVariants as feed_fault
@@ -32,35 +33,26 @@ use Rattle.rw_machine.specs.Worlds.{Setup}
 use Rattle.rw_machine.specs.Promises.{CanWork}
 use Rattle.rw_simulation.specs.StoppedRuns.{IsMachineOf}
 use Rattle.rw_simulation.specs.Received.{IsHeld}
-use Rattle.rw_in_memory.specs.Lines.{Line}
+use Rattle.rw_in_memory.specs.Lines.{SeatLine}
 use Rattle.rw_in_memory.specs.Held.{seen_by, IsAnyones, AreLines, IsFirst, HasEnded}
-use Rattle.rw_in_memory.specs.Shipped.{IsSound, HasFed, IsGathered, IsOneEpoch, IsShippedTo, IsNew, IsShipped}
+use Rattle.rw_in_memory.specs.Shipped.{IsGathered, IsOneEpoch, IsShippedTo, IsNew, IsShipped}
+use Rattle.rw_in_memory.specs.inner.Shipped.{IsSound, HasFed}
 use Rattle.rw_in_memory.specs.declared.shipping.Shipped.{Shipped}
 use Rattle.rw_in_memory.proofs.Held.{holds-in-memory}
 
 -- ---- as many workers as shards
-same_count : (ls ms : List ShardHistory) → AreSame ls ms → length ms ≡ length ls
-same_count [] [] s = refl
-same_count [] (m ∷ ms) s = absurd s
-same_count (l ∷ ls) [] s = absurd s
-same_count (l ∷ ls) (m ∷ ms) s = let h = same_count ls ms s.2 in omega arith
-
-pub workers_count : (tells : Line → Type 0) (s : Shipping Line) (r : Report Line) → HasStopped tells seen_by IsAnyones s r → s.fleet.ended ≡ [] → length r.workers.items ≡ length s.fleet.current
+pub workers_count : (tells : SeatLine → Type 0) (s : Shipping SeatLine) (r : Report SeatLine) → HasStopped tells seen_by IsAnyones s r → s.fleet.ended ≡ [] → length r.workers.items ≡ length s.fleet.current
 workers_count tells s r h none =
     ap length h.workers
     ∙ length-map h.joined finished_of
-    ∙ ap length (h.all.1 ∙ ap (λ (js : List (StoppedShard Line)). js ++ h.all.0) none)
+    ∙ ap length (h.all.1 ∙ ap (λ (js : List (StoppedShard SeatLine)). js ++ h.all.0) none)
     ∙ sym (length-map h.all.0 lane_of)
-    ∙ same_count s.fleet.current (map lane_of h.all.0) h.all.2
+    ∙ same_length s.fleet.current (map lane_of h.all.0) h.all.2
 
 -- ---- how it was stopped
-pub ended_so : (fault : Option Fault) (s : Shipping Line) (r : Report Line) → EndBy (kind_of (is_some fault)) s.fleet r.workers.items → IfSome fault (λ f. IsAbandoned r.outcome) → HasEnded s r
+pub ended_so : (fault : Option Fault) (s : Shipping SeatLine) (r : Report SeatLine) → EndBy (end_kind (is_some fault)) s.fleet r.workers.items → IfSome fault (λ f. IsAbandoned r.outcome) → HasEnded s r
 ended_so None s r by failed = inl by
 ended_so (Some f) s r by failed = inr failed
-
-pub failed_so : (fault : Option Fault) (o : Outcome) → IfSome fault (λ f. IsAbandoned o) → IsSome fault → IsAbandoned o
-failed_so None o failed some = absurd (cc)
-failed_so (Some f) o failed some = failed
 
 -- ---- each of a list
 pub each_of : {X : Type 0} (P : X → Type 0) (xs : List X) → All P xs → (k : ℕ) (x : X) → slice_get xs k ≡ Some x → P x
@@ -74,10 +66,6 @@ if_ok P Q (Ok x) h f = f x h
 if_ok P Q (Err e) h f = tt
 
 -- ---- if nothing was fed yet
-pub none_read : (log : Sorting) (choice : Choice) → log ≡ record { choice = choice; pieces = []; placed = []; hand = [] } → HasRead log.pieces log.placed None
-unfolding reading segment
-none_read log choice is = subst (λ (l : Sorting). HasRead l.pieces l.placed None) (sym is) (record { all = refl; fault_is = refl })
-
 -- ---- to a new head
 pub shipped_new : (opening : State) (limits : Limits) (config : ConfigFields) (log : List Piece) (v : Shipped) (path : List ℕ) (limit : ℕ) → IsNew limits opening → path ≡ config.target.path → limit ≡ 67108864
     → IsShippedTo opening path limit config log v → IsShipped config limits log v
@@ -86,7 +74,7 @@ shipped_new opening limits config log v path limit new same bound shipped =
     (opening, new, subst (λ (n : ℕ). IsShippedTo opening config.target.path n config log v) bound so)
 
 -- ---- from the start to the end
-module _ (opening : State) (path : List ℕ) (limit : ℕ) (config : ConfigFields) (log : List Piece) (was now : Shipping Line) (answer : Result (Unit {0}) FeedFault) (v : Shipped)
+module _ (opening : State) (path : List ℕ) (limit : ℕ) (config : ConfigFields) (log : List Piece) (was now : Shipping SeatLine) (answer : Result (Unit {0}) FeedFault) (v : Shipped)
     (log_is : was.log ≡ record { choice = choice_of config; pieces = []; placed = []; hand = [] }) (config_is : was.fleet.config ≡ record config { rules = [] })
     (opened : (was.fleet.epoch ≡ 0) × (was.fleet.ended ≡ []) × (length was.fleet.current ≡ config.shards) × AreFresh 0 was.fleet.current)
     (fed : HasFed was now log answer) (g : IsGathered opening path limit now v) (fed_is : v.fed ≡ answer) (empty_is : opening.store ≡ empty) (path_is : path ≡ config.target.path) (sound : IsSound config) where
@@ -109,7 +97,7 @@ module _ (opening : State) (path : List ℕ) (limit : ℕ) (config : ConfigField
   pieces_are = fed.pieces ∙ ap (λ (l : Sorting). l.pieces ++ map piece_of (take fed.fed log)) log_is
 
   config_now : now.fleet.config ≡ record config { rules = [] }
-  config_now = ap (λ (f : Shards Line). f.config) fed.fleet ∙ config_is
+  config_now = ap (λ (f : Shards SeatLine). f.config) fed.fleet ∙ config_is
 
   machine : IsMachineOf setup now
   unfolding setup
@@ -132,8 +120,8 @@ module _ (opening : State) (path : List ℕ) (limit : ℕ) (config : ConfigField
   first : IsFirst setup now
   unfolding setup
   first = record {
-    epoch_is = ap (λ (f : Shards Line). f.epoch) fed.fleet ∙ opened.0;
-    none_ended = ap (λ (f : Shards Line). f.ended) fed.fleet ∙ opened.1;
+    epoch_is = ap (λ (f : Shards SeatLine). f.epoch) fed.fleet ∙ opened.0;
+    none_ended = ap (λ (f : Shards SeatLine). f.ended) fed.fleet ∙ opened.1;
     number = subst (λ (n : ℕ). (1 ≤ n) × (n ≤ 1000)) (sym count) sound.shards;
     shards = count;
   }
@@ -158,8 +146,8 @@ module _ (opening : State) (path : List ℕ) (limit : ℕ) (config : ConfigField
   whole : (end : ℕ) → g.r.outcome ≡ Complete end → (length log ≤ fed.fed) × (end ≡ length now.log.placed) × (now.log.placed ≡ entries now.log.pieces)
   whole end is = (by_answer answer fed.whole fed.feeds, ends.0, ends.1.all)
     where
-      ends : Ends now g.stopped.joined (Complete end)
-      ends = subst (Ends now g.stopped.joined) is g.stopped.ends
+      ends : HasEndedAs now g.stopped.joined (Complete end)
+      ends = subst (HasEndedAs now g.stopped.joined) is g.stopped.ends
 
       fails : (f : Fault) → now.fault ≡ Some f → length log ≤ fed.fed
       fails f e = absurd (subst IsAbandoned is (g.failed (subst IsSome (sym e) refl)))
@@ -171,7 +159,7 @@ module _ (opening : State) (path : List ℕ) (limit : ℕ) (config : ConfigField
       by_answer (Err feed_fault.Gone) ok feeds = fails queue_fault.Gone feeds
 
   fault_read : (f : TailFault) → g.r.outcome ≡ Damaged f → HasRead now.log.pieces now.log.placed (Some f)
-  fault_read f is = (subst (Ends now g.stopped.joined) is g.stopped.ends).0
+  fault_read f is = (subst (HasEndedAs now g.stopped.joined) is g.stopped.ends).0
 
   epoch : IsOneEpoch config now
   epoch = record {

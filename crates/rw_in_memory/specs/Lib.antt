@@ -1,3 +1,4 @@
 pub mod Lines
 pub mod Held
 pub mod Shipped
+pub mod inner

@@ -1,15 +1,15 @@
 -- A transport whose requests go to an endpoint in the same process, which asks a seat of a shared
 -- head.
-use Rattle.std.specs.Prelude.{◌≡◌, ℕ, ◌≤◌, List, [], ◌∷◌, length, true, Option, None, Some, ⊤}
+use Rattle.std.specs.Prelude.{◌≡◌, ℕ, List, [], ◌∷◌, true, ⊤}
 use Rattle.rw_types.specs.Requests.{is_host_name}
 use Rattle.rw_shard_core.specs.SentRequest.{request_of}
 use Rattle.rw_worker.specs.Transcript.{Exchange}
 use Rattle.rw_head.specs.Head.{State}
-use Rattle.rw_recv_head.specs.Seats.{Seated, HasAsked}
+use Rattle.rw_recv_head.specs.Seats.{Seated}
 use Rattle.rw_simulation.specs.Seatings.{IsSeatOf}
 
 -- the seat that it asks, and the exchanges so far
-pub record Line : Type 0 where
+pub record SeatLine : Type 0 where
   pub seat : Seated
   pub seen : List Exchange
 
@@ -20,11 +20,5 @@ AreMade path (x ∷ xs) = ((host : List ℕ) × (body : List ℕ) × (is_host_na
 
 -- If its requests are such, the seat was asked for them, and for nothing else. The endpoint has
 -- this path, and reads bodies of at most this many bytes.
-abbrev pub IsLine : State → List ℕ → ℕ → Line → Type 0
-IsLine opening path limit line = AreMade path line.seen → IsSeatOf path limit opening line.seen line.seat
-
--- the seat was asked for this body, which is within the limit, and returned that status; or it was
--- not asked
-abbrev pub IsAskedOnce : State → ℕ → Seated → List ℕ → Option ℕ → Seated → Type 0
-IsAskedOnce opening limit old body None new = new ≡ old
-IsAskedOnce opening limit old body (Some status) new = (length body ≤ limit) × HasAsked opening old body status new
+abbrev pub IsSeatLine : State → List ℕ → ℕ → SeatLine → Type 0
+IsSeatLine opening path limit line = AreMade path line.seen → IsSeatOf path limit opening line.seen line.seat

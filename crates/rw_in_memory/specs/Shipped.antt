@@ -1,10 +1,8 @@
 -- A log that was shipped to a head in the same process.
-use Rattle.std.specs.Prelude.{◌≡◌, true, ℕ, ◌≤◌, List, [], ◌++◌, length, map, take, Some, None, Result, OnOk, IsSome, slice_get}
+use Rattle.std.specs.Prelude.{◌≡◌, ℕ, ◌≤◌, List, [], length, map, take, Some, None, OnOk, IsSome, slice_get}
 use Rattle.std.specs.FinMap.{empty}
 use Rattle.rw_types.specs.Beginnings.{Begins}
-use Rattle.rw_types.specs.Requests.{is_host_name}
 use Rattle.rw_shard_core.specs.declared.config.ConfigFields.{ConfigFields}
-use Rattle.rw_sender.specs.Placement.{IsShardCount}
 use Rattle.rw_wal_format.specs.Pieces.{entries}
 use Rattle.rw_wal_format.specs.declared.tail_fault.TailFault.{TailFault}
 use Rattle.rw_wal_tail.specs.Fed.{piece_of}
@@ -20,46 +18,27 @@ use Rattle.rw_fleet.specs.declared.joined.Finished.{Finished}
 use Rattle.rw_sender.specs.Reports.{IsAbandoned, ListsCut}
 use Rattle.rw_sender.specs.Shipping.{Shipping, PlacesAll, HasStopped, Feeds}
 use Rattle.rw_sender.specs.declared.report.Report.{Report}
-use Rattle.rw_sender.specs.declared.shipper.FeedFault.{FeedFault}
 use Rattle.rw_simulation.specs.Received.{IsHeld}
-use Rattle.rw_in_memory.specs.Lines.{Line, IsLine}
+use Rattle.rw_in_memory.specs.Lines.{SeatLine, IsSeatLine}
 use Rattle.rw_in_memory.specs.Held.{seen_by, IsAnyones, seat_of, HasEnded}
 use Rattle.rw_in_memory.specs.declared.shipping.Shipped.{Shipped}
 
--- what the types of a configuration's fields say
-pub record IsSound (config : ConfigFields) : Type 0 where
-  pub host : is_host_name config.target.host ≡ true
-  pub shards : IsShardCount config.shards
-  pub capacity : 1 ≤ config.capacity
-  pub batch : 1 ≤ config.batch
-
--- A shipper was fed the first pieces of a log: all of them, unless it failed or came to the fault
--- of the log. Of its shards only what they were put has changed.
-pub record HasFed {T : Type 0} (old new : Shipping T) (log : List Piece) (answer : Result (Unit {0}) FeedFault) : Type 0 where
-  pub fed : ℕ
-  pub pieces : new.log.pieces ≡ old.log.pieces ++ map piece_of (take fed log)
-  pub whole : OnOk answer (length log ≤ fed)
-  pub feeds : Feeds new answer
-  pub choice : new.log.choice ≡ old.log.choice
-  pub fleet : new.fleet ≡ record old.fleet { current = new.fleet.current }
-  pub len : length new.fleet.current ≡ length old.fleet.current
-
 -- the shipper was stopped with this report, and the seats of its lines were gathered
-pub record IsGathered (opening : State) (path : List ℕ) (limit : ℕ) (s : Shipping Line) (shipped : Shipped) : Type 0 where
-  pub r : Report Line
+pub record IsGathered (opening : State) (path : List ℕ) (limit : ℕ) (s : Shipping SeatLine) (shipped : Shipped) : Type 0 where
+  pub r : Report SeatLine
   pub placed : PlacesAll s.log s.fleet
-  pub stopped : HasStopped (IsLine opening path limit) seen_by IsAnyones s r
+  pub stopped : HasStopped (IsSeatLine opening path limit) seen_by IsAnyones s r
   pub ended : HasEnded s r
   pub failed : IsSome s.fault → IsAbandoned r.outcome
   pub cut : s.fault ≡ None → IsAbandoned r.outcome → ListsCut r.workers.items
   pub outcome_is : shipped.outcome ≡ r.outcome
   pub parts_are : shipped.parts ≡ r.parts
   pub filter_count : shipped.filtered ≡ r.filtered
-  pub each : (k : ℕ) (f : Finished Line) → slice_get r.workers.items k ≡ Some f → IsLine opening path limit f.transport
+  pub each : (k : ℕ) (f : Finished SeatLine) → slice_get r.workers.items k ≡ Some f → IsSeatLine opening path limit f.transport
   pub gathered : HasGathered opening (map seat_of r.workers.items) shipped.head.store
 
 -- one epoch of a shipper with this configuration
-pub record IsOneEpoch (config : ConfigFields) (s : Shipping Line) : Type 0 where
+pub record IsOneEpoch (config : ConfigFields) (s : Shipping SeatLine) : Type 0 where
   pub choice_is : s.log.choice ≡ choice_of config
   pub config_is : s.fleet.config ≡ record config { rules = [] }
   pub epoch_is : s.fleet.epoch ≡ 0
@@ -75,7 +54,7 @@ pub record IsOneEpoch (config : ConfigFields) (s : Shipping Line) : Type 0 where
 -- was cut.
 pub record IsShippedTo (opening : State) (path : List ℕ) (limit : ℕ) (config : ConfigFields) (log : List Piece) (shipped : Shipped) : Type 0 where
   pub fed : ℕ
-  pub s : Shipping Line
+  pub s : Shipping SeatLine
   pub epoch : IsOneEpoch config s
   pub gathered : IsGathered opening path limit s shipped
   pub pieces_are : s.log.pieces ≡ map piece_of (take fed log)

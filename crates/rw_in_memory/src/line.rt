@@ -4,7 +4,8 @@ ghost use Rattle.std.specs.Prelude.{◌≡◌, ℕ, List, true, [], ◌∷◌, �
 ghost use Rattle.rw_types.specs.Requests.{is_host_name};
 ghost use Rattle.rw_shard_core.specs.SentRequest.{request_of};
 ghost use Rattle.rw_worker.specs.Transcript.{exchange_of};
-ghost use Rattle.rw_in_memory.specs.Lines.{IsAskedOnce, IsLine};
+ghost use Rattle.rw_in_memory.specs.Lines.{IsSeatLine};
+ghost use Rattle.rw_in_memory.specs.inner.Lines.{IsAskedOnce};
 
 use crate::asker::Asker;
 use crate::receiver::{Endpoint, Receiver};
@@ -77,13 +78,13 @@ pub struct Line<R, L: Endpoint> {
 }
 
 impl<R, L: Endpoint> Model for Line<R, L> {
-    ghost use Rattle.rw_in_memory.specs.Lines.{Line, IsLine};
+    ghost use Rattle.rw_in_memory.specs.Lines.{SeatLine, IsSeatLine};
 
-    ghost Value = { Line };
+    ghost Value = { SeatLine };
 
     ghost view = { λ l. record { seat = l.asker.seat; seen = l.seen } };
 
-    ghost invariant = { λ l. IsLine L.opening L.path L.limit
+    ghost invariant = { λ l. IsSeatLine L.opening L.path L.limit
         (record { seat = l.asker.seat; seen = l.seen }) };
 }
 
@@ -119,7 +120,7 @@ impl<R: Drop, L: Endpoint> Line<R, L> {
     /// Returns the seat.
     pub fn into_seat(self) -> Seat<L>
         ensures seat { result ≡ self.seat }
-        ensures line { IsLine L.opening L.path L.limit self }
+        ensures line { IsSeatLine L.opening L.path L.limit self }
     {
         let Line {
             alloc: _,
@@ -133,11 +134,11 @@ impl<R: Drop, L: Endpoint> Line<R, L> {
 
 impl<R: Wait, L: Endpoint> Transport for Line<R, L> {
     ghost use Rattle.std.specs.Prelude.{⊤};
-    ghost use Rattle.rw_in_memory.specs.Lines.{IsLine};
+    ghost use Rattle.rw_in_memory.specs.Lines.{IsSeatLine};
 
     ghost is_for = { λ _ _ _. ⊤ };
 
-    ghost tells = { λ line. IsLine L.opening L.path L.limit line };
+    ghost tells = { λ line. IsSeatLine L.opening L.path L.limit line };
 
     ghost seen = { λ line. line.seen };
 

@@ -4,9 +4,10 @@ ghost use Rattle.std.specs.Prelude.{◌≡◌, ◌+◌, [], None, map, All, leng
 ghost use Rattle.std.specs.Arc.{arc_value};
 ghost use Rattle.std.specs.FinMap.{empty};
 ghost use Rattle.rw_sender.specs.Feeders.{HasRead};
-ghost use Rattle.rw_in_memory.specs.Lines.{IsLine};
+ghost use Rattle.rw_in_memory.specs.Lines.{IsSeatLine};
 ghost use Rattle.rw_in_memory.specs.Held.{seat_of};
-ghost use Rattle.rw_in_memory.specs.Shipped.{HasFed, IsGathered, IsShipped, IsShippedTo, IsSound};
+ghost use Rattle.rw_in_memory.specs.Shipped.{IsGathered, IsShipped, IsShippedTo};
+ghost use Rattle.rw_in_memory.specs.inner.Shipped.{HasFed, IsSound};
 
 use crate::line::Line;
 use crate::lines::Lines;
@@ -59,7 +60,7 @@ fn feed_all<R: Wait, C: Connect + Drop>(
 /// Returns the seat of a worker's transport.
 fn seat_in<R: Drop, L: Endpoint>(finished: Finished<Line<R, L>>) -> Seat<L>
     ensures seat { result ≡ seat_of finished }
-    ensures line { IsLine L.opening L.path L.limit finished.transport }
+    ensures line { IsSeatLine L.opening L.path L.limit finished.transport }
 {
     finished.transport.into_seat()
 }
@@ -71,7 +72,7 @@ fn seats_of<R: Drop, L: Endpoint>(
 ) -> Result<Vec<Seat<L>>, AllocError>
     ensures seats { IfOk result (λ seats. seats.items ≡ map seat_of workers.items) }
     ensures lines { IfOk result
-        (λ _. All (λ f. IsLine L.opening L.path L.limit f.transport) workers.items) }
+        (λ _. All (λ f. IsSeatLine L.opening L.path L.limit f.transport) workers.items) }
 {
     let mut seats = Vec::new(alloc);
     seats.reserve(workers.len())?;

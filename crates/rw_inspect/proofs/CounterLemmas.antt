@@ -9,28 +9,29 @@ use Rattle.rw_relabel.specs.declared.choice.Choice.{Choice}
 use Rattle.rw_series_cache.specs.Cached.{Taken}
 use Rattle.rw_series_cache.specs.Numbers.{series_of}
 use Rattle.rw_series_cache.specs.Rising.{IsNoted}
-use Rattle.rw_series_cache.proofs.RisingLemmas.{noted_at_first, noted_definition}
-use Rattle.rw_series_cache.proofs.KnownLemmas.{definitions_of-definition, series_of-definitions_of}
-use Rattle.rw_types.proofs.GatherLemmas.{gather-push}
-use Rattle.rw_inspect.specs.Counting.{counts_of, IsCacheOf, IsCounter, IsPlaced}
-use Rattle.rw_inspect.specs.Sums.{no_sums, sums_of, with_entry}
+use Rattle.rw_series_cache.proofs.shared.RisingLemmas.{noted_at_first, noted_definition}
+use Rattle.rw_series_cache.proofs.shared.KnownLemmas.{definitions_of-definition, series_of-definitions_of}
+use Rattle.rw_types.proofs.shared.GatherLemmas.{gather-push}
+use Rattle.rw_inspect.specs.Counting.{log_counts}
+use Rattle.rw_inspect.specs.inner.Counting.{IsCacheOf, IsCounter, IsPlaced}
+use Rattle.rw_inspect.specs.Sums.{no_sums, sums_of, count_entry}
 use Rattle.rw_inspect.specs.Troubles.{has_bad_labels, has_no_series, not_rising, trouble_of}
 use Rattle.rw_inspect.specs.declared.counts.Counts.{Counts}
 use Rattle.rw_inspect.specs.declared.sums.Sums.{Sums}
 use Rattle.rw_inspect.specs.declared.troubles.Trouble.{Trouble}
 use Rattle.rw_relabel.specs.Choices.{legacy}
 
-sums_of-push : (es : List Entry) (e : Entry) → sums_of (es ++ e ∷ []) ≡ with_entry (sums_of es) e
+sums_of-push : (es : List Entry) (e : Entry) → sums_of (es ++ e ∷ []) ≡ count_entry (sums_of es) e
 unfolding sums_of
-sums_of-push es e = fold-append with_entry no_sums es (e ∷ [])
+sums_of-push es e = fold-append count_entry no_sums es (e ∷ [])
 
 -- the entries of the current segment
 pub here_none : (es : List Entry) (s : Sums) → es ≡ [] → s ≡ no_sums → s ≡ sums_of es
 unfolding sums_of
 here_none es s e n = rw e n
 
-pub here_more : (es now : List Entry) (e : Entry) (s more : Sums) → s ≡ sums_of es → more ≡ with_entry s e → now ≡ es ++ e ∷ [] → more ≡ sums_of now
-here_more es now e s more h m is = m ∙ ap (λ x. with_entry x e) h ∙ sym (sums_of-push es e) ∙ ap sums_of (sym is)
+pub here_more : (es now : List Entry) (e : Entry) (s more : Sums) → s ≡ sums_of es → more ≡ count_entry s e → now ≡ es ++ e ∷ [] → more ≡ sums_of now
+here_more es now e s more h m is = m ∙ ap (λ x. count_entry x e) h ∙ sym (sums_of-push es e) ∙ ap sums_of (sym is)
 
 -- before the first entry
 pub counter_none : (es here : List Entry) (choice : Choice) (cache : Taken) (sums hand : Sums) (troubles : List (ℕ × Trouble)) → es ≡ [] → here ≡ [] → choice ≡ legacy
@@ -51,20 +52,20 @@ counter_none es here choice cache sums hand troubles e h r c s n t =
 
 -- an entry was taken
 counter_more : (es here now hand_now : List Entry) (e : Entry) (count up : ℕ) (cache new : Taken) (sums more hand hand_more : Sums) (troubles grown : List (ℕ × Trouble)) → IsCounter es here count cache sums hand troubles
-    → now ≡ es ++ e ∷ [] → hand_now ≡ here ++ e ∷ [] → up ≡ count + 1 → more ≡ with_entry sums e → hand_more ≡ with_entry hand e
+    → now ≡ es ++ e ∷ [] → hand_now ≡ here ++ e ∷ [] → up ≡ count + 1 → more ≡ count_entry sums e → hand_more ≡ count_entry hand e
     → IsCacheOf (es ++ e ∷ []) new → grown ≡ troubles ++ trouble_of es e → IsCounter now hand_now up new more hand_more grown
 counter_more es here now hand_now e count up cache new sums more hand hand_more troubles grown h is hand_is one all_is here_is cached trouble =
     rw (is, hand_is) record {
       counted = one ∙ ap (λ n. n + 1) h.counted ∙ sym (length-append es (e ∷ []));
       cached = cached;
-      all = all_is ∙ ap (λ s. with_entry s e) h.all ∙ sym (sums_of-push es e);
-      hand = here_is ∙ ap (λ s. with_entry s e) h.hand ∙ sym (sums_of-push here e);
+      all = all_is ∙ ap (λ s. count_entry s e) h.all ∙ sym (sums_of-push es e);
+      hand = here_is ∙ ap (λ s. count_entry s e) h.hand ∙ sym (sums_of-push here e);
       in_trouble = trouble ∙ ap (λ ts. ts ++ trouble_of es e) h.in_trouble ∙ sym (gather-push trouble_of es e);
     }
 
 pub counter_definition : (es here now hand_now : List Entry) (reference : ℕ) (l : Labels) (count up : ℕ) (cache new : Taken) (sums more hand hand_more : Sums) (troubles : List (ℕ × Trouble))
     → IsCounter es here count cache sums hand troubles → now ≡ es ++ Def reference l ∷ [] → hand_now ≡ here ++ Def reference l ∷ [] → up ≡ count + 1
-    → more ≡ with_entry sums (Def reference l) → hand_more ≡ with_entry hand (Def reference l) → new ≡ record cache { definitions = cache.definitions ++ Def reference l ∷ [] }
+    → more ≡ count_entry sums (Def reference l) → hand_more ≡ count_entry hand (Def reference l) → new ≡ record cache { definitions = cache.definitions ++ Def reference l ∷ [] }
     → IsCounter now hand_now up new more hand_more troubles
 counter_definition es here now hand_now reference l count up cache new sums more hand hand_more troubles h is hand_is one all_is here_is made =
     let e = Def reference l in
@@ -79,7 +80,7 @@ counter_definition es here now hand_now reference l count up cache new sums more
 
 pub counter_sample : (es here now hand_now : List Entry) (reference : ℕ) (t : ℤ) (word count up : ℕ) (cache new : Taken) (sums more hand hand_more : Sums) (troubles grown : List (ℕ × Trouble))
     → IsCounter es here count cache sums hand troubles → now ≡ es ++ Sample reference t word ∷ [] → hand_now ≡ here ++ Sample reference t word ∷ [] → up ≡ count + 1
-    → more ≡ with_entry sums (Sample reference t word) → hand_more ≡ with_entry hand (Sample reference t word)
+    → more ≡ count_entry sums (Sample reference t word) → hand_more ≡ count_entry hand (Sample reference t word)
     → IsPlaced cache new troubles grown count reference t → IsCounter now hand_now up new more hand_more grown
 counter_sample es here now hand_now reference t word count up cache new sums more hand hand_more troubles grown h is hand_is one all_is here_is placed =
     let both = placed.placed es word h.cached h.counted in
@@ -94,8 +95,8 @@ counter_anew es here none count cache sums hand now troubles h e n = rw e record
 -- what is counted
 pub counted_all : (es here : List Entry) (count : ℕ) (cache : Taken) (sums hand : Sums) (troubles : List (ℕ × Trouble)) (sets series labels falling : ℕ) → IsCounter es here count cache sums hand troubles
     → sets ≡ length (series_of cache.choice cache.definitions) → series ≡ count_by has_no_series troubles → labels ≡ count_by has_bad_labels troubles → falling ≡ length (not_rising troubles)
-    → ◌≡◌ {A = Counts} (record { sums = sums; label_sets = sets; without_series = series; bad_labels = labels; not_rising = falling }) (counts_of es)
-unfolding counts_of
+    → ◌≡◌ {A = Counts} (record { sums = sums; label_sets = sets; without_series = series; bad_labels = labels; not_rising = falling }) (log_counts es)
+unfolding log_counts
 counted_all es here count cache sums hand troubles sets series labels falling h s a b c =
     let k = h.cached in
     let all_sets : sets ≡ length (series_of legacy es) =

@@ -13,12 +13,13 @@ use Rattle.rw_types.specs.declared.entry.Entry.TheVariants.{Def, Sample}
 use Rattle.rw_relabel.specs.declared.choice.Choice.{Choice}
 use Rattle.rw_series_cache.specs.Cached.{Taken}
 use Rattle.rw_series_cache.specs.Known.{definitions_of, known}
-use Rattle.rw_series_cache.specs.Found.{Answers, standing_in}
+use Rattle.rw_series_cache.specs.Found.{IsLookedUp, standing_in}
 use Rattle.rw_series_cache.specs.declared.known.Known.{Known}
 use Rattle.rw_text.specs.LabelText.{labels_text}
-use Rattle.rw_series_cache.proofs.KnownLemmas.{definitions_of-definition, definitions_of-sample}
-use Rattle.rw_types.proofs.GatherLemmas.{gather-push}
-use Rattle.rw_inspect.specs.Finding.{Finds, IsFinder, any_names, entry_text, fault_text, labels_or, sample_text, set_text, is_asked, is_missing, line_of, name_at, not_there_text, there_text, note_if, note_of, noted_at, notes_in, position_text, text_at, text_from, told}
+use Rattle.rw_series_cache.proofs.shared.KnownLemmas.{definitions_of-definition, definitions_of-sample}
+use Rattle.rw_types.proofs.shared.GatherLemmas.{gather-push}
+use Rattle.rw_inspect.specs.Finding.{Finds, any_names, entry_text, label_fault_text, labels_or, sample_text, set_text, is_missing, finding_line, name_at, not_there_text, there_text, position_text, entry_text_at, text_from}
+use Rattle.rw_inspect.specs.inner.Finding.{IsFinder, is_asked, note_if, note_of, noted_at, notes_in, told}
 use Rattle.rw_inspect.specs.Inspecting.{ReadsFirst, ReadsInto, fault_in}
 use Rattle.rw_inspect.specs.declared.finding.Found.{Found}
 use Rattle.rw_inspect.specs.declared.report.Segment.{Segment}
@@ -50,7 +51,7 @@ noted_from positions before (e ∷ es) (suc n) asked =
     ∙ noted_from positions (before ++ e ∷ []) es n (ap (is_asked positions) (sym at) ∙ asked)
 
 pub noted_is : (positions : List ℕ) (es : List Entry) (count : ℕ) (cache : Taken) (notes : List (ℕ × Vec ℕ Global)) (position : ℕ) → IsFinder positions es count cache notes → is_asked positions position ≡ true
-    → noted_at (map told notes) position ≡ text_at es position
+    → noted_at (map told notes) position ≡ entry_text_at es position
 noted_is positions es count cache notes position h asked =
     let at : position ≡ length {A = Entry} [] + position = omega arith in
     ap (λ ns. noted_at ns position) h.noted ∙ ap (noted_at (gather (note_of positions) es)) at ∙ noted_from positions [] es position (ap (is_asked positions) (sym at) ∙ asked)
@@ -61,7 +62,7 @@ on_ok (Err x) now old t u e h = tt
 
 -- the line of a position of which this is noted
 found_at : (positions : List ℕ) (es : List Entry) (count : ℕ) (cache : Taken) (notes seen : List (ℕ × Vec ℕ Global)) (position : ℕ) (o : Option (List ℕ)) → IsFinder positions es count cache notes → is_asked positions position ≡ true
-    → seen ≡ notes → noted_at (map told seen) position ≡ o → text_at es position ≡ o
+    → seen ≡ notes → noted_at (map told seen) position ≡ o → entry_text_at es position ≡ o
 found_at positions es count cache notes seen position o h asked same noted =
     sym (noted_is positions es count cache notes position h asked) ∙ ap (λ ns. noted_at (map told ns) position) (sym same) ∙ noted
 
@@ -69,7 +70,7 @@ pub said_there : (positions : List ℕ) (es : List Entry) (count : ℕ) (cache :
     → is_asked positions position ≡ true → seen ≡ notes → noted_at (map told seen) position ≡ Some text → name ≡ name_at segments position → now ≡ old ++ there_text position name text → now ≡ old ++ position_text segments es position
 said_there positions es count cache notes seen segments position name text now old h asked same noted named said =
     said ∙ ap (λ n. old ++ there_text position n text) named
-    ∙ ap (λ o. old ++ line_of segments position o) (sym (found_at positions es count cache notes seen position (Some text) h asked same noted))
+    ∙ ap (λ o. old ++ finding_line segments position o) (sym (found_at positions es count cache notes seen position (Some text) h asked same noted))
 
 pub is_there : (positions : List ℕ) (es : List Entry) (count : ℕ) (cache : Taken) (notes seen : List (ℕ × Vec ℕ Global)) (position : ℕ) (text : List ℕ) → IsFinder positions es count cache notes → is_asked positions position ≡ true
     → seen ≡ notes → noted_at (map told seen) position ≡ Some text → false ≡ is_missing es position
@@ -79,7 +80,7 @@ is_there positions es count cache notes seen position text h asked same noted =
 pub said_not_there : (positions : List ℕ) (es : List Entry) (count : ℕ) (cache : Taken) (notes seen : List (ℕ × Vec ℕ Global)) (segments : List Segment) (position : ℕ) (now old : List ℕ) → IsFinder positions es count cache notes
     → is_asked positions position ≡ true → seen ≡ notes → noted_at (map told seen) position ≡ None → now ≡ old ++ not_there_text position → now ≡ old ++ position_text segments es position
 said_not_there positions es count cache notes seen segments position now old h asked same noted said =
-    said ∙ ap (λ o. old ++ line_of segments position o) (sym (found_at positions es count cache notes seen position None h asked same noted))
+    said ∙ ap (λ o. old ++ finding_line segments position o) (sym (found_at positions es count cache notes seen position None h asked same noted))
 
 pub is_not_there : (positions : List ℕ) (es : List Entry) (count : ℕ) (cache : Taken) (notes seen : List (ℕ × Vec ℕ Global)) (position : ℕ) → IsFinder positions es count cache notes → is_asked positions position ≡ true
     → seen ≡ notes → noted_at (map told seen) position ≡ None → true ≡ is_missing es position
@@ -156,7 +157,7 @@ asked_at (q ∷ qs) (suc i) p h = or_true (nat_eq q p) (is_asked qs p) (asked_at
     or_true false b e = e
 
 -- the text of a sample whose reference was looked up
-pub sample_said : {T E : Type 0} (r : Result T E) (now old : List ℕ) (reference : ℕ) (t : ℤ) (word : ℕ) (answer : Known) (choice : Choice) (before : List Entry) → choice ≡ any_names → Answers choice before reference answer
+pub sample_said : {T E : Type 0} (r : Result T E) (now old : List ℕ) (reference : ℕ) (t : ℤ) (word : ℕ) (answer : Known) (choice : Choice) (before : List Entry) → choice ≡ any_names → IsLookedUp choice before reference answer
     → OnOk r (now ≡ old ++ sample_text reference t word (standing_in answer)) → OnOk r (now ≡ old ++ entry_text before (Sample reference t word))
 sample_said r now old reference t word answer choice before any h said =
     on_ok r now old (sample_text reference t word (standing_in answer)) (entry_text before (Sample reference t word))
@@ -167,11 +168,11 @@ pub set_said : {T E : Type 0} (r : Result T E) (now old : List ℕ) (labels set 
 set_said r now old labels set same sound said =
     on_ok r now old (labels_text set) (set_text labels) (ap labels_text same ∙ sym (ap (λ o. labels_or o labels) sound)) said
 
-pub fault_said : {T E : Type 0} (r : Result T E) (now old : List ℕ) (labels : Labels) (f : LabelFault) → MatchOption (label_fault Utf8 labels) (f ≡ OutOfMemory) (λ g. f ≡ g) → (f ≡ OutOfMemory → ⊥) → OnOk r (now ≡ old ++ fault_text f)
+pub fault_said : {T E : Type 0} (r : Result T E) (now old : List ℕ) (labels : Labels) (f : LabelFault) → MatchOption (label_fault Utf8 labels) (f ≡ OutOfMemory) (λ g. f ≡ g) → (f ≡ OutOfMemory → ⊥) → OnOk r (now ≡ old ++ label_fault_text f)
     → OnOk r (now ≡ old ++ set_text labels)
 fault_said r now old labels f found other said = by_fault (label_fault Utf8 labels) refl found
   where
     by_fault : (o : Option LabelFault) → label_fault Utf8 labels ≡ o → MatchOption o (f ≡ OutOfMemory) (λ g. f ≡ g) → OnOk r (now ≡ old ++ set_text labels)
     by_fault None is h = absurd (other h)
     by_fault (Some g) is h =
-        on_ok r now old (fault_text f) (set_text labels) (ap fault_text h ∙ sym (ap (λ o. labels_or o labels) is)) said
+        on_ok r now old (label_fault_text f) (set_text labels) (ap label_fault_text h ∙ sym (ap (λ o. labels_or o labels) is)) said

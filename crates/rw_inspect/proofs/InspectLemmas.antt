@@ -7,13 +7,14 @@ use Rattle.rw_types.specs.declared.entry.Entry.{Entry}
 use Rattle.rw_wal_format.specs.Laws.{Extends}
 use Rattle.rw_wal_format.specs.Pieces.{Piece, bytes, next_segment, entries, fault, fault_at, page_size, reading, skipped}
 use Rattle.rw_wal_format.specs.Segments.{Reading, segment}
-use Rattle.rw_wal_format.proofs.Growing.{reading-append}
+use Rattle.rw_wal_format.proofs.shared.Growing.{reading-append}
 use Rattle.rw_wal_format.specs.declared.tail_fault.TailFault.{TailFault}
 use Rattle.rw_wal_tail.specs.Fed.{Fed}
 use Rattle.rw_wal_tail.specs.Taking.{HasTaken, HasTakenAll}
-use Rattle.rw_inspect.specs.Counting.{Counted, counts_of}
-use Rattle.rw_inspect.specs.Inspecting.{AreRead, AreRows, IsInspected, IsRead, IsReportOfFirst, IsRow, ReadsFirst, ReadsInto, ReadsSegment, Reports, begun, behind, fault_in, log_of}
-use Rattle.rw_inspect.specs.Reading.{ReadsText}
+use Rattle.rw_inspect.specs.Counting.{Counted, log_counts}
+use Rattle.rw_inspect.specs.Inspecting.{AreRead, AreRows, IsRead, IsReportOfFirst, IsRow, ReadsFirst, ReadsInto, behind, fault_in, log_of_texts}
+use Rattle.rw_inspect.specs.inner.Inspecting.{IsInspected, ReadsSegment, Reports, begun}
+use Rattle.rw_inspect.specs.inner.Reading.{ReadsText}
 use Rattle.rw_inspect.specs.Sums.{sums_of}
 use Rattle.rw_inspect.specs.Troubles.{not_rising, troubles_of}
 use Rattle.rw_inspect.specs.declared.report.Damage.{Damage}
@@ -25,7 +26,7 @@ none_yet [] = true
 none_yet (t ∷ ts) = false
 
 -- one more segment
-log_of-push : (texts : List (List ℕ)) (text : List ℕ) → log_of (texts ++ text ∷ []) ≡ begun (none_yet texts) (log_of texts) ++ bytes text ∷ []
+log_of-push : (texts : List (List ℕ)) (text : List ℕ) → log_of_texts (texts ++ text ∷ []) ≡ begun (none_yet texts) (log_of_texts texts) ++ bytes text ∷ []
 log_of-push [] text = refl
 log_of-push (t ∷ ts) text =
     ap (λ ps. bytes t ∷ ps) (flat_map-append behind ts (text ∷ []))
@@ -56,18 +57,18 @@ first_row (t ∷ ts) (r ∷ rs) len b h e is = is ∙ some_not_none len (omega (
     some_not_none n lt = grind (arith, nat_tests)
 
 -- all entries of the log were taken
-alike_entries : (texts : List (List ℕ)) (t : Fed) → ((later : List Piece) → reading page_size (t.pieces ++ later) ≡ reading page_size (log_of texts ++ later)) → reading page_size t.pieces ≡ reading page_size (log_of texts)
-alike_entries texts t h = ap (reading page_size) (sym (append-nil t.pieces)) ∙ h [] ∙ ap (reading page_size) (append-nil (log_of texts))
+alike_entries : (texts : List (List ℕ)) (t : Fed) → ((later : List Piece) → reading page_size (t.pieces ++ later) ≡ reading page_size (log_of_texts texts ++ later)) → reading page_size t.pieces ≡ reading page_size (log_of_texts texts)
+alike_entries texts t h = ap (reading page_size) (sym (append-nil t.pieces)) ∙ h [] ∙ ap (reading page_size) (append-nil (log_of_texts texts))
 
 -- the next segment was read
 pub inspected_more : (texts : List (List ℕ)) (t new : Fed) (before after : Counted) (rows : List Segment) (is_first : Bool) (left : Option (List ℕ)) (found : Segment × Option TailFault)
     → IsInspected texts t before rows None → is_first ≡ none_yet texts → (r : ReadsSegment is_first left t new before after found) → IsInspected (texts ++ r.text ∷ []) new after (rows ++ found.0 ∷ []) found.1
 inspected_more texts t new before after rows is_first left found h first r =
     let text = r.text in
-    let same : (later : List Piece) → reading page_size (new.pieces ++ later) ≡ reading page_size (log_of (texts ++ text ∷ []) ++ later) = λ later.
-    r.same later ∙ begun_alike is_first t.pieces (log_of texts) h.same (bytes text ∷ later)
-    ∙ ap (λ b. reading page_size (begun b (log_of texts) ++ bytes text ∷ later)) first
-    ∙ ap (reading page_size) (sym (append_assoc (begun (none_yet texts) (log_of texts)) (bytes text ∷ []) later))
+    let same : (later : List Piece) → reading page_size (new.pieces ++ later) ≡ reading page_size (log_of_texts (texts ++ text ∷ []) ++ later) = λ later.
+    r.same later ∙ begun_alike is_first t.pieces (log_of_texts texts) h.same (bytes text ∷ later)
+    ∙ ap (λ b. reading page_size (begun b (log_of_texts texts) ++ bytes text ∷ later)) first
+    ∙ ap (reading page_size) (sym (append_assoc (begun (none_yet texts) (log_of_texts texts)) (bytes text ∷ []) later))
     ∙ ap (λ ps. reading page_size (ps ++ later)) (sym (log_of-push texts text)) in
     let old_read = alike_entries texts t h.same in
     let new_read = alike_entries (texts ++ text ∷ []) new same in
@@ -199,7 +200,7 @@ passed_grows is_first left_before left_after old begun_at new before anew after 
         subst (λ qs. length (skipped ps) ≤ length (skipped qs)) (sym (append_assoc ps (next_segment ∷ []) (bytes text ∷ []))) (more_within _ _ (reading-append page_size ps (next_segment ∷ bytes text ∷ []) (omega arith)))
 
 -- the fault that was found is that of the log
-found_is : (texts : List (List ℕ)) (t : Fed) (counted : Counted) (rows : List Segment) (found : Option TailFault) → IsInspected texts t counted rows found → found ≡ fault (log_of texts)
+found_is : (texts : List (List ℕ)) (t : Fed) (counted : Counted) (rows : List Segment) (found : Option TailFault) → IsInspected texts t counted rows found → found ≡ fault (log_of_texts texts)
 found_is texts t counted rows found h = sym h.all.read.fault_is ∙ ap (λ (x : Reading). fault_at x.stop) (alike_entries texts t h.same)
 
 -- what was read into a taker
@@ -221,7 +222,7 @@ reported_first lefts taken rows damage r h m = record {
   read = subst (ReadsFirst lefts h.texts) h.fault_is h.read;
   report = record {
     rows_are = subst (AreRows [] h.texts) (sym m.rows_are) h.rows_are;
-    counts_are = m.counts_are ∙ ap counts_of h.all;
+    counts_are = m.counts_are ∙ ap log_counts h.all;
     first_are = m.first_are ∙ ap (λ es. take 10 (not_rising (troubles_of es))) h.all;
     fault_is = ap fault_in m.damage_is ∙ h.fault_is;
   };

@@ -7,9 +7,9 @@ use Rattle.rw_types.specs.declared.entry.Entry.TheVariants.{Sample}
 use Rattle.rw_series_cache.specs.Cached.{Taken}
 use Rattle.rw_series_cache.specs.Known.{Standing, Unknown, Bad, Filtered, Kept, known}
 use Rattle.rw_series_cache.specs.Rising.{IsNoted}
-use Rattle.rw_series_cache.proofs.RisingLemmas.{noted_other, noted_falling, noted_rising}
-use Rattle.rw_series_cache.proofs.KnownLemmas.{definitions_of-sample}
-use Rattle.rw_inspect.specs.Counting.{IsCacheOf, IsStill, IsRisingSample}
+use Rattle.rw_series_cache.proofs.shared.RisingLemmas.{noted_other, noted_falling, noted_rising}
+use Rattle.rw_series_cache.proofs.shared.KnownLemmas.{definitions_of-sample}
+use Rattle.rw_inspect.specs.inner.Counting.{IsCacheOf, IsStill, IsRisingSample}
 use Rattle.rw_inspect.specs.Troubles.{trouble_as, trouble_of}
 use Rattle.rw_inspect.specs.declared.troubles.Trouble.{Trouble}
 use Rattle.rw_inspect.specs.declared.troubles.Trouble.TheVariants.{NotRising}

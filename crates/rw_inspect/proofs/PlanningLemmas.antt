@@ -6,8 +6,9 @@ use Rattle.rw_types.specs.declared.entry.Entry.{Entry}
 use Rattle.rw_wal_format.specs.declared.tail_fault.TailFault.{TailFault}
 use Rattle.rw_relabel.specs.declared.choice.Choice.{Choice}
 use Rattle.rw_log_commands.specs.Plan.{plan_text}
-use Rattle.rw_inspect.specs.Inspecting.{ReadsFirst, ReadsInto, ReadsToFault, fault_in}
-use Rattle.rw_inspect.specs.Planning.{IsPlanOf, WritesPlan, WritesPlanPart}
+use Rattle.rw_inspect.specs.Inspecting.{ReadsFirst, ReadsInto, ReadAllToFault, fault_in}
+use Rattle.rw_inspect.specs.Planning.{WritesFolderPlan, WritesFolderPlanPart}
+use Rattle.rw_inspect.specs.inner.Planning.{IsPlanOf}
 use Rattle.rw_inspect.specs.declared.report.Damage.{Damage}
 use Rattle.rw_inspect.specs.declared.report.Segment.{Segment}
 
@@ -27,7 +28,7 @@ sound_of (Some d) e = let no : true ≡ false = e in absurd cc
 
 -- it was written, or a prefix of it
 pub plan_written : (choice : Choice) (lefts : List (Option (List ℕ))) (plan : List ℕ) (damage : Option Damage) (before after : Option (List ℕ)) → IsPlanOf choice lefts plan (fault_in damage) → is_some damage ≡ false
-    → Appends before after plan → WritesPlan choice lefts before after
+    → Appends before after plan → WritesFolderPlan choice lefts before after
 plan_written choice lefts plan damage before after h none a =
     let sound = sound_of damage none in
     record {
@@ -38,7 +39,7 @@ plan_written choice lefts plan damage before after h none a =
     }
 
 pub plan_cut : (choice : Choice) (lefts : List (Option (List ℕ))) (plan : List ℕ) (damage : Option Damage) (before after : Option (List ℕ)) → IsPlanOf choice lefts plan (fault_in damage) → is_some damage ≡ false
-    → (n : ℕ) × (n ≤ length plan) × Appends before after (take n plan) → WritesPlanPart choice lefts before after
+    → (n : ℕ) × (n ≤ length plan) × Appends before after (take n plan) → WritesFolderPlanPart choice lefts before after
 plan_cut choice lefts plan damage before after h none a =
     let sound = sound_of damage none in
     record {
@@ -51,5 +52,5 @@ plan_cut choice lefts plan damage before after h none a =
     }
 
 -- the fault that was found is that of the log
-pub read_to_fault : (choice : Choice) (lefts : List (Option (List ℕ))) (plan : List ℕ) (damage : Option Damage) (f : TailFault) → IsPlanOf choice lefts plan (fault_in damage) → fault_in damage ≡ Some f → ReadsToFault lefts f
+pub read_to_fault : (choice : Choice) (lefts : List (Option (List ℕ))) (plan : List ℕ) (damage : Option Damage) (f : TailFault) → IsPlanOf choice lefts plan (fault_in damage) → fault_in damage ≡ Some f → ReadAllToFault lefts f
 read_to_fault choice lefts plan damage f h is = record { texts = h.texts; read = h.read.read; fault_is = sym h.fault_is ∙ is }

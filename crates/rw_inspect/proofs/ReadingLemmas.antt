@@ -2,7 +2,7 @@
 use Rattle.std.proofs.Common.{◌≡◌, ℕ, ◌+◌, List, [], ◌∷◌, ◌++◌, length, false, Option, Result, Ok, Err, refl, sym, ap, ◌∙◌, subst, append_assoc, append-nil, length-append, arith}
 use Rattle.std.specs.Result.{IsErrAnd}
 use Rattle.std.specs.Io.KnownBytes.{Consumes, IsAtEnd}
-use Rattle.rw_types.proofs.KnownLemmas.{consumes-none, consumes_consumes}
+use Rattle.std.proofs.KnownBytes.{Consumes-trans, Consumes-nil}
 use Rattle.rw_types.specs.declared.entry.Entry.{Entry}
 use Rattle.rw_wal_format.specs.Pieces.{Piece, bytes, next_segment, entries, page_size, reading, reading_after, then_next}
 use Rattle.rw_wal_format.specs.Segments.{segment}
@@ -11,10 +11,10 @@ use Rattle.rw_wal_format.specs.declared.tail_fault.TailFault.TheVariants.{OutOfM
 use Rattle.rw_wal_tail.specs.Fed.{Fed, is_out_of_memory}
 use Rattle.rw_wal_tail.specs.Taking.{HasTaken, HasTakenAll, TakesNext}
 use Rattle.rw_inspect.specs.Counting.{Counted}
-use Rattle.rw_inspect.specs.Reading.{AreFed, ComesNext, FeedsMore, Grows, HasFed, ReadsText, TakesAll}
+use Rattle.rw_inspect.specs.inner.Reading.{AreFed, ComesNext, FeedsMore, Grows, HasFed, ReadsText, TakesAll}
 use Rattle.rw_inspect.specs.declared.reading.Next.{Next}
 use Rattle.rw_inspect.specs.declared.reading.Next.TheVariants as next
-use Rattle.rw_wal_format.proofs.Growing.{cuts_after}
+use Rattle.rw_wal_format.proofs.shared.Growing.{cuts_after}
 
 -- what a reader says
 abbrev pub Said : Type 0
@@ -81,7 +81,7 @@ fed-more old new text b h later = rw (append_assoc new (bytes b ∷ []) later) (
 
 -- before the first piece
 pub has_fed-none : (left : Option (List ℕ)) (t : Fed) (c : Counted) → HasTaken t c.entries → HasFed left left t t c c 0
-has_fed-none left t c h = record { text = []; read = consumes-none left; counted = refl; same = fed-none t.pieces; taken = h; grows = grows-none c }
+has_fed-none left t c h = record { text = []; read = Consumes-nil left; counted = refl; same = fed-none t.pieces; taken = h; grows = grows-none c }
 
 -- one more piece
 pub has_fed-more : (a b c : Option (List ℕ)) (t at now new : Fed) (before mid after : Counted) (found : Option TailFault) (n more sum : ℕ) → HasFed a b t at before mid n → TakesAll at now mid after found
@@ -91,7 +91,7 @@ has_fed-more a b c t at now new before mid after found n more sum h all fed up =
     let len = length-append h.text fed.text in
     record {
       text = h.text ++ fed.text;
-      read = consumes_consumes a b c h.text fed.text h.read fed.read;
+      read = Consumes-trans a b c h.text fed.text h.read fed.read;
       counted = omega (arith, up, h.counted, fed.counted, len);
       same = subst (AreFed t.pieces (h.text ++ fed.text)) (sym pieces) (fed-more t.pieces at.pieces h.text fed.text h.same);
       taken = fed.still after.entries all.all.taken_all;
@@ -103,7 +103,7 @@ pub reads_text : (a b c : Option (List ℕ)) (t at now new : Fed) (before mid af
     → new ≡ now → ReadsText a c t new before after (n, found)
 reads_text a b c t at now new before mid after found n h all none ended still = rw still record {
   text = h.text;
-  read = subst (Consumes a c) (append-nil h.text) (consumes_consumes a b c h.text [] h.read none);
+  read = subst (Consumes a c) (append-nil h.text) (Consumes-trans a b c h.text [] h.read none);
   ended = ended;
   counted = h.counted;
   same = subst (AreFed t.pieces h.text) (sym all.fed) h.same;

@@ -2,7 +2,7 @@ pub mod Counting
 pub mod Finding
 pub mod Inspecting
 pub mod Planning
-pub mod Reading
 pub mod Sums
 pub mod Texts
 pub mod Troubles
+pub mod inner

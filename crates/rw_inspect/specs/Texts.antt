@@ -28,19 +28,19 @@ time_text none (Some t) = signed_decimal t
 abbrev pub digit : ℕ → ℕ
 digit n = if nat_lt n 10 then 48 + n else 87 + n
 
-abbrev pub escaped : ℕ → List ℕ
-escaped b =
+abbrev pub json_escaped : ℕ → List ℕ
+json_escaped b =
     if b == 34 then 92 ∷ 34 ∷ []
     else if b == 92 then 92 ∷ 92 ∷ []
     else if nat_lt b 32 then codes "\\u00" ++ digit (b / 16) ∷ digit (b % 16) ∷ []
     else b ∷ []
 
-unfoldable pub quoted : List ℕ → List ℕ
-quoted text = 34 ∷ flat_map escaped text ++ 34 ∷ []
+unfoldable pub json_quoted : List ℕ → List ℕ
+json_quoted text = 34 ∷ flat_map json_escaped text ++ 34 ∷ []
 
 -- one after its name
 unfoldable pub quoted_field : List ℕ → List ℕ → List ℕ
-quoted_field name text = name ++ quoted text
+quoted_field name text = name ++ json_quoted text
 
 -- the text about a fault
 abbrev pub fault_words : TailFault → List ℕ
@@ -101,11 +101,11 @@ positions_text first = codes "\ntheir first positions      " ++ flat_map (field_
 unfoldable pub rising_text : ℕ → List ℕ → List ℕ
 rising_text count first = field_text (codes "\nsamples that do not rise    ") count ++ positions_text first
 
-unfoldable pub series_text : Counts → List ℕ
-series_text c = field_text (codes "label sets                  ") c.label_sets ++ field_text (codes "\nsamples without a series    ") c.without_series
+unfoldable pub series_counts_text : Counts → List ℕ
+series_counts_text c = field_text (codes "label sets                  ") c.label_sets ++ field_text (codes "\nsamples without a series    ") c.without_series
 
 unfoldable pub found_text : Counts → List ℕ → List ℕ
-found_text c first = series_text c ++ field_text (codes "\nsamples with bad labels     ") c.bad_labels ++ rising_text c.not_rising first
+found_text c first = series_counts_text c ++ field_text (codes "\nsamples with bad labels     ") c.bad_labels ++ rising_text c.not_rising first
 
 -- a place in a file
 unfoldable pub file_text : Segment → List ℕ
@@ -121,14 +121,14 @@ abbrev pub any_spot : (Segment → ℕ → List ℕ) → Option Segment → ℕ 
 any_spot text None offset = []
 any_spot text (Some s) offset = text s offset
 
-abbrev pub placed : (Segment → ℕ → List ℕ) → List Segment → Option FaultPlace → List ℕ
-placed text segments None = []
-placed text segments (Some p) = any_spot text (slice_get segments p.segment) p.offset
+abbrev pub placed_text : (Segment → ℕ → List ℕ) → List Segment → Option FaultPlace → List ℕ
+placed_text text segments None = []
+placed_text text segments (Some p) = any_spot text (slice_get segments p.segment) p.offset
 
 -- a fault, where it is, and what to do next
 unfoldable pub damage_text : List Segment → Damage → List ℕ
 damage_text segments d =
-    codes "fault: " ++ fault_words d.fault ++ codes "\n" ++ placed spot_text segments d.place ++ codes "next: " ++ next_step d.fault ++ codes "\n"
+    codes "fault: " ++ fault_words d.fault ++ codes "\n" ++ placed_text spot_text segments d.place ++ codes "next: " ++ next_step d.fault ++ codes "\n"
 
 abbrev pub any_damage : (List Segment → Damage → List ℕ) → List Segment → Option Damage → List ℕ
 any_damage text segments None = []
@@ -195,7 +195,7 @@ said_json f = quoted_field (codes "{\"type\":\"fault\",\"fault\":") (fault_words
 
 unfoldable pub damage_json : List Segment → Damage → List ℕ
 damage_json segments d =
-    said_json d.fault ++ placed spot_json segments d.place ++ next_json (next_step d.fault)
+    said_json d.fault ++ placed_text spot_json segments d.place ++ next_json (next_step d.fault)
 
 unfoldable pub report_json : Report → List ℕ
 report_json r =

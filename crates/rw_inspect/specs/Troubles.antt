@@ -1,5 +1,5 @@
 -- The samples of a log that a sender would drop, whatever its rules keep.
-use Rattle.std.specs.Prelude.{◌≡◌, ℕ, ℤ, List, [], ◌∷◌, map, filter, length, take, count_by, Bool, true, false, if◌then◌else◌}
+use Rattle.std.specs.Prelude.{ℕ, ℤ, List, [], ◌∷◌, map, filter, length, Bool, true, false, if◌then◌else◌}
 use Rattle.rw_types.specs.declared.entry.Entry.{Entry}
 use Rattle.rw_types.specs.declared.entry.Entry.TheVariants.{Def, Sample}
 use Rattle.rw_series_cache.specs.Known.{Standing, Unknown, Bad, Filtered, Kept, known}
@@ -38,16 +38,9 @@ abbrev pub does_not_rise : ℕ × Trouble → Bool
 does_not_rise (p, NotRising) = true
 does_not_rise (p, _) = false
 
-abbrev pub position : ℕ × Trouble → ℕ
-position t = t.0
+abbrev pub trouble_position : ℕ × Trouble → ℕ
+trouble_position t = t.0
 
 -- the positions of those that do not rise
 abbrev pub not_rising : List (ℕ × Trouble) → List ℕ
-not_rising troubles = map position (filter does_not_rise troubles)
-
--- these are their numbers, and the first positions of those that do not rise
-pub record AreCounted (troubles : List (ℕ × Trouble)) (without_series bad_labels falling : ℕ) (first : List ℕ) : Type 0 where
-  pub series : without_series ≡ count_by has_no_series troubles
-  pub labels : bad_labels ≡ count_by has_bad_labels troubles
-  pub rising : falling ≡ length (not_rising troubles)
-  pub front : first ≡ take 10 (not_rising troubles)
+not_rising troubles = map trouble_position (filter does_not_rise troubles)

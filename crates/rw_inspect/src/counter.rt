@@ -1,7 +1,8 @@
 //! Counts the entries of a log, one after the other.
 
 ghost use Rattle.std.specs.Prelude.{◌≡◌, ◌++◌, ◌∷◌, [], take, OnOk, OnErr};
-ghost use Rattle.rw_inspect.specs.Counting.{counts_of, CanBeNoted, IsJudged, IsPlaced};
+ghost use Rattle.rw_inspect.specs.Counting.{log_counts};
+ghost use Rattle.rw_inspect.specs.inner.Counting.{CanBeNoted, IsJudged, IsPlaced};
 ghost use Rattle.rw_inspect.specs.Sums.{sums_of};
 ghost use Rattle.rw_inspect.specs.Troubles.{not_rising, troubles_of};
 
@@ -39,7 +40,8 @@ pub struct Counter {
 }
 
 impl Model for Counter {
-    ghost use Rattle.rw_inspect.specs.Counting.{Counted, IsCounter};
+    ghost use Rattle.rw_inspect.specs.Counting.{Counted};
+    ghost use Rattle.rw_inspect.specs.inner.Counting.{IsCounter};
 
     ghost Value = { Counted };
 
@@ -157,7 +159,7 @@ impl Counter {
 
     /// Returns what is counted of all entries.
     pub fn counts(&self) -> Counts
-        ensures { result ≡ counts_of self.now.entries }
+        ensures { result ≡ log_counts self.now.entries }
     {
         Counts {
             sums: self.sums,

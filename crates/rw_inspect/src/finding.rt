@@ -5,7 +5,8 @@ ghost use Rattle.rw_types.specs.declared.entry.Entry.{Entry};
 ghost use Rattle.rw_types.specs.declared.transfer.ReadFault.TheVariants.{Failed};
 ghost use Rattle.rw_series_cache.specs.Known.{definitions_of};
 ghost use Rattle.rw_series_cache.specs.Found.{standing_in};
-ghost use Rattle.rw_inspect.specs.Finding.{Finds, any_names, entry_text, fault_text, is_asked, is_missing, name_at, not_there_text, note_of, noted_at, notes_in, position_text, sample_text, series_text, set_text, standing_text, there_text, told};
+ghost use Rattle.rw_inspect.specs.Finding.{Finds, any_names, entry_text, label_fault_text, is_missing, name_at, not_there_text, position_text, sample_text, series_text, set_text, standing_text, there_text};
+ghost use Rattle.rw_inspect.specs.inner.Finding.{is_asked, note_of, noted_at, notes_in, told};
 ghost use Rattle.rw_inspect.specs.Inspecting.{AllSure, source_of};
 
 use crate::here::Here;
@@ -43,9 +44,9 @@ fn any_names(alloc: Global) -> Choice
 }
 
 /// Adds a fault of labels.
-#[tactic(auto, unfolding(crate::specs::Finding::fault_text))]
+#[tactic(auto, unfolding(crate::specs::Finding::label_fault_text))]
 fn push_fault(out: &mut Vec<u8>, fault: LabelFault) -> Result<(), AllocError>
-    ensures { OnOk result (out.new.items ≡ out.old.items ++ fault_text fault) }
+    ensures { OnOk result (out.new.items ≡ out.old.items ++ label_fault_text fault) }
 {
     out.extend_from_slice(b"bad ")?;
     push_number(out, u64::from(fault.number()))
@@ -220,7 +221,7 @@ struct Finder {
 }
 
 impl Model for Finder {
-    ghost use Rattle.rw_inspect.specs.Finding.{Finding, IsFinder};
+    ghost use Rattle.rw_inspect.specs.inner.Finding.{Finding, IsFinder};
 
     ghost Value = { Finding };
 

@@ -1,7 +1,7 @@
 //! Prints a report as JSON (RFC 8259), one object a line.
 
 ghost use Rattle.std.specs.Prelude.{◌≡◌, ◌++◌, OnOk, IfOk, flat_map};
-ghost use Rattle.rw_inspect.specs.Texts.{any_damage, counted_json, damage_json, dropped_json, first_json, found_json, listed, measures_json, name_json, next_json, next_step, placed, report_json, said_json, segment_json, sizes_json, spot_json, sums_json, totals_json};
+ghost use Rattle.rw_inspect.specs.Texts.{any_damage, counted_json, damage_json, dropped_json, first_json, found_json, listed, measures_json, name_json, next_json, next_step, placed_text, report_json, said_json, segment_json, sizes_json, spot_json, sums_json, totals_json};
 
 use crate::counts::Counts;
 use crate::pushing::{push_field, push_numbers, push_quoted_field, push_time_field};
@@ -159,7 +159,7 @@ fn push_place(
     segments: &[Segment],
     place: Option<FaultPlace>,
 ) -> Result<(), AllocError>
-    ensures { OnOk result (out.new.items ≡ out.old.items ++ placed spot_json segments.now place) }
+    ensures { OnOk result (out.new.items ≡ out.old.items ++ placed_text spot_json segments.now place) }
 {
     let Some(place) = place else {
         return Ok(());

@@ -3,8 +3,9 @@
 ghost use Rattle.std.specs.Prelude.{◌≡◌, ◌⊎◌, [], map, true, false, Ok, Err, None, Some, IfOk, OnOk};
 ghost use Rattle.rw_types.specs.declared.transfer.ReadFault.TheVariants.{OutOfMemory, Failed};
 ghost use Rattle.rw_wal_format.specs.declared.tail_fault.TailFault.{TailFault};
-ghost use Rattle.rw_inspect.specs.Inspecting.{AllSure, ReadsToFault, fault_in, source_of};
-ghost use Rattle.rw_inspect.specs.Planning.{IsPlanOf, WritesPlan, WritesPlanPart};
+ghost use Rattle.rw_inspect.specs.Inspecting.{AllSure, ReadAllToFault, fault_in, source_of};
+ghost use Rattle.rw_inspect.specs.Planning.{WritesFolderPlan, WritesFolderPlanPart};
+ghost use Rattle.rw_inspect.specs.inner.Planning.{IsPlanOf};
 
 use crate::here::Here;
 use crate::report::Damage;
@@ -79,21 +80,22 @@ pub fn plan_segments<S: Source + Drop, W: Sink>(
     writer: &mut W,
 ) -> Result<Option<Damage>, ReadFault>
     ensures planned { result ≡ Ok None
-        → WritesPlan choice (map (source_of S.remaining) segments.items) (W.contents writer.old)
+        → WritesFolderPlan choice (map (source_of S.remaining) segments.items) (W.contents writer.old)
         (W.contents writer.new) }
     ensures sound { OnOk result
         (W.has_failed writer.old ≡ false → W.has_failed writer.new ≡ false) }
 
     // A fault is the one that the log has. Then nothing is written, nor if memory ran out.
     ensures damaged { IfOk result (λ damage. (f : TailFault) → fault_in damage ≡ Some f
-        → ReadsToFault (map (source_of S.remaining) segments.items) f × (writer.new ≡ writer.old)) }
+        → ReadAllToFault (map (source_of S.remaining) segments.items) f
+        × (writer.new ≡ writer.old)) }
     ensures memory { result ≡ Err OutOfMemory → writer.new ≡ writer.old }
 
     // If a device fails, the writer holds a prefix of the plan.
     ensures device { result ≡ Err Failed
         → ((AllSure (map (source_of S.is_sure) segments.items) → ⊥) × (writer.new ≡ writer.old))
         ⊎ ((W.has_failed writer.new ≡ true)
-        × WritesPlanPart choice (map (source_of S.remaining) segments.items)
+        × WritesFolderPlanPart choice (map (source_of S.remaining) segments.items)
         (W.contents writer.old) (W.contents writer.new)) }
 {
     let (plan, damage) = plan_of_all(alloc, choice, segments)?;

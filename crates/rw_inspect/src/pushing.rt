@@ -1,7 +1,7 @@
 //! Parts of a printed report.
 
 ghost use Rattle.std.specs.Prelude.{◌≡◌, ◌≤◌, ◌<◌, ◌++◌, OnOk, codes, decimal, flat_map};
-ghost use Rattle.rw_inspect.specs.Texts.{digit, escaped, field_text, quoted, quoted_field, right_text, time_json, time_text};
+ghost use Rattle.rw_inspect.specs.Texts.{digit, json_escaped, field_text, json_quoted, quoted_field, right_text, time_json, time_text};
 
 use itoa::Buffer;
 use rw_text::{push_integer, push_number};
@@ -87,7 +87,7 @@ fn digit(n: u8) -> u8
 
 /// Adds a byte of a JSON string.
 fn push_escaped(out: &mut Vec<u8>, byte: u8) -> Result<(), AllocError>
-    ensures { OnOk result (out.new.items ≡ out.old.items ++ escaped byte) }
+    ensures { OnOk result (out.new.items ≡ out.old.items ++ json_escaped byte) }
 {
     match byte {
         b'"' => out.extend_from_slice(b"\\\""),
@@ -102,7 +102,7 @@ fn push_escaped(out: &mut Vec<u8>, byte: u8) -> Result<(), AllocError>
 
 /// Adds the bytes of a JSON string.
 fn push_all_escaped(out: &mut Vec<u8>, text: &[u8]) -> Result<(), AllocError>
-    ensures { OnOk result (out.new.items ≡ out.old.items ++ flat_map escaped text.now) }
+    ensures { OnOk result (out.new.items ≡ out.old.items ++ flat_map json_escaped text.now) }
 {
     for byte in text {
         push_escaped(out, *byte)?;
@@ -111,9 +111,9 @@ fn push_all_escaped(out: &mut Vec<u8>, text: &[u8]) -> Result<(), AllocError>
 }
 
 /// Adds a JSON string.
-#[tactic(auto, unfolding(crate::specs::Texts::quoted))]
+#[tactic(auto, unfolding(crate::specs::Texts::json_quoted))]
 fn push_quoted(out: &mut Vec<u8>, text: &[u8]) -> Result<(), AllocError>
-    ensures { OnOk result (out.new.items ≡ out.old.items ++ quoted text.now) }
+    ensures { OnOk result (out.new.items ≡ out.old.items ++ json_quoted text.now) }
 {
     out.extend_from_slice(b"\"")?;
     push_all_escaped(out, text)?;

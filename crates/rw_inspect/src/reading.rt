@@ -5,7 +5,7 @@ ghost use Rattle.std.specs.Io.KnownBytes.{Consumes, IsAtEnd};
 ghost use Rattle.rw_types.specs.declared.transfer.ReadFault.TheVariants.{Failed};
 ghost use Rattle.rw_types.specs.declared.entry.Entry.{Entry};
 ghost use Rattle.rw_wal_tail.specs.Taking.{HasTaken};
-ghost use Rattle.rw_inspect.specs.Reading.{ComesNext, FeedsMore, ReadsText, TakesAll};
+ghost use Rattle.rw_inspect.specs.inner.Reading.{ComesNext, FeedsMore, ReadsText, TakesAll};
 
 use crate::taker::Taker;
 use rw_types::{Entry, ReadFault, Source};

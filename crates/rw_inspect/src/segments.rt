@@ -2,7 +2,8 @@
 
 ghost use Rattle.std.specs.Prelude.{◌≡◌, ◌<◌, [], ℕ, List, length, map, true, Err, None, IfOk, OnOk, ◌++◌, ◌∷◌, vec_len};
 ghost use Rattle.rw_types.specs.declared.transfer.ReadFault.TheVariants.{Failed};
-ghost use Rattle.rw_inspect.specs.Inspecting.{AllSure, IsInspected, IsReportOfFirst, ReadsFirst, ReadsInto, ReadsSegment, Reports, begun, fault_in, source_of};
+ghost use Rattle.rw_inspect.specs.Inspecting.{AllSure, IsReportOfFirst, ReadsFirst, ReadsInto, fault_in, source_of};
+ghost use Rattle.rw_inspect.specs.inner.Inspecting.{IsInspected, ReadsSegment, Reports, begun};
 ghost use Rattle.rw_types.specs.declared.entry.Entry.{Entry};
 ghost use Rattle.rw_wal_tail.specs.Taking.{HasTaken, HasTakenAll};
 

@@ -1,7 +1,7 @@
 //! Prints a report as a table.
 
 ghost use Rattle.std.specs.Prelude.{◌≡◌, ◌++◌, OnOk, IfOk, flat_map};
-ghost use Rattle.rw_inspect.specs.Texts.{any_damage, columns_text, count_columns, damage_text, file_text, found_text, line_text, offset_text, placed, positions_text, report_text, rising_text, row_text, series_text, size_columns, spot_text, time_columns};
+ghost use Rattle.rw_inspect.specs.Texts.{any_damage, columns_text, count_columns, damage_text, file_text, found_text, line_text, offset_text, placed_text, positions_text, report_text, rising_text, row_text, series_counts_text, size_columns, spot_text, time_columns};
 
 use crate::counts::Counts;
 use crate::pushing::{push_field, push_numbers, push_right, push_right_number, push_right_time};
@@ -99,9 +99,9 @@ fn push_rising(out: &mut Vec<u8>, count: u64, first: &[u64]) -> Result<(), Alloc
 }
 
 /// Adds how many label sets there are, and samples without a series.
-#[tactic(auto, unfolding(crate::specs::Texts::series_text))]
+#[tactic(auto, unfolding(crate::specs::Texts::series_counts_text))]
 fn push_series(out: &mut Vec<u8>, counts: &Counts) -> Result<(), AllocError>
-    ensures { OnOk result (out.new.items ≡ out.old.items ++ series_text counts.now) }
+    ensures { OnOk result (out.new.items ≡ out.old.items ++ series_counts_text counts.now) }
 {
     push_field(out, b"label sets                  ", counts.label_sets)?;
     push_field(
@@ -155,7 +155,7 @@ fn push_place(
     segments: &[Segment],
     place: Option<FaultPlace>,
 ) -> Result<(), AllocError>
-    ensures { OnOk result (out.new.items ≡ out.old.items ++ placed spot_text segments.now place) }
+    ensures { OnOk result (out.new.items ≡ out.old.items ++ placed_text spot_text segments.now place) }
 {
     let Some(place) = place else {
         return Ok(());

@@ -37,7 +37,7 @@ pub(crate) struct Troubles {
 impl Model for Troubles {
     ghost use Rattle.std.specs.Prelude.{ℕ, List};
     ghost use Rattle.rw_inspect.specs.declared.troubles.Trouble.{Trouble};
-    ghost use Rattle.rw_inspect.specs.Troubles.{AreCounted};
+    ghost use Rattle.rw_inspect.specs.inner.Troubles.{AreCounted};
 
     ghost Value = { List (ℕ × Trouble) };
 

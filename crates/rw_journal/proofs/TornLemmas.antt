@@ -9,9 +9,9 @@ use Rattle.rw_types.specs.Beginnings.{Begins}
 use Rattle.rw_types.specs.declared.entry.Entry.{Entry}
 use Rattle.rw_wal_format.specs.Records.{record_entries}
 use Rattle.rw_wal_format.specs.Segments.{Kind, full, first, middle, last, Item, nothing, begun, zeros, fragment, wrong, item_at, Stop, Layout, with_fragment, left_after, from_item, Reading, with_entries, reading_of, segment}
-use Rattle.rw_wal_format.proofs.Growing.{segment_grows}
-use Rattle.rw_wal_format.proofs.Items.{layout_from, layout_step, read_step}
-use Rattle.rw_journal.specs.Torn.{left_at, page_end, IsTorn}
+use Rattle.rw_wal_format.proofs.shared.Growing.{segment_grows}
+use Rattle.rw_wal_format.proofs.shared.Items.{layout_from, layout_step, read_step}
+use Rattle.rw_journal.specs.Torn.{left_at, end_of_page, IsTorn}
 use Rattle.rw_journal.specs.TornLogs.{NoChance}
 use Rattle.rw_journal.proofs.Zeros.{fragment_fits, zeros_fit, zeros_same}
 
@@ -38,7 +38,7 @@ left_moves page offset s p h =
           rw t (omega (arith, e, r)))
     ]
 
-left_full : (page offset : ℕ) → 0 < page → left_at page (page_end page offset) ≡ page
+left_full : (page offset : ℕ) → 0 < page → left_at page (end_of_page page offset) ≡ page
 left_full page offset p =
     let t : ltb (left_at page offset) (left_at page offset) ≡ false = le-ltb (left_at page offset) (left_at page offset) (le_refl (left_at page offset)) in
     sym (left_moves page offset (left_at page offset) p (le_refl (left_at page offset))) ∙ rw t refl
@@ -46,11 +46,11 @@ left_full page offset p =
 left_first : (page : ℕ) → 0 < page → left_at page 0 ≡ page
 left_first page p = let m : 0 % page ≡ 0 = mod-eq_of_lt p in omega (arith, m)
 
-page_end_is : (page offset : ℕ) → 0 < page → page_end page offset ≡ offset / page * page + page
+page_end_is : (page offset : ℕ) → 0 < page → end_of_page page offset ≡ offset / page * page + page
 page_end_is page offset p = omega (arith, div-add-mod' offset page, mod-lt offset p)
 
 -- an offset before the end of a page is on that page or an earlier one
-page_end_le : (page at offset : ℕ) → 0 < page → at < page_end page offset → page_end page at ≤ page_end page offset
+page_end_le : (page at offset : ℕ) → 0 < page → at < end_of_page page offset → end_of_page page at ≤ end_of_page page offset
 page_end_le page at offset p h =
     let q = offset / page in
     let next : (offset / page + 1) * page ≡ offset / page * page + page = omega arith in

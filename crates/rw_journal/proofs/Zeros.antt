@@ -5,7 +5,7 @@ use Rattle.std.specs.List.{list_all}
 use Rattle.rw_wal_format.specs.Segments.{Kind, full, first, middle, last, Item, nothing, begun, zeros, fragment, wrong, zeros_at, data_at, fragment_at, item_at}
 use Rattle.rw_wal_format.specs.declared.tail_fault.TailFault.{TailFault}
 use Rattle.rw_wal_format.specs.declared.tail_fault.TailFault.TheVariants.{BadType, BadLength, BadCrc, Compressed, NonzeroPadding}
-use Rattle.rw_wal_format.proofs.Growing.{Stays, item_stays}
+use Rattle.rw_wal_format.proofs.shared.Growing.{Stays, item_stays}
 
 pub fragment_fits : (left : ℕ) (bs : List ℕ) (kind : Kind) (d : List ℕ) → item_at left bs ≡ fragment kind d → (7 + length d ≤ length bs) × (7 + length d ≤ left)
 unfolding Stays

@@ -6,18 +6,18 @@ use Rattle.rw_journal.specs.Journal.{Segments}
 use Rattle.rw_journal.specs.declared.image.Image.{Image}
 
 -- the segments that are done, and the last one
-abbrev pub contents : List (Vec ℕ Global) → List ℕ → Segments
-contents done last = map (λ v. v.items) done ++ last ∷ []
+abbrev pub contents_of_image : List (Vec ℕ Global) → List ℕ → Segments
+contents_of_image done last = map (λ v. v.items) done ++ last ∷ []
 
-abbrev pub segments_of : Image → Segments
-segments_of image = contents image.done.items image.last.items
+abbrev pub image_segments : Image → Segments
+image_segments image = contents_of_image image.done.items image.last.items
 
 -- what a crash may leave: the synced part of the last segment, and after it any bytes, no more than
 -- were written there
 pub record IsLeftOf (image : Image) (c : Segments) : Type 0 where
   pub more : List ℕ
   pub no_longer : length more ≤ length image.last.items - image.synced
-  pub folder : c ≡ contents image.done.items (take image.synced image.last.items ++ more)
+  pub folder : c ≡ contents_of_image image.done.items (take image.synced image.last.items ++ more)
 
 -- a crash at one of these moments might have left this
 abbrev pub HadBeen : List Image → Segments → Type 0

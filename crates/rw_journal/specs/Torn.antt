@@ -8,8 +8,8 @@ abbrev pub left_at : ℕ → ℕ → ℕ
 left_at page offset = page - offset % page
 
 -- where the page of an offset ends
-abbrev pub page_end : ℕ → ℕ → ℕ
-page_end page offset = offset + left_at page offset
+abbrev pub end_of_page : ℕ → ℕ → ℕ
+end_of_page page offset = offset + left_at page offset
 
 -- A crash left this of a segment to which `written` was being written, with its first `synced`
 -- bytes on the disk: these are as they were written, and whatever comes after them ends within
@@ -17,7 +17,7 @@ page_end page offset = offset + left_at page offset
 pub record IsTorn (page synced : ℕ) (written left : List ℕ) : Type 0 where
   pub known : synced ≤ length written
   pub front : take synced left ≡ take synced written
-  pub within : length left ≤ page_end page synced
+  pub within : length left ≤ end_of_page page synced
 
 -- Of what was being written from an offset on, the first `synced` bytes were on the disk, and a
 -- part that ends within their page was on its way: there is nothing of it, or a torn part of it.
@@ -27,7 +27,7 @@ pub record IsTornFrom (tears : List ℕ → List ℕ → Type 0) (page offset : 
   pub part : List ℕ
   pub later : List ℕ
   pub parts : drop synced written ≡ part ++ later
-  pub within : offset + synced + length part ≤ page_end page (offset + synced)
+  pub within : offset + synced + length part ≤ end_of_page page (offset + synced)
   pub torn : List ℕ
   pub tear : (torn ≡ []) ⊎ tears part torn
   pub no_longer : length torn ≤ length part

@@ -28,7 +28,8 @@ pub fn a_torn_end_is_a_beginning()
 /// after them a prefix of those that were being written.
 pub fn a_torn_log_is_a_beginning<J: Journal>()
     ensures { (page : ℕ) (old : Segments) (written : List ℕ) (left : Segments) → 0 < page
-        → NoChance page (last_of (with_more old written)) (last_of left) → AllBefore (IsWhole page) old
+        → NoChance page (last_of (with_more old written)) (last_of left)
+        → AllBefore (IsWhole page) old
         → IsTornLog J.tears page (length (last_of old)) old written left
         → Begins (entries_of page old) (entries_of page left)
         × Begins (entries_of page left) (entries_of page (with_more old written)) }

@@ -3,7 +3,7 @@
 ghost use Rattle.std.specs.Prelude.{◌≡◌, ◌-◌, ◌≤◌, ◌++◌, [], ◌∷◌, length, take, OnOk};
 ghost use Rattle.std.proofs.Common.{inl};
 ghost use Rattle.rw_journal.specs.Journal.{Only};
-ghost use Rattle.rw_journal.specs.Memory.{segments_of, IsLeftOf, LeftSince, only_this};
+ghost use Rattle.rw_journal.specs.Memory.{image_segments, IsLeftOf, LeftSince, only_this};
 
 use crate::image::Image;
 use crate::journal::{Journal, JournalError};
@@ -21,8 +21,8 @@ pub struct MemoryJournal {
 impl MemoryJournal {
     /// Returns a journal with one segment, which is empty.
     pub fn new(alloc: Global) -> MemoryJournal
-        ensures segments { segments_of result.image ≡ [] ∷ [] }
-        ensures synced { Only (segments_of result.image) (IsLeftOf result.image) }
+        ensures segments { image_segments result.image ≡ [] ∷ [] }
+        ensures synced { Only (image_segments result.image) (IsLeftOf result.image) }
     {
         MemoryJournal {
             alloc,
@@ -38,9 +38,9 @@ impl MemoryJournal {
     /// Crashes: the bytes that were appended since the last sync are replaced by these, as many of
     /// them as have room. An `Err` changes nothing.
     pub fn crash(&mut self, torn: &[u8]) -> Result<(), AllocError>
-        ensures left { OnOk result (IsLeftOf self.old.image (segments_of self.new.image)) }
+        ensures left { OnOk result (IsLeftOf self.old.image (image_segments self.new.image)) }
         ensures synced { OnOk result
-            (Only (segments_of self.new.image) (IsLeftOf self.new.image)) }
+            (Only (image_segments self.new.image) (IsLeftOf self.new.image)) }
     {
         let mut last = self.image.last[..self.image.synced].to_vec(self.alloc)?;
         let room = self.image.last.len() - self.image.synced;
@@ -58,7 +58,7 @@ impl MemoryJournal {
 }
 
 impl Journal for MemoryJournal {
-    ghost seen = { λ m. segments_of m.image };
+    ghost seen = { λ m. image_segments m.image };
 
     ghost may_leave = { λ m c. IsLeftOf m.image c };
 

@@ -7,7 +7,9 @@ use Rattle.rw_kept_folder.specs.declared.file_call.FileCall.{FileCall}
 use Rattle.rw_kept_folder.specs.declared.file_call.FileCall.TheVariants.{Append, SetLen, CreateNext, SyncData, SyncFolder}
 use Rattle.rw_kept_folder.specs.Files.{HasAll, IsSureIfAll}
 use Rattle.rw_kept_folder.proofs.LengthLemmas.{length_on_last}
-use Rattle.rw_kept_folder.specs.Noted.{Noted, State, changed, Tears, Leaves, seen_in, LeftIn, data_synced, folder_synced, step, after, LeftFrom, opened, seen_of, MayLeave, LeftSince, AreUnread, all_written}
+use Rattle.rw_kept_folder.specs.Noted.{Noted, State, changed, Tears, Leaves, seen_in, LeftIn, data_synced, folder_synced, step, after, LeftFrom, opened, seen_of, MayLeave, LeftSince}
+use Rattle.rw_kept_folder.specs.inner.Noted.{AreUnread, all_written}
+use Rattle.rw_types.proofs.shared.Booleans.{next}
 
 after_push : (s : State) (calls : List FileCall) (call : FileCall) → after s (calls ++ call ∷ []) ≡ step call (after s calls)
 after_push s [] call = refl
@@ -216,9 +218,6 @@ first_of zero [] s rest e = absurd (omega (arith, ap length e))
 first_of zero (x ∷ ss) s rest e = (cc, cc)
 first_of (suc n) [] s rest e = absurd (omega (arith, ap length e))
 first_of (suc n) (x ∷ ss) s rest e = first_of n ss s rest e
-
-next : (n : ℕ) → suc n ≡ n + 1
-next n = omega arith
 
 -- the next segment is taken
 pub taken : (noted : Noted) (read : ℕ) (text : Vec ℕ Global) (rest : List (Vec ℕ Global)) → AreUnread noted read (text ∷ rest)

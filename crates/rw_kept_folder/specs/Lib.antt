@@ -1,2 +1,3 @@
 pub mod Files
 pub mod Noted
+pub mod inner

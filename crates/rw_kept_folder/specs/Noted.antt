@@ -1,9 +1,6 @@
 -- What the files of a folder hold, and what a crash may leave of them, by what was asked of the
 -- operating system so far. That it keeps to this is a premise.
-use Rattle.std.specs.Prelude.{◌≡◌, ◌⊎◌, ℕ, zero, suc, List, [], ◌∷◌, ◌++◌, length, take, drop, map, Option, Some, None, Vec}
-use Rattle.std.specs.declared.alloc.Global.{Global}
-use Rattle.std.proofs.Common.{inr, refl}
-use Rattle.std.proofs.Math.Nat.{le_refl}
+use Rattle.std.specs.Prelude.{◌≡◌, ◌⊎◌, ℕ, zero, suc, List, [], ◌∷◌, ◌++◌, take, Option, Some, None}
 use Rattle.rw_journal.specs.Journal.{Segments, on_last, with_more, IsTornEnd, IsCutEnd, IsBegun}
 use Rattle.rw_kept_folder.specs.declared.file_call.FileCall.{FileCall}
 use Rattle.rw_kept_folder.specs.declared.file_call.FileCall.TheVariants.{Append, SetLen, CreateNext, SyncData, SyncFolder}
@@ -90,37 +87,3 @@ MayLeave noted c = LeftIn (after (opened noted) noted.calls) c
 
 abbrev pub LeftSince : Noted → ℕ → Segments → Type 0
 LeftSince noted t c = LeftFrom (opened noted) noted.calls t c
-
--- the bytes that were loaded and not yet returned, if there are any, are those of the segments
--- from this number on
-abbrev pub AreUnread : Noted → ℕ → List (Vec ℕ Global) → Type 0
-AreUnread noted read unread = (unread ≡ []) ⊎ (map (λ v. v.items) unread ≡ drop read (seen_of noted))
-
-now_in : (s : State) (calls : List FileCall) (t : ℕ) (c : Segments) → LeftIn (after s calls) c → LeftFrom s calls t c
-now_in s [] t c now = now
-now_in s (call ∷ calls) zero c now = inr (now_in (step call s) calls zero c now)
-now_in s (call ∷ calls) (suc t) c now = now_in (step call s) calls t c now
-
--- the current moment is one of those since an earlier one
-pub counts_now : (noted : Noted) (t : ℕ) (c : Segments) → MayLeave noted c → LeftSince noted t c
-counts_now noted t c now = now_in (opened noted) noted.calls t c now
-
-only_in : (s : State) (calls : List FileCall) (c : Segments) → LeftFrom s calls (length calls) c → LeftIn (after s calls) c
-only_in s [] c left = left
-only_in s (call ∷ calls) c left = only_in (step call s) calls c left
-
--- since the current moment there is no other one
-pub only_now : (noted : Noted) (c : Segments) → LeftSince noted (length noted.calls) c → MayLeave noted c
-only_now noted c left = only_in (opened noted) noted.calls c left
-
-pub all_written : (u : Option FileCall) (segments : Segments) → Leaves u segments (changed u segments)
-all_written None segments = refl
-all_written (Some (Append bytes)) segments = record { more = bytes; torn = tt; no_longer = le_refl (length bytes); folder = refl }
-all_written (Some (SetLen len)) segments = record { at = len; no_shorter = le_refl len; folder = refl }
-all_written (Some CreateNext) segments = inr refl
-all_written (Some SyncData) segments = refl
-all_written (Some SyncFolder) segments = refl
-
--- a crash may leave all that was asked
-pub leaves_seen : (noted : Noted) → MayLeave noted (seen_of noted)
-leaves_seen noted = all_written (after (opened noted) noted.calls).under_way (after (opened noted) noted.calls).on_disk

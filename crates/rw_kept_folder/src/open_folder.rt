@@ -2,7 +2,8 @@
 
 ghost use Rattle.std.specs.Prelude.{◌≡◌, ◌+◌, [], length, map};
 ghost use Rattle.rw_journal.specs.Journal.{Only};
-ghost use Rattle.rw_kept_folder.specs.Noted.{seen_of, MayLeave, LeftSince, Tears, counts_now, only_now, leaves_seen};
+ghost use Rattle.rw_kept_folder.specs.Noted.{seen_of, MayLeave, LeftSince, Tears};
+ghost use Rattle.rw_kept_folder.specs.inner.Noted.{counts_now, only_now, leaves_seen};
 
 use crate::fault::{FaultCause, FolderFault};
 use crate::file_call::FileCall;
@@ -30,7 +31,8 @@ pub struct OpenFolder<R: Files> {
 
 impl<R: Files> Model for OpenFolder<R> {
     ghost use Rattle.std.specs.Prelude.{◌≡◌, length};
-    ghost use Rattle.rw_kept_folder.specs.Noted.{Noted, seen_of, AreUnread};
+    ghost use Rattle.rw_kept_folder.specs.Noted.{Noted, seen_of};
+    ghost use Rattle.rw_kept_folder.specs.inner.Noted.{AreUnread};
 
     ghost Value = { Noted };
 

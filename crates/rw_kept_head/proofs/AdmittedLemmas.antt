@@ -5,7 +5,7 @@ use Rattle.rw_types.specs.Beginnings.{Begins}
 use Rattle.rw_types.specs.Labels.{Labels}
 use Rattle.rw_types.specs.LabelOrder.{labels_eq}
 use Rattle.rw_types.specs.Rising.{Rises}
-use Rattle.rw_types.proofs.RisingLemmas.{Rises-left}
+use Rattle.rw_types.proofs.shared.RisingLemmas.{Rises-left}
 use Rattle.rw_write_request.specs.Message.{TimeSeries, WriteRequest}
 use Rattle.rw_write_request.specs.Read.{read}
 use Rattle.rw_write_request.specs.declared.fault.WireFault.{WireFault}
@@ -16,10 +16,10 @@ use Rattle.rw_head.specs.Lists.{IsEarlier, has_samples}
 use Rattle.rw_head.specs.Order.{Point, points, is_later, holds, accept_one, accept}
 use Rattle.rw_head.specs.Store.{Store, list_of, with_list}
 use Rattle.rw_head.specs.Verdicts.{LabelLimits, refusal, accepted, taken_unless, taken, taken_all, judged, apply}
-use Rattle.rw_head.proofs.GrowthLemmas.{taken_within}
-use Rattle.rw_head.proofs.OrderLemmas.{Rises-later, accept-none}
-use Rattle.rw_head.proofs.StoreLemmas.{list_of-with_list}
-use Rattle.rw_head.proofs.VerdictLemmas.{taken_all-err}
+use Rattle.rw_head.proofs.shared.GrowthLemmas.{taken_within, rises_at_each}
+use Rattle.rw_head.proofs.shared.OrderLemmas.{Rises-later, accept-none}
+use Rattle.rw_head.proofs.shared.StoreLemmas.{list_of-with_list}
+use Rattle.rw_head.proofs.shared.VerdictLemmas.{taken_all-err}
 use Rattle.rw_journal.specs.Journal.{Segments}
 use Rattle.rw_kept_head.specs.Admitted.{MayHold, IsAdmitted}
 use Rattle.rw_kept_head.specs.Kept.{SaysWhat, LiesBetween}
@@ -42,15 +42,11 @@ rises_all : (ss xs ys : List Point) → accept (Some xs) ss ≡ Some ys → Rise
 rises_all [] xs ys given h = let same : xs ≡ ys = cc given in subst (Rises IsEarlier) same h
 rises_all (s ∷ ss) xs ys given h = rises_next s ss xs ys (accept_one xs s) (λ zs. rises_all ss zs ys) refl given h
 
-at_each : (b : Bool) (ys zs : List Point) → Rises IsEarlier ys → Rises IsEarlier zs → Rises IsEarlier (cond b ys zs)
-at_each true ys zs h k = h
-at_each false ys zs h k = k
-
 accepted_rises : (l : Labels) (s next : Store) (ss : List Point) (o : Option (List Point)) → EachRises s → accept (Some (list_of s l)) ss ≡ o → accepted l s o ≡ Ok next → EachRises next
 accepted_rises l s next ss None h e given = absurd cc
 accepted_rises l s next ss (Some ys) h e given =
     let same : with_list l ys s ≡ next = cc given in
-    subst EachRises same (λ q. subst (Rises IsEarlier) (sym (list_of-with_list l ys s q)) (at_each (labels_eq q l) ys (list_of s q) (rises_all ss (list_of s l) ys e (h l)) (h q)))
+    subst EachRises same (λ q. subst (Rises IsEarlier) (sym (list_of-with_list l ys s q)) (rises_at_each (labels_eq q l) ys (list_of s q) (rises_all ss (list_of s l) ys e (h l)) (h q)))
 
 unless_rises : (o : Option Verdict) (s next : Store) (x : TimeSeries) → EachRises s → taken_unless o s x ≡ Ok next → EachRises next
 unless_rises (Some v) s next x h given = absurd cc

@@ -3,7 +3,7 @@ use Rattle.std.proofs.Common.{◌≡◌, ◌⊎◌, ℕ, ℤ, ◌+◌, List, [],
 use Rattle.std.proofs.lemmas.List.{take-take}
 use Rattle.std.specs.List.{AllByRecursion}
 use Rattle.rw_types.specs.Beginnings.{Begins}
-use Rattle.rw_types.proofs.BeginningLemmas.{begins_itself}
+use Rattle.rw_types.proofs.shared.BeginningLemmas.{begins_itself}
 use Rattle.rw_types.specs.Labels.{Labels}
 use Rattle.rw_types.specs.LabelOrder.{labels_eq}
 use Rattle.rw_types.specs.declared.entry.Entry.{Entry}
@@ -11,20 +11,23 @@ use Rattle.rw_wal_format.specs.Laws.{log_all, sample_entry}
 use Rattle.rw_wal_format.specs.Pieces.{page_size, reading}
 use Rattle.rw_wal_format.specs.Segments.{segment, item_at}
 use Rattle.rw_wal_format.specs.Series.{samples_after}
-use Rattle.rw_head.specs.Added.{Added, samples_of, AddsUp}
+use Rattle.rw_head.specs.Added.{Added, samples_added, AddsUp}
 use Rattle.rw_head.specs.Order.{Point}
 use Rattle.rw_head.specs.Store.{Store, list_of}
 use Rattle.rw_journal.specs.Journal.{Segments, with_more, IsBegun, LeavesOnly, Only}
 use Rattle.rw_journal.specs.Torn.{IsTornLog}
 use Rattle.rw_journal.specs.Logs.{entries_of, IsWhole}
 use Rattle.rw_journal.specs.TornLogs.{last_of, AllBefore}
-use Rattle.rw_journal.proofs.TornLogLemmas.{left_between}
+use Rattle.rw_journal.proofs.shared.TornLogLemmas.{left_between}
+use Rattle.rw_journal.proofs.shared.ClosingLemmas.{nothing_read}
 use Rattle.rw_wal_append.specs.Additions.{without_position, samples_in, definition_entry}
-use Rattle.rw_wal_append.proofs.AdditionLemmas.{samples_in-append}
+use Rattle.rw_wal_append.proofs.shared.AdditionLemmas.{samples_in-append}
 use Rattle.rw_wal_append.specs.References.{Named, AreDefined, AreOf, StandFor, points_of, undefined, only_defined}
 use Rattle.rw_wal_append.specs.Ends.{EndsAt}
+use Rattle.rw_wal_append.proofs.shared.HoldLemmas.{before_all, more_last}
 use Rattle.rw_kept_head.specs.Kept.{SaysWhat, LiesBetween, IsLeft, IsTornWrite, HasNoChance}
-use Rattle.rw_kept_head.specs.Inner.{GoesOn}
+use Rattle.rw_kept_head.specs.inner.Inner.{GoesOn}
+use Rattle.rw_reopen.proofs.shared.OpeningLemmas.{last_is}
 
 -- ---- runs of calls
 
@@ -49,10 +52,6 @@ abbrev pub AddUp : Type 0
 AddUp =
     (page : ℕ) (done : List (List ℕ)) (text last : List ℕ) → AllByRecursion (IsWhole page) done → IsWhole page text
     → entries_of page (done ++ text ∷ last ∷ []) ≡ entries_of page (done ++ text ∷ []) ++ (segment page last).entries
-
-nothing_read : (page : ℕ) → (segment page []).entries ≡ []
-unfolding segment item_at
-nothing_read page = refl
 
 nothing_there : (page : ℕ) → entries_of page ([] ∷ []) ≡ entries_of page []
 unfolding reading segment item_at
@@ -87,15 +86,10 @@ pub begun_same : AddUp → (page : ℕ) (old new : Segments) → AllByRecursion 
 begun_same up page old new all (inl same) = ap (entries_of page) same
 begun_same up page old new all (inr more) = ap (entries_of page) more ∙ next_same up page old all
 
-pub all_of : (P : List ℕ → Type 0) (ss : Segments) (s : List ℕ) → AllBefore P (ss ++ s ∷ []) → AllByRecursion P ss
-all_of P [] s all = tt
-all_of P (a ∷ []) s all = (all.0, tt)
-all_of P (a ∷ b ∷ ss) s all = (all.0, all_of P (b ∷ ss) s all.1)
-
 -- a log that ends between two records consists of whole segments
 pub ends_whole : ((ss : Segments) (n : ℕ) → EndsAt ss n → EndsAt (ss ++ [] ∷ []) 0) → ((ss : Segments) (n : ℕ) → EndsAt ss n → AllBefore (IsWhole page_size) ss) → (segments : Segments) (offset : ℕ)
     → EndsAt segments offset → AllByRecursion (IsWhole page_size) segments
-ends_whole next whole segments offset e = all_of (IsWhole page_size) segments [] (whole (segments ++ [] ∷ []) 0 (next segments offset e))
+ends_whole next whole segments offset e = before_all (IsWhole page_size) segments [] (whole (segments ++ [] ∷ []) 0 (next segments offset e))
 
 before_of : (P : List ℕ → Type 0) (ss : Segments) → AllByRecursion P ss → AllBefore P ss
 before_of P [] all = tt
@@ -116,7 +110,7 @@ pub goes_next : AddUp → (old new : Segments) (may_leave : Segments → Type 0)
     → Only new may_leave → GoesOn old new may_leave offset
 goes_next up old new may_leave offset ends whole begun zero synced = record {
   begun = inr begun;
-  entries = ap (entries_of page_size) begun ∙ next_same up page_size old (all_of (IsWhole page_size) old [] whole);
+  entries = ap (entries_of page_size) begun ∙ next_same up page_size old (before_all (IsWhole page_size) old [] whole);
   ends = subst (λ (s : Segments). EndsAt s offset) (sym begun) (subst (EndsAt (old ++ [] ∷ [])) (sym zero) ends);
   synced = synced;
 }
@@ -153,25 +147,15 @@ is_begun tears new segments left begun = record { base = left; begun = begun; is
 
 -- ---- where a log ends
 
-last_push : (done : Segments) (text : List ℕ) → last_of (done ++ text ∷ []) ≡ text
-last_push [] text = refl
-last_push (s ∷ []) text = refl
-last_push (s ∷ t ∷ done) text = last_push (t ∷ done) text
-
-more_push : (done : Segments) (text more : List ℕ) → with_more (done ++ text ∷ []) more ≡ done ++ (text ++ more) ∷ []
-more_push [] text more = refl
-more_push (s ∷ []) text more = refl
-more_push (s ∷ t ∷ done) text more = ap (λ (ss : Segments). s ∷ ss) (more_push (t ∷ done) text more)
-
 pub offset_last : (segments : Segments) (offset : ℕ) → EndsAt segments offset → offset ≡ length (last_of segments)
-offset_last segments offset e = e.len ∙ ap length (sym (ap last_of e.folder ∙ last_push e.done (log_all page_size 0 e.records)))
+offset_last segments offset e = e.len ∙ ap length (sym (ap last_of e.folder ∙ last_is e.done (log_all page_size 0 e.records)))
 
 last_more : (segments : Segments) (offset : ℕ) (more : List ℕ) → EndsAt segments offset → last_of (with_more segments more) ≡ last_of segments ++ more
 last_more segments offset more e =
     ap (λ (ss : Segments). last_of (with_more ss more)) e.folder
-    ∙ ap last_of (more_push e.done (log_all page_size 0 e.records) more)
-    ∙ last_push e.done (log_all page_size 0 e.records ++ more)
-    ∙ ap (λ (t : List ℕ). t ++ more) (sym (ap last_of e.folder ∙ last_push e.done (log_all page_size 0 e.records)))
+    ∙ ap last_of (more_last e.done (log_all page_size 0 e.records) more)
+    ∙ last_is e.done (log_all page_size 0 e.records ++ more)
+    ∙ ap (λ (t : List ℕ). t ++ more) (sym (ap last_of e.folder ∙ last_is e.done (log_all page_size 0 e.records)))
 
 pub offset_more : (segments : Segments) (offset later : ℕ) (more : List ℕ) → EndsAt segments offset → EndsAt (with_more segments more) later → later ≡ offset + length more
 offset_more segments offset later more e f =
@@ -199,11 +183,11 @@ AreRead =
     → samples_in (es ++ map definition_entry (undefined n) ++ map sample_entry samples) l ≡ samples_in es l ++ points_of n l samples
 
 pub says_more : AreRead → (old new : Store) (base : Segments) (bytes : List ℕ) (n : Named) (samples : List (ℕ × ℤ × ℕ)) (added : List Added) → SaysWhat base old → AddsUp old new added
-    → AreDefined (entries_of page_size base) n → AreOf n samples → ((l : Labels) → points_of n l samples ≡ samples_of l added)
+    → AreDefined (entries_of page_size base) n → AreOf n samples → ((l : Labels) → points_of n l samples ≡ samples_added l added)
     → entries_of page_size (with_more base bytes) ≡ entries_of page_size base ++ map definition_entry (undefined n) ++ map sample_entry samples → SaysWhat (with_more base bytes) new
 says_more law old new base bytes n samples added says up defined of points entries = λ l.
     up.lists l
-    ∙ ap (λ (ps : List Point). ps ++ samples_of l added) (says l)
+    ∙ ap (λ (ps : List Point). ps ++ samples_added l added) (says l)
     ∙ ap (λ (ps : List Point). samples_in (entries_of page_size base) l ++ ps) (sym (points l))
     ∙ sym (law (entries_of page_size base) n samples l defined of)
     ∙ ap (λ (es : List Entry). samples_in es l) (sym entries)
@@ -219,16 +203,16 @@ defined_after_abort es n later aborted defined =
 
 -- ---- what is collected
 
-pub collected_none : (n : Named) (l : Labels) (samples : List (ℕ × ℤ × ℕ)) (added rest : List Added) → samples ≡ [] → rest ≡ added → points_of n l samples ++ samples_of l rest ≡ samples_of l added
+pub collected_none : (n : Named) (l : Labels) (samples : List (ℕ × ℤ × ℕ)) (added rest : List Added) → samples ≡ [] → rest ≡ added → points_of n l samples ++ samples_added l rest ≡ samples_added l added
 collected_none n l samples added rest none same =
-    ap (λ (ss : List (ℕ × ℤ × ℕ)). points_of n l ss ++ samples_of l rest) none ∙ ap (samples_of l) same
+    ap (λ (ss : List (ℕ × ℤ × ℕ)). points_of n l ss ++ samples_added l rest) none ∙ ap (samples_added l) same
 
 pub collected_more : (before later : List Point) (l : Labels) (a : Added) (old rest added : List Added) → later ≡ before ++ (if labels_eq a.labels l then a.samples else []) → old ≡ a ∷ rest
-    → before ++ samples_of l old ≡ samples_of l added → later ++ samples_of l rest ≡ samples_of l added
+    → before ++ samples_added l old ≡ samples_added l added → later ++ samples_added l rest ≡ samples_added l added
 collected_more before later l a old rest added e is all =
-    ap (λ (ps : List Point). ps ++ samples_of l rest) e
-    ∙ append_assoc before (if labels_eq a.labels l then a.samples else []) (samples_of l rest)
-    ∙ ap (λ (x : List Added). before ++ samples_of l x) (sym is)
+    ap (λ (ps : List Point). ps ++ samples_added l rest) e
+    ∙ append_assoc before (if labels_eq a.labels l then a.samples else []) (samples_added l rest)
+    ∙ ap (λ (x : List Added). before ++ samples_added l x) (sym is)
     ∙ all
 
 -- ---- options

@@ -3,15 +3,17 @@ use Rattle.std.proofs.Common.{◌≡◌, ◌≢◌, ℕ, ℤ, ◌+◌, ◌-◌, 
 use Rattle.std.specs.Prelude.{is_some, MatchOption}
 use Rattle.std.proofs.lemmas.List.{length_push}
 use Rattle.rw_types.specs.Labels.{Labels, label_fault}
-use Rattle.rw_types.specs.LabelOrder.{labels_eq, same_if_equal}
+use Rattle.rw_types.specs.LabelOrder.{labels_eq}
+use Rattle.rw_types.specs.inner.LabelOrder.{same_if_equal}
 use Rattle.rw_types.specs.Rising.{Rises}
-use Rattle.rw_types.proofs.OrderLemmas.{equal_if_same}
+use Rattle.rw_types.proofs.shared.OrderLemmas.{equal_if_same}
 use Rattle.rw_types.specs.declared.entry.Entry.{Entry}
 use Rattle.rw_types.specs.declared.entry.Entry.TheVariants.{Def, Sample}
 use Rattle.rw_types.specs.declared.label_fault.LabelFault.{LabelFault}
 use Rattle.rw_types.specs.declared.label_fault.LabelFault.TheVariants.{OutOfMemory}
 use Rattle.rw_types.specs.declared.names.Names.{Names}
 use Rattle.rw_wal_format.specs.Series.{labels_of, has_labels}
+use Rattle.rw_wal_format.proofs.shared.SeriesRows.{labels_of-push}
 use Rattle.rw_write_request.specs.Message.{TimeSeries, WriteRequest}
 use Rattle.rw_head.specs.declared.verdict.Verdict.{Verdict}
 use Rattle.rw_head.specs.declared.verdict.Verdict.TheVariants.{Stored, BadLabels, OverLimit}
@@ -19,13 +21,14 @@ use Rattle.rw_head.specs.Head.{State, status_of}
 use Rattle.rw_head.specs.Lists.{IsEarlier, has_samples}
 use Rattle.rw_head.specs.Order.{Point, is_later, holds}
 use Rattle.rw_head.specs.Store.{Store, list_of, with_list, total}
-use Rattle.rw_head.specs.Verdicts.{LabelLimits, is_over, refusal, accepted, taken_unless, taken, judged, apply}
-use Rattle.rw_head.proofs.BodyLemmas.{taken_status}
-use Rattle.rw_head.proofs.StoreLemmas.{list_of-with_list, total-with_list}
+use Rattle.rw_head.specs.Verdicts.{LabelLimits, is_over_limits, refusal, accepted, taken_unless, taken, judged, apply}
+use Rattle.rw_head.proofs.shared.BodyLemmas.{taken_status}
+use Rattle.rw_head.proofs.shared.StoreLemmas.{list_of-with_list, total-with_list}
+use Rattle.rw_head.proofs.shared.StagingLemmas.{push_has}
 use Rattle.rw_wal_append.specs.Additions.{without_position, samples_in}
-use Rattle.rw_wal_append.proofs.AdditionLemmas.{samples_in-append, labels_of-push, no_sample}
+use Rattle.rw_wal_append.proofs.shared.AdditionLemmas.{samples_in-append, no_sample}
 use Rattle.rw_kept_head.specs.Admitted.{MayHold}
-use Rattle.rw_kept_head.specs.Restoring.{StandsFor, IsRestored, IsRestoring, IsRestoredOrRefused, IsSeriesOf, IsAdded, CannotFollow, AddsOne, Defines, AddsSample, TakesSample}
+use Rattle.rw_kept_head.specs.inner.Restoring.{StandsFor, IsRestored, IsRestoring, IsRestoredOrRefused, IsSeriesOf, IsAdded, CannotFollow, AddsOne, Defines, AddsSample, TakesSample}
 use Rattle.rw_kept_head.proofs.AdmittedLemmas.{begin_held}
 use Rattle.rw_kept_head.proofs.KeptLemmas.{samples_begin}
 
@@ -144,10 +147,6 @@ sampled_next names taken lookup later old new reference t w adds restored = reco
       ∙ sym (samples_in-append l taken (Sample reference t w ∷ []));
 }
 
-some_pushed : (xs : List Point) (p : Point) → has_samples (xs ++ p ∷ []) ≡ true
-some_pushed [] p = refl
-some_pushed (x ∷ xs) p = refl
-
 refused_next : (limits : LabelLimits) (taken : List Entry) (lookup : ℕ → Option (Option TimeSeries)) (store : Store) (reference : ℕ) (t : ℤ) (w : ℕ) (l : Labels) → labels_of taken reference (length taken) ≡ Some l
     → CannotFollow limits store l (t, w) → IsRestored limits.names taken lookup store → MayHold limits (samples_in (taken ++ Sample reference t w ∷ [])) → ⊥
 refused_next limits taken lookup store reference t w l is cannot restored may =
@@ -157,7 +156,7 @@ refused_next limits taken lookup store reference t w l is cannot restored may =
     ∙ ap (λ (o : Option (List (List ℕ × List ℕ))). samples_in taken l ++ cond (has_labels l o) ((t, w) ∷ []) []) is
     ∙ ap (λ (b : Bool). samples_in taken l ++ cond b ((t, w) ∷ []) []) (equal_if_same l l refl)
     ∙ ap (λ (ps : List Point). ps ++ (t, w) ∷ []) (sym (restored.says l)) in
-    cannot (subst (Rises IsEarlier) same (may.rises l)) (may.within l (ap has_samples same ∙ some_pushed (list_of store l) (t, w)))
+    cannot (subst (Rises IsEarlier) same (may.rises l)) (may.within l (ap has_samples same ∙ push_has (list_of store l) (t, w)))
 
 pub sample_taken : (limits : LabelLimits) (taken : List Entry) (lookup later : ℕ → Option (Option TimeSeries)) (old new : Store) (reference : ℕ) (t : ℤ) (w : ℕ) (done : Bool)
     → TakesSample limits old new lookup later reference (t, w) done → IsRestored limits.names taken lookup old → IsRestoredOrRefused limits (taken ++ Sample reference t w ∷ []) later new done
@@ -214,7 +213,7 @@ is_faulty (Some x) f e other = refl
 
 faulty_refused : (limits : LabelLimits) (l : Labels) → is_some (label_fault limits.names l) ≡ true → refusal limits l ≡ None → ⊥
 faulty_refused limits l bad none =
-    let e : ◌≡◌ {A = Option Verdict} (Some BadLabels) None = ap (λ (b : Bool). cond b (Some BadLabels) (cond (is_over limits l) (Some OverLimit) None)) (sym bad) ∙ none in
+    let e : ◌≡◌ {A = Option Verdict} (Some BadLabels) None = ap (λ (b : Bool). cond b (Some BadLabels) (cond (is_over_limits limits l) (Some OverLimit) None)) (sym bad) ∙ none in
     cc
 
 defined_at : (names : Names) (labels : Labels) (o : Option TimeSeries) (b : Bool) (old : Option (Option TimeSeries)) (found : Option (List (List ℕ × List ℕ))) → IsSeriesOf names labels o → StandsFor names old found

@@ -53,7 +53,7 @@ HasNoChance tears new base left (inr w) = NoChance page_size (last_of (with_more
 
 -- A log keeps what a store has: it says that, each of its segments ends between two records, and
 -- all of it is synced.
-pub record IsKept (may_leave : Segments → Type 0) (segments : Segments) (store : Store) : Type 0 where
+pub record KeepsStore (may_leave : Segments → Type 0) (segments : Segments) (store : Store) : Type 0 where
   pub says : SaysWhat segments store
   pub whole : AllByRecursion (IsWhole page_size) segments
   pub synced : Only segments may_leave

@@ -1,5 +1,4 @@
 pub mod Admitted
-pub mod Inner
 pub mod Kept
 pub mod Opening
-pub mod Restoring
+pub mod inner

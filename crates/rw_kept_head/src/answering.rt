@@ -7,8 +7,8 @@ ghost use Rattle.rw_journal.specs.Journal.{LeavesOnly};
 ghost use Rattle.rw_journal.specs.declared.journal.JournalError.{JournalError};
 ghost use Rattle.rw_journal.specs.declared.journal.JournalError.TheVariants.{Failed};
 ghost use Rattle.rw_head.specs.declared.capacity.Admission.TheVariants.{Full};
-ghost use Rattle.rw_head.specs.Capacity.{exceeds, told, unlimited, StaysWithin};
-ghost use Rattle.rw_head.specs.Growth.{EachRises, HasTaken};
+ghost use Rattle.rw_head.specs.Capacity.{exceeds, status_of_admission, unlimited, StaysWithin};
+ghost use Rattle.rw_head.specs.Growth.{EachRises, HasStoredBody};
 ghost use Rattle.rw_head.specs.Head.{answer, IsStatus, SpellsMessage};
 ghost use Rattle.rw_head.specs.Store.{list_of, total};
 ghost use Rattle.rw_kept_head.specs.Kept.{SaysWhat, IsLeft};
@@ -27,13 +27,15 @@ pub(crate) fn admit_kept<J: Journal>(
 ) -> (Head, Admission)
     requires says { log.old.fault ≡ None → SaysWhat (J.seen log.old.journal) head.store }
 
-    ensures status { told result.1 ≢ 503 → told result.1 ≡ (answer head body.now).status }
-    ensures head { told result.1 ≢ 503 → result.0 ≡ (answer head body.now).head }
-    ensures unavailable { told result.1 ≡ 503 → (result.0 ≡ head) × (head.busy ≡ 0) }
-    ensures readable { told result.1 ≡ 503 → SpellsMessage body.now }
-    ensures statuses { IsStatus (told result.1) }
-    ensures refused { told result.1 ≢ 204 → result.0.store ≡ head.store }
-    ensures taken { told result.1 ≡ 204 → HasTaken body.now head.store result.0.store }
+    ensures status { status_of_admission result.1 ≢ 503
+        → status_of_admission result.1 ≡ (answer head body.now).status }
+    ensures head { status_of_admission result.1 ≢ 503 → result.0 ≡ (answer head body.now).head }
+    ensures unavailable { status_of_admission result.1 ≡ 503 → (result.0 ≡ head) × (head.busy ≡ 0) }
+    ensures readable { status_of_admission result.1 ≡ 503 → SpellsMessage body.now }
+    ensures statuses { IsStatus (status_of_admission result.1) }
+    ensures refused { status_of_admission result.1 ≢ 204 → result.0.store ≡ head.store }
+    ensures taken { status_of_admission result.1 ≡ 204
+        → HasStoredBody body.now head.store result.0.store }
     ensures more { total head.store ≤ total result.0.store }
     ensures rises { EachRises result.0.store }
     ensures begins { (l : Labels) → Begins (list_of head.store l)
@@ -43,13 +45,13 @@ pub(crate) fn admit_kept<J: Journal>(
         → exceeds capacity.now head.store (answer head body.now).head.store ≡ true }
     ensures limited { result.1 ≡ Full → capacity.now ≢ unlimited }
 
-    ensures open { told result.1 ≡ 204 → log.new.fault ≡ None }
+    ensures open { status_of_admission result.1 ≡ 204 → log.new.fault ≡ None }
     ensures says { log.new.fault ≡ None → SaysWhat (J.seen log.new.journal) result.0.store }
     ensures any_moment { log.old.fault ≡ None
         → LeavesOnly J.moment J.left_since log.old.journal log.new.journal
         (IsLeft J.tears (answer head body.now).head.store (J.seen log.old.journal)) }
     ensures closed { (e : JournalError) → log.old.fault ≡ Some e
-        → (told result.1 ≢ 204) × (log.new ≡ log.old) }
+        → (status_of_admission result.1 ≢ 204) × (log.new ≡ log.old) }
     ensures failed { log.new.fault ≡ Some Failed → (log.old.fault ≡ Some Failed)
         ⊎ (J.faults log.old.journal < J.faults log.new.journal) }
 {

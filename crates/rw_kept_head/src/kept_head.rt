@@ -7,11 +7,11 @@ ghost use Rattle.rw_journal.specs.Journal.{LeavesOnly};
 ghost use Rattle.rw_journal.specs.declared.journal.JournalError.{JournalError};
 ghost use Rattle.rw_journal.specs.declared.journal.JournalError.TheVariants.{Failed};
 ghost use Rattle.rw_head.specs.declared.capacity.Admission.TheVariants.{Full};
-ghost use Rattle.rw_head.specs.Capacity.{exceeds, told, unlimited, StaysWithin};
-ghost use Rattle.rw_head.specs.Growth.{EachRises, HasTaken};
+ghost use Rattle.rw_head.specs.Capacity.{exceeds, status_of_admission, unlimited, StaysWithin};
+ghost use Rattle.rw_head.specs.Growth.{EachRises, HasStoredBody};
 ghost use Rattle.rw_head.specs.Head.{answer, IsStatus, SpellsMessage};
 ghost use Rattle.rw_head.specs.Store.{list_of, total};
-ghost use Rattle.rw_kept_head.specs.Kept.{IsKept, IsLeft};
+ghost use Rattle.rw_kept_head.specs.Kept.{KeepsStore, IsLeft};
 
 use crate::answering::admit_kept;
 use crate::log_writer::LogWriter;
@@ -56,16 +56,18 @@ impl<J: Journal> KeptHead<J> {
     /// 503.
     pub fn admit(&mut self, body: &[u8], capacity: &Capacity) -> Admission
         // The answer is that of a head without a journal, or 503.
-        ensures status { told result ≢ 503
-            → told result ≡ (answer self.old.head body.now).status }
-        ensures head { told result ≢ 503 → self.new.head ≡ (answer self.old.head body.now).head }
-        ensures unavailable { told result ≡ 503
+        ensures status { status_of_admission result ≢ 503
+            → status_of_admission result ≡ (answer self.old.head body.now).status }
+        ensures head { status_of_admission result ≢ 503
+            → self.new.head ≡ (answer self.old.head body.now).head }
+        ensures unavailable { status_of_admission result ≡ 503
             → (self.new.head ≡ self.old.head) × (self.old.head.busy ≡ 0) }
-        ensures readable { told result ≡ 503 → SpellsMessage body.now }
-        ensures statuses { IsStatus (told result) }
-        ensures refused { told result ≢ 204 → self.new.head.store ≡ self.old.head.store }
-        ensures taken { told result ≡ 204
-            → HasTaken body.now self.old.head.store self.new.head.store }
+        ensures readable { status_of_admission result ≡ 503 → SpellsMessage body.now }
+        ensures statuses { IsStatus (status_of_admission result) }
+        ensures refused { status_of_admission result ≢ 204
+            → self.new.head.store ≡ self.old.head.store }
+        ensures taken { status_of_admission result ≡ 204
+            → HasStoredBody body.now self.old.head.store self.new.head.store }
         ensures more { total self.old.head.store ≤ total self.new.head.store }
         ensures rises { EachRises self.new.head.store }
         ensures within { StaysWithin capacity.now self.old.head.store self.new.head.store }
@@ -74,9 +76,10 @@ impl<J: Journal> KeptHead<J> {
         ensures limited { result ≡ Full → capacity.now ≢ unlimited }
 
         // What is held is in the journal, and survives every crash from now on.
-        ensures acknowledged { told result ≡ 204 → IsKept (J.may_leave self.new.journal)
+        ensures acknowledged { status_of_admission result ≡ 204
+            → KeepsStore (J.may_leave self.new.journal)
             (J.seen self.new.journal) self.new.head.store }
-        ensures kept { self.new.fault ≡ None → IsKept (J.may_leave self.new.journal)
+        ensures kept { self.new.fault ≡ None → KeepsStore (J.may_leave self.new.journal)
             (J.seen self.new.journal) self.new.head.store }
 
         // A crash at any moment leaves what was held, and after it a torn part of what is to be
@@ -88,7 +91,8 @@ impl<J: Journal> KeptHead<J> {
             (list_of (answer self.old.head body.now).head.store l) }
 
         // After a fault of the journal nothing more is kept, and there is none without a cause.
-        ensures closed { (e : JournalError) → self.old.fault ≡ Some e → (told result ≢ 204)
+        ensures closed { (e : JournalError) → self.old.fault ≡ Some e
+            → (status_of_admission result ≢ 204)
             × (self.new.journal ≡ self.old.journal) × (self.new.fault ≡ self.old.fault) }
         ensures failed { self.new.fault ≡ Some Failed → (self.old.fault ≡ Some Failed)
             ⊎ (J.faults self.old.journal < J.faults self.new.journal) }
@@ -139,7 +143,7 @@ impl<J: Journal> KeptHead<J> {
     /// Returns the fault after which nothing more is kept, if there was one.
     pub fn fault(&self) -> Option<JournalError>
         ensures fault { result ≡ self.now.fault }
-        ensures kept { result ≡ None → IsKept (J.may_leave self.now.journal)
+        ensures kept { result ≡ None → KeepsStore (J.may_leave self.now.journal)
             (J.seen self.now.journal) self.now.head.store }
     {
         self.log.fault()

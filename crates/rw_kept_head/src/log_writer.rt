@@ -10,7 +10,7 @@ ghost use Rattle.rw_wal_append.specs.Additions.{definition_entry};
 ghost use Rattle.rw_journal.specs.Logs.{entries_of, IsWhole};
 ghost use Rattle.rw_wal_append.specs.Ends.{EndsAt};
 ghost use Rattle.rw_kept_head.specs.Kept.{SaysWhat, IsLeft};
-ghost use Rattle.rw_kept_head.specs.Inner.{IsWritable, GoesOn, Keeps};
+ghost use Rattle.rw_kept_head.specs.inner.Inner.{IsWritable, GoesOn, Keeps};
 ghost use Rattle.rw_kept_head.specs.declared.keep_error.KeepError.TheVariants.{Unspelled, Journal};
 
 use crate::keep_error::KeepError;
@@ -117,7 +117,7 @@ pub(crate) struct LogWriter<J: Journal> {
 
 impl<J: Journal> Model for LogWriter<J> {
     ghost use Rattle.std.specs.Prelude.{◌≡◌, ◌≤◌, None};
-    ghost use Rattle.rw_kept_head.specs.Inner.{Writing, IsWritable};
+    ghost use Rattle.rw_kept_head.specs.inner.Inner.{Writing, IsWritable};
 
     ghost Value = { Writing J };
 

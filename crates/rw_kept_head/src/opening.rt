@@ -5,7 +5,7 @@ ghost use Rattle.rw_journal.specs.Journal.{on_last, Only, LeavesOnly};
 ghost use Rattle.rw_wal_append.specs.Ends.{EndsAt};
 ghost use Rattle.rw_reopen.specs.Reopening.{IsEnd};
 ghost use Rattle.rw_reopen.specs.declared.error.ReopenError.TheVariants.{Failed};
-ghost use Rattle.rw_kept_head.specs.Kept.{SaysWhat, IsKept};
+ghost use Rattle.rw_kept_head.specs.Kept.{SaysWhat, KeepsStore};
 ghost use Rattle.rw_head.specs.Store.{list_of};
 ghost use Rattle.rw_kept_head.specs.Admitted.{MayHold, label_limits};
 ghost use Rattle.rw_kept_head.specs.Opening.{HasCause, HasSameEntries, IsRefusedRightly};
@@ -106,7 +106,7 @@ impl<J: Journal> KeptHead<J> {
 
         // The head has what the log had, and the log still has it.
         ensures says { IfOk result (λ o. SaysWhat (J.seen journal) o.kept.head.store) }
-        ensures kept { IfOk result (λ o. IsKept (J.may_leave o.kept.journal)
+        ensures kept { IfOk result (λ o. KeepsStore (J.may_leave o.kept.journal)
             (J.seen o.kept.journal) o.kept.head.store) }
         ensures open { IfOk result (λ o. o.kept.fault ≡ None) }
 

@@ -8,7 +8,7 @@ ghost use Rattle.rw_wal_append.specs.Additions.{samples_in};
 ghost use Rattle.rw_head.specs.declared.verdict.Verdict.TheVariants.{Stored};
 ghost use Rattle.rw_head.specs.Store.{list_of};
 ghost use Rattle.rw_kept_head.specs.Admitted.{MayHold, label_limits};
-ghost use Rattle.rw_kept_head.specs.Restoring.{AddsOne, Defines, TakesSample, IsRestored, IsRestoredOrRefused, IsSeriesOf};
+ghost use Rattle.rw_kept_head.specs.inner.Restoring.{AddsOne, Defines, TakesSample, IsRestored, IsRestoredOrRefused, IsSeriesOf};
 
 use indexmap::IndexMap;
 use rw_head::{Head, Limits, Verdict};
@@ -196,7 +196,7 @@ impl Model for Restoring {
     ghost use Rattle.std.specs.Coded.{codes};
     ghost use Rattle.std.specs.FinMap as map;
     ghost use Rattle.std.specs.HashMap.{get};
-    ghost use Rattle.rw_kept_head.specs.Restoring.{Restored, IsRestoring};
+    ghost use Rattle.rw_kept_head.specs.inner.Restoring.{Restored, IsRestoring};
 
     ghost Value = { Restored };
 
@@ -259,7 +259,7 @@ impl Restoring {
 }
 
 impl EntrySink for Restoring {
-    ghost use Rattle.rw_kept_head.specs.Restoring.{Setting};
+    ghost use Rattle.rw_kept_head.specs.inner.Restoring.{Setting};
 
     ghost taken = { λ r. r.taken };
 

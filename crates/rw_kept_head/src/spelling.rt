@@ -3,7 +3,7 @@
 ghost use Rattle.std.specs.Prelude.{◌≡◌, ◌++◌, [], if◌then◌else◌, IfOk, OnOk};
 ghost use Rattle.rw_types.specs.Labels.{Labels};
 ghost use Rattle.rw_types.specs.LabelOrder.{labels_eq};
-ghost use Rattle.rw_head.specs.Added.{AddsUp, samples_of};
+ghost use Rattle.rw_head.specs.Added.{AddsUp, samples_added};
 ghost use Rattle.rw_wal_append.specs.References.{AreOf, points_of, only_defined};
 
 use rw_head::{AddedSeries, StagedHead};
@@ -39,7 +39,7 @@ pub(crate) fn collect(
 ) -> Result<Vec<(u64, i64, Word)>, AllocError>
     ensures of { IfOk result (λ v. AreOf references.new v.items) }
     ensures points { IfOk result (λ v. (l : Labels) → points_of references.new l v.items
-        ≡ samples_of l staged.now.added) }
+        ≡ samples_added l staged.now.added) }
     ensures adds { AddsUp staged.now.before.store staged.now.after.store staged.now.added }
     ensures undone { only_defined references.new ≡ only_defined references.old }
 {

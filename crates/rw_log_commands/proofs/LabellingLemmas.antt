@@ -13,20 +13,20 @@ use Rattle.rw_write_request.specs.Message as message_specs
 use Rattle.rw_wal_format.specs.Series as codes
 use Rattle.rw_relabel.specs.Rules.{keeps}
 use Rattle.rw_relabel.specs.declared.choice.Choice.{Choice}
-use Rattle.rw_batch.specs.Grouping.{message, distinct, with_sample, labels_of}
+use Rattle.rw_batch.specs.Grouping.{message, distinct, with_sample, labels_of_series}
 use Rattle.rw_batch.specs.Groups.{Groups, StandsFor, IsAlone, with_number}
-use Rattle.rw_batch.proofs.MessageLemmas.{message-push}
-use Rattle.rw_batch.proofs.NumberLemmas.{stands_for_own, labels_stay}
+use Rattle.rw_batch.proofs.shared.MessageLemmas.{message-push}
+use Rattle.rw_batch.proofs.shared.NumberLemmas.{stands_for_own, labels_stay}
 use Rattle.rw_series_cache.specs.Cached.{Taken}
-use Rattle.rw_series_cache.specs.Found.{Answers}
+use Rattle.rw_series_cache.specs.Found.{IsLookedUp}
 use Rattle.rw_series_cache.specs.Known.{Standing, Kept, known, standing_of, standing_by, standing_of_set, definitions_of}
 use Rattle.rw_series_cache.specs.Numbers.{series_of, number_of, HasNumber}
 use Rattle.rw_series_cache.specs.declared.known.Known.{Known}
 use Rattle.rw_series_cache.specs.declared.known.Known.TheVariants as found
-use Rattle.rw_series_cache.proofs.KnownLemmas.{definitions_of-definition, definitions_of-sample}
-use Rattle.rw_series_cache.proofs.SeriesLemmas.{number_stays_on}
-use Rattle.rw_log_commands.specs.Labelled.{labelled, labelled_by, label_set_of, if_label_set, unless_faulty}
-use Rattle.rw_log_commands.specs.Labelling.{labels_at, IsNumber, IsNumbered, IsLabelling}
+use Rattle.rw_series_cache.proofs.shared.KnownLemmas.{definitions_of-definition, definitions_of-sample}
+use Rattle.rw_series_cache.proofs.shared.SeriesLemmas.{number_stays_on}
+use Rattle.rw_log_commands.specs.Labelled.{labelled_samples, labelled_by, label_set_of, if_label_set, unless_bad_labels}
+use Rattle.rw_log_commands.specs.inner.Labelling.{labels_at, IsNumber, IsNumbered, IsLabelling}
 use Rattle.rw_log_commands.proofs.LabelledLemmas.{labelled-push}
 use Rattle.rw_relabel.specs.Choices.{legacy}
 use Rattle.rw_types.specs.declared.names.Names.TheVariants.{Legacy}
@@ -40,7 +40,7 @@ keeps_all : (l : Labels) → keeps [] l ≡ true
 unfolding keeps
 keeps_all l = refl
 
-label_set_by : (l : Labels) (o : Option LabelFault) → unless_faulty o l ≡ label_set_in (standing_by legacy l o)
+label_set_by : (l : Labels) (o : Option LabelFault) → unless_bad_labels o l ≡ label_set_in (standing_by legacy l o)
 label_set_by l None = ap (λ b. label_set_in (standing_of_set b l)) (sym (keeps_all l))
 label_set_by l (Some f) = refl
 
@@ -106,14 +106,14 @@ numbered_more sets g new n l s is series numbers h =
     let own_number = is_number sets n l is in
     record {
       labels =
-          ap labels_of series ∙ ap (λ x. labels_of (with_sample x s g.series)) (sym (own sets n l is))
+          ap labels_of_series series ∙ ap (λ x. labels_of_series (with_sample x s g.series)) (sym (own sets n l is))
           ∙ labels_stay (labels_at sets) n s g h.labels (alone sets n g.numbers own_number h.numbers)
           ∙ ap (map (labels_at sets)) (sym numbers);
       numbers = subst (AllByRecursion (IsNumber sets)) (sym numbers) (number_added sets g.numbers n (list_any (nat_eq n) g.numbers) h.numbers own_number);
     }
 
-no_series : [] ≡ message (labelled [])
-unfolding labelled message distinct
+no_series : [] ≡ message (labelled_samples [])
+unfolding labelled_samples message distinct
 no_series = refl
 
 -- nothing is known before the first entry
@@ -127,7 +127,7 @@ pub definition_taken : (es : List Entry) (reference : ℕ) (labels : Labels) (ca
 definition_taken es reference labels cached new g e h = record {
   choice = ap (λ (k : Taken). k.choice) e ∙ h.choice;
   definitions = definitions_of-definition es reference labels ∙ ap (λ ds. ds ++ Def reference labels ∷ []) h.definitions ∙ sym (ap (λ (k : Taken). k.definitions) e);
-  grouped = h.grouped ∙ ap message (sym (labelled-push es (Def reference labels) ∙ append-nil (labelled es)));
+  grouped = h.grouped ∙ ap message (sym (labelled-push es (Def reference labels) ∙ append-nil (labelled_samples es)));
   numbered = numbered_on es (Def reference labels ∷ []) g h.numbered;
 }
 
@@ -147,7 +147,7 @@ abbrev IsFound : List Entry → ℕ → Option (ℕ × Labels) → Type 0
 IsFound es reference None = label_set_of es reference ≡ None
 IsFound es reference (Some (n, l)) = (label_set_of es reference ≡ Some l) × HasNumber (series_of legacy es) l n
 
-is_found : (es : List Entry) (reference : ℕ) (answer : Known) → Answers legacy es reference answer → IsFound es reference (kept_in answer)
+is_found : (es : List Entry) (reference : ℕ) (answer : Known) → IsLookedUp legacy es reference answer → IsFound es reference (kept_in answer)
 is_found es reference found.Unknown a = label_set_known es reference ∙ ap label_set_in (sym a.standing)
 is_found es reference (found.Bad f) a = label_set_known es reference ∙ ap label_set_in (sym a.standing)
 is_found es reference found.Filtered a = label_set_known es reference ∙ ap label_set_in (sym a.standing)
@@ -155,12 +155,12 @@ is_found es reference (found.Kept n labels) a = (label_set_known es reference �
 
 -- what a cache answers of a reference, after entries with its definitions
 abbrev pub Finds : Taken → ℕ → Known → Type 0
-Finds cached reference answer = (es : List Entry) → definitions_of es ≡ cached.definitions → Answers cached.choice es reference answer
+Finds cached reference answer = (es : List Entry) → definitions_of es ≡ cached.definitions → IsLookedUp cached.choice es reference answer
 
 found_as : (es : List Entry) (cached : Taken) (g : Groups) (reference : ℕ) (answer : Known) (o : Option (ℕ × Labels))
     → Finds cached reference answer → kept_in answer ≡ o → IsLabelling es cached g → IsFound es reference o
 found_as es cached g reference answer o finds e h =
-    subst (IsFound es reference) e (is_found es reference answer (subst (λ rs. Answers rs es reference answer) h.choice (finds es h.definitions)))
+    subst (IsFound es reference) e (is_found es reference answer (subst (λ rs. IsLookedUp rs es reference answer) h.choice (finds es h.definitions)))
 
 -- a sample of no series
 pub sample_left_out : (es : List Entry) (reference : ℕ) (t : ℤ) (word : ℕ) (answer : Known) (cached : Taken) (g : Groups)
@@ -170,7 +170,7 @@ sample_left_out es reference t word answer cached g finds none h =
     record {
       choice = h.choice;
       definitions = definitions_of-sample es reference t word ∙ h.definitions;
-      grouped = h.grouped ∙ ap message (sym (labelled-push es (Sample reference t word) ∙ ap (λ o. labelled es ++ labelled_by o (word, t)) unnamed ∙ append-nil (labelled es)));
+      grouped = h.grouped ∙ ap message (sym (labelled-push es (Sample reference t word) ∙ ap (λ o. labelled_samples es ++ labelled_by o (word, t)) unnamed ∙ append-nil (labelled_samples es)));
       numbered = numbered_on es (Sample reference t word ∷ []) g h.numbered;
     }
 
@@ -192,7 +192,7 @@ sample_taken es reference t word answer n l cached g new finds e series numbers 
       choice = h.choice;
       definitions = definitions_of-sample es reference t word ∙ h.definitions;
       grouped =
-          series ∙ ap (with_sample l (word, t)) h.grouped ∙ sym (message-push (labelled es) (record { labels = l; sample = (word, t) }))
-          ∙ ap message (sym (labelled-push es (Sample reference t word) ∙ ap (λ o. labelled es ++ labelled_by o (word, t)) both.0));
+          series ∙ ap (with_sample l (word, t)) h.grouped ∙ sym (message-push (labelled_samples es) (record { labels = l; sample = (word, t) }))
+          ∙ ap message (sym (labelled-push es (Sample reference t word) ∙ ap (λ o. labelled_samples es ++ labelled_by o (word, t)) both.0));
       numbered = numbered_on es (Sample reference t word ∷ []) new (numbered_more (series_of legacy es) g new n l (word, t) both.1 series numbers h.numbered);
     }

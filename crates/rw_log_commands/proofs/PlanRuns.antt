@@ -4,7 +4,7 @@ use Rattle.std.specs.Io.KnownBytes.{Appends}
 use Rattle.rw_relabel.specs.declared.choice.Choice.{Choice}
 use Rattle.rw_log_commands.specs.Plan.{plan_of}
 use Rattle.rw_log_commands.specs.Running.{ReadsInput}
-use Rattle.rw_log_commands.specs.Taking.{ReadsSegment}
+use Rattle.rw_log_commands.specs.inner.Taking.{ReadsSegment}
 
 -- bytes that are read are an input that stands for itself
 pub bytes_read : (left_before left_after : Option (List ℕ)) (segment : List ℕ) → ReadsSegment None left_before left_after segment → ReadsInput false None left_before left_after segment

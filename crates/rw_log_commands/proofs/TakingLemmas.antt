@@ -3,12 +3,12 @@ use Rattle.std.proofs.Common.{◌≡◌, ℕ, ◌+◌, ◌-◌, ◌<◌, List, [
 use Rattle.std.specs.Result.{IsErrAnd, IfErr}
 use Rattle.std.specs.Io.KnownBytes.{Consumes, IsAtEnd}
 use Rattle.std.proofs.lemmas.List.{length-append, append-nil}
-use Rattle.rw_types.proofs.KnownLemmas.{consumes-none, consumes_consumes}
+use Rattle.std.proofs.KnownBytes.{Consumes-trans, Consumes-nil}
 use Rattle.rw_types.specs.declared.entry.Entry.{Entry}
 use Rattle.rw_wal_format.specs.Pieces.{Piece, bytes, entries, fault, page_size, reading, fault_at}
 use Rattle.rw_wal_format.specs.Segments.{Reading, Stop, at_fault, between, inside}
 use Rattle.rw_wal_format.specs.Laws.{Extends}
-use Rattle.rw_wal_format.proofs.Growing.{reading-append}
+use Rattle.rw_wal_format.proofs.shared.Growing.{reading-append}
 use Rattle.rw_wal_format.specs.declared.tail_fault.TailFault.{TailFault}
 use Rattle.rw_wal_format.specs.declared.tail_fault.TailFault.TheVariants as tail
 use Rattle.rw_wal_tail.specs.Fed.{Fed}
@@ -16,7 +16,7 @@ use Rattle.rw_wal_tail.specs.Taking.{HasTaken, HasTakenAll, TakesNext}
 use Rattle.rw_text.specs.declared.tool_fault.ToolFault.{ToolFault}
 use Rattle.rw_text.specs.declared.tool_fault.ToolFault.TheVariants.{OutOfMemory, Log, Line, SegmentFull, Device}
 use Rattle.rw_text.specs.ToolFaults.{fault_of_log}
-use Rattle.rw_log_commands.specs.Taking.{IsFaultOf, FeedsMore, ReadsSegment, StopsReading}
+use Rattle.rw_log_commands.specs.inner.Taking.{IsFaultOf, FeedsMore, ReadsSegment, StopsReading}
 
 -- the pieces, whatever comes after them, are read as this text is
 abbrev pub IsText : List Piece → List ℕ → Type 0
@@ -93,14 +93,14 @@ pub record HasRead (left_before left_after : Option (List ℕ)) (t : Fed) (taken
 
 pub reads_nothing : (left : Option (List ℕ)) (t : Fed) (taken : List Entry) → t.pieces ≡ [] → HasTaken t [] → taken ≡ [] → HasRead left left t taken
 reads_nothing left t taken new h none =
-    record { text = []; read = consumes-none left; same = subst (λ ps. IsText ps []) (sym new) text-none; has = subst (HasTaken t) (sym none) h }
+    record { text = []; read = Consumes-nil left; same = subst (λ ps. IsText ps []) (sym new) text-none; has = subst (HasTaken t) (sym none) h }
 
 pub reads_more : (a b c : Option (List ℕ)) (t new newer : Fed) (before taken : List Entry) → HasRead a b t before → HasTakenAll new taken None → new.pieces ≡ t.pieces → FeedsMore b c new newer → HasRead a c newer taken
 reads_more a b c t new newer before taken h all fed more =
     let now : newer.pieces ≡ t.pieces ++ bytes more.text ∷ [] = ap (λ (x : Fed). x.pieces) more.fed ∙ ap (λ ps. ps ++ bytes more.text ∷ []) fed in
     record {
       text = h.text ++ more.text;
-      read = consumes_consumes a b c h.text more.text h.read more.read;
+      read = Consumes-trans a b c h.text more.text h.read more.read;
       same = subst (λ ps. IsText ps (h.text ++ more.text)) (sym now) (text-more t.pieces h.text more.text h.same);
       has = more.still taken all.taken_all;
     }
@@ -112,7 +112,7 @@ reads_all a b c t new before taken h all fed none ended =
     let alone = ap (reading page_size) fed ∙ text_alone t.pieces h.text h.same in (
       h.text,
       record {
-        read = subst (Consumes a c) (append-nil h.text) (consumes_consumes a b c h.text [] h.read none);
+        read = subst (Consumes a c) (append-nil h.text) (Consumes-trans a b c h.text [] h.read none);
         ended = ended;
         faulty = ap (λ (r : Reading). fault_at r.stop) (sym alone) ∙ all.read.fault_is;
       },

@@ -4,8 +4,8 @@ use Rattle.std.specs.Prelude.{ℕ, List, [], ◌∷◌}
 use Rattle.rw_wal_format.specs.Pieces.{bytes, entries}
 use Rattle.rw_write_request.specs.Canon.{canon}
 use Rattle.rw_batch.specs.Grouping.{message}
-use Rattle.rw_log_commands.specs.Labelled.{labelled}
+use Rattle.rw_log_commands.specs.Labelled.{labelled_samples}
 
 -- the body of a segment
-abbrev pub body_of : List ℕ → List ℕ
-body_of segment = canon (message (labelled (entries (bytes segment ∷ []))))
+abbrev pub body_of_segment : List ℕ → List ℕ
+body_of_segment segment = canon (message (labelled_samples (entries (bytes segment ∷ []))))

@@ -10,14 +10,14 @@ use Rattle.rw_write_request.specs.Message as message_specs
 use Rattle.rw_batch.specs.Grouping.{LabelledSample}
 
 -- the labels, unless a fault keeps them from being a label set
-abbrev pub unless_faulty : Option LabelFault → Labels → Option Labels
-unless_faulty None l = Some l
-unless_faulty (Some f) l = None
+abbrev pub unless_bad_labels : Option LabelFault → Labels → Option Labels
+unless_bad_labels None l = Some l
+unless_bad_labels (Some f) l = None
 
 -- labels, if they are a label set with legacy names
 abbrev pub if_label_set : Option Labels → Option Labels
 if_label_set None = None
-if_label_set (Some l) = unless_faulty (label_fault Legacy l) l
+if_label_set (Some l) = unless_bad_labels (label_fault Legacy l) l
 
 -- the label set that the last definition of a reference gives, after some entries
 unfoldable pub label_set_of : List Entry → ℕ → Option Labels
@@ -40,5 +40,5 @@ labelled_after before (e ∷ es) = labelled_of before e ++ labelled_after (befor
 
 -- the samples that have a label set, in order, each with the labels of the last definition of its
 -- reference before it
-unfoldable pub labelled : List Entry → List LabelledSample
-labelled es = labelled_after [] es
+unfoldable pub labelled_samples : List Entry → List LabelledSample
+labelled_samples es = labelled_after [] es

@@ -1,5 +1,4 @@
 pub mod Body
-pub mod Filling
 pub mod Logging
 pub mod LogText
 pub mod Planning
@@ -8,4 +7,4 @@ pub mod Taking
 pub mod Plan
 pub mod Planned
 pub mod Labelled
-pub mod Labelling
+pub mod inner

@@ -1,18 +1,16 @@
 -- Log text: the records of its lines, and the segments that they make.
-use Rattle.std.specs.Prelude.{◌≡◌, ℕ, ◌+◌, ◌<◌, List, [], ◌∷◌, ◌++◌, length, max, Bool, true, false, ◌&&◌, nat_le}
+use Rattle.std.specs.Prelude.{◌≡◌, ℕ, ◌+◌, ◌<◌, List, [], ◌∷◌, ◌++◌, length, max, Bool, true, ◌&&◌, nat_le}
 use Rattle.rw_wal_format.specs.Laws.{log_all}
 use Rattle.rw_wal_format.specs.Pieces.{page_size}
 use Rattle.rw_wal_format.specs.Writing.{log_bytes, room}
 use Rattle.rw_text.specs.RecordLines.{lines, IsRecordOf}
-use Rattle.rw_text.specs.declared.tool_fault.ToolFault.{ToolFault}
-use Rattle.rw_text.specs.declared.tool_fault.ToolFault.TheVariants as fault
 
 -- the records of lines, one after the other; an empty line has none
-abbrev pub AreRecords : List (List ℕ) → List (List ℕ) → Type 0
-AreRecords [] recs = recs ≡ []
-AreRecords ([] ∷ ls) recs = AreRecords ls recs
-AreRecords ((b ∷ bs) ∷ ls) [] = ⊥
-AreRecords ((b ∷ bs) ∷ ls) (rec ∷ recs) = IsRecordOf (b ∷ bs) rec × AreRecords ls recs
+abbrev pub AreRecordsOfLines : List (List ℕ) → List (List ℕ) → Type 0
+AreRecordsOfLines [] recs = recs ≡ []
+AreRecordsOfLines ([] ∷ ls) recs = AreRecordsOfLines ls recs
+AreRecordsOfLines ((b ∷ bs) ∷ ls) [] = ⊥
+AreRecordsOfLines ((b ∷ bs) ∷ ls) (rec ∷ recs) = IsRecordOf (b ∷ bs) rec × AreRecordsOfLines ls recs
 
 -- The line of this number, counted from 1, has no record although it is not empty, and each line
 -- before it is good.
@@ -23,7 +21,7 @@ pub record IsBadLine (text : List ℕ) (number : ℕ) : Type 0 where
   pub parts : lines text ≡ front ++ line ∷ later
   pub place : number ≡ length front + 1
   pub records : List (List ℕ)
-  pub good : AreRecords front records
+  pub good : AreRecordsOfLines front records
   pub some : 0 < length line
   pub bad : (rec : List ℕ) → IsRecordOf line rec → ⊥
 
@@ -41,21 +39,3 @@ segment_of recs = log_all page_size 0 recs
 abbrev pub longest_of : List (List ℕ) → ℕ
 longest_of [] = 0
 longest_of (rec ∷ recs) = max (length rec) (longest_of recs)
-
--- a fault of a text is that of its first bad line
-abbrev pub IsFaultOfText : List ℕ → ToolFault → Type 0
-IsFaultOfText text fault.OutOfMemory = Unit {0}
-IsFaultOfText text (fault.Line number) = IsBadLine text number
-IsFaultOfText text _ = ⊥
-
--- The records of the first lines of a text fill a segment: those of all lines, or as many as leave
--- no room for the next one.
-pub record Fills (pages : ℕ) (text segment rest : List ℕ) : Type 0 where
-  pub front : List (List ℕ)
-  pub records : List (List ℕ)
-  pub parts : lines text ≡ front ++ lines rest
-  pub good : AreRecords front records
-  pub fits : have_room pages 0 records ≡ true
-  pub bytes : segment ≡ segment_of records
-  pub full : 0 < length rest → (next : List ℕ) × (later : List (List ℕ)) × (recs : List (List ℕ))
-      × (lines rest ≡ next ∷ later) × AreRecords (next ∷ []) recs × (have_room pages (length segment) recs ≡ false)

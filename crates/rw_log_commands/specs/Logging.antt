@@ -3,7 +3,7 @@ use Rattle.std.specs.Prelude.{◌≡◌, ◌<◌, ℕ, ◌≤◌, ◌*◌, ◌-�
 use Rattle.std.specs.Io.KnownBytes.{Appends, Consumes, IsAtEnd}
 use Rattle.rw_wal_format.specs.Pieces.{page_size}
 use Rattle.rw_text.specs.RecordLines.{lines}
-use Rattle.rw_log_commands.specs.LogText.{longest_of, have_room, segment_of, AreRecords, IsBadLine}
+use Rattle.rw_log_commands.specs.LogText.{longest_of, have_room, segment_of, AreRecordsOfLines, IsBadLine}
 use Rattle.rw_log_commands.specs.Running.{output_of}
 use Rattle.rw_text.specs.declared.tool_fault.ToolFault.{ToolFault}
 use Rattle.rw_text.specs.declared.tool_fault.ToolFault.TheVariants.{OutOfMemory, Log, Line, SegmentFull, Device}
@@ -13,7 +13,7 @@ abbrev pub IsFaultOfLog : ℕ → List ℕ → ToolFault → Type 0
 IsFaultOfLog pages text OutOfMemory = Unit {0}
 IsFaultOfLog pages text (Log f) = ⊥
 IsFaultOfLog pages text (Line number) = IsBadLine text number
-IsFaultOfLog pages text SegmentFull = (recs : List (List ℕ)) × AreRecords (lines text) recs × (have_room pages 0 recs ≡ false)
+IsFaultOfLog pages text SegmentFull = (recs : List (List ℕ)) × AreRecordsOfLines (lines text) recs × (have_room pages 0 recs ≡ false)
 IsFaultOfLog pages text Device = ⊥
 
 -- log text was read to the end, and its records have room in one segment
@@ -21,7 +21,7 @@ pub record ReadsRecords (pages : ℕ) (left_before left_after : Option (List ℕ
   pub text : List ℕ
   pub read : Consumes left_before left_after text
   pub ended : IsAtEnd left_after
-  pub good : AreRecords (lines text) recs
+  pub good : AreRecordsOfLines (lines text) recs
   pub fits : have_room pages 0 recs ≡ true
 
 -- log text was read to the end, and it has this fault
@@ -30,14 +30,6 @@ pub record ReadsFaulty (pages : ℕ) (left_before left_after : Option (List ℕ)
   pub read : Consumes left_before left_after text
   pub ended : IsAtEnd left_after
   pub faulty : IsFaultOfLog pages text e
-
--- why no segment is made of what a reader has, which then has failed or not
-abbrev pub StopsLog : ℕ → Option (List ℕ) → Option (List ℕ) → Bool → ToolFault → Type 0
-StopsLog pages left_before left_after failed OutOfMemory = Unit {0}
-StopsLog pages left_before left_after failed (Log f) = ⊥
-StopsLog pages left_before left_after failed (Line number) = ReadsFaulty pages left_before left_after (Line number)
-StopsLog pages left_before left_after failed SegmentFull = ReadsFaulty pages left_before left_after SegmentFull
-StopsLog pages left_before left_after failed Device = failed ≡ true
 
 -- the segment of the records that were read was written
 abbrev pub WritesLog : Bool → ℕ → Option (List ℕ) → Option (List ℕ) → Option (List ℕ) → Option (List ℕ) → Type 0
@@ -54,16 +46,9 @@ WritesLogPart hex pages left_before left_after before after =
 -- that has no room in an empty segment
 abbrev pub IsFaultOfAny : ℕ → List ℕ → ToolFault → Type 0
 IsFaultOfAny pages text (Line number) = IsBadLine text number
-IsFaultOfAny pages text SegmentFull = (recs : List (List ℕ)) × AreRecords (lines text) recs × (pages * (page_size - 7) < longest_of recs)
+IsFaultOfAny pages text SegmentFull = (recs : List (List ℕ)) × AreRecordsOfLines (lines text) recs × (pages * (page_size - 7) < longest_of recs)
 IsFaultOfAny pages text OutOfMemory = Unit {0}
 IsFaultOfAny pages text e = ⊥
-
--- log text for segments one after the other: each line is good, and each record has room in an
--- empty segment
-pub record IsForSegments (pages : ℕ) (text : List ℕ) : Type 0 where
-  pub records : List (List ℕ)
-  pub good : AreRecords (lines text) records
-  pub fits : longest_of records ≤ pages * (page_size - 7)
 
 -- log text was read to the end, and it has this fault
 pub record ReadsAnyFault (pages : ℕ) (left_before left_after : Option (List ℕ)) (e : ToolFault) : Type 0 where

@@ -16,8 +16,8 @@ use Rattle.rw_types.specs.Gathering.{gather}
 abbrev pub bad_text : ℕ → LabelFault → List ℕ
 bad_text reference f = decimal reference ++ codes " bad " ++ decimal (label_fault_number f) ++ codes "\n"
 
-abbrev pub filtered_text : ℕ → Labels → List ℕ
-filtered_text reference l = decimal reference ++ codes " filtered " ++ labels_text l ++ codes "\n"
+abbrev pub filtered_line : ℕ → Labels → List ℕ
+filtered_line reference l = decimal reference ++ codes " filtered " ++ labels_text l ++ codes "\n"
 
 abbrev pub kept_text : ℕ → ℕ → Labels → List ℕ
 kept_text reference number l = decimal reference ++ codes " kept " ++ decimal number ++ codes " " ++ labels_text l ++ codes "\n"
@@ -26,13 +26,13 @@ kept_text reference number l = decimal reference ++ codes " kept " ++ decimal nu
 abbrev pub definition_text : List Labels → ℕ → Labels → Standing → List ℕ
 definition_text series reference labels Unknown = []
 definition_text series reference labels (Bad f) = bad_text reference f
-definition_text series reference labels Filtered = filtered_text reference labels
+definition_text series reference labels Filtered = filtered_line reference labels
 definition_text series reference labels (Kept l) = kept_text reference (number_of series l) l
 
 -- the line that an entry gives, after those before
-abbrev pub line_of : Choice → List Entry → Entry → List ℕ
-line_of choice before (Sample reference t word) = []
-line_of choice before (Def reference labels) =
+abbrev pub plan_line : Choice → List Entry → Entry → List ℕ
+plan_line choice before (Sample reference t word) = []
+plan_line choice before (Def reference labels) =
     definition_text (series_of choice (before ++ Def reference labels ∷ [])) reference labels (standing_of choice (Some labels))
 
 -- what is known of the reference of a sample, after the entries before it
@@ -41,16 +41,16 @@ standing_at choice before (Sample reference t word) = known choice before refere
 standing_at choice before (Def reference labels) = []
 
 -- the lines of the definitions
-unfoldable pub lines : Choice → List Entry → List ℕ
-lines choice es = gather (line_of choice) es
+unfoldable pub plan_lines : Choice → List Entry → List ℕ
+plan_lines choice es = gather (plan_line choice) es
 
 -- what is known of the samples, in order
 unfoldable pub standings : Choice → List Entry → List Standing
 standings choice es = gather (standing_at choice) es
 
-abbrev pub is_kept : Standing → Bool
-is_kept (Kept l) = true
-is_kept _ = false
+abbrev pub is_kept_standing : Standing → Bool
+is_kept_standing (Kept l) = true
+is_kept_standing _ = false
 
 abbrev pub is_filtered : Standing → Bool
 is_filtered Filtered = true
@@ -67,7 +67,7 @@ is_unknown _ = false
 -- how many samples there are of each kind
 unfoldable pub counts_of : List Standing → SampleCounts
 counts_of standings = record {
-  kept = count_by is_kept standings;
+  kept = count_by is_kept_standing standings;
   filtered = count_by is_filtered standings;
   bad = count_by is_bad standings;
   noseries = count_by is_unknown standings;
@@ -85,7 +85,7 @@ counts_text c =
 
 -- the plan of some entries
 unfoldable pub plan_text : Choice → List Entry → List ℕ
-plan_text choice es = lines choice es ++ counts_text (counts_of (standings choice es))
+plan_text choice es = plan_lines choice es ++ counts_text (counts_of (standings choice es))
 
 -- the plan of a segment
 abbrev pub plan_of : Choice → List ℕ → List ℕ

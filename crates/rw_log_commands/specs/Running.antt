@@ -5,15 +5,14 @@ use Rattle.rw_wal_format.specs.Pieces.{bytes, fault}
 use Rattle.rw_wal_format.specs.declared.tail_fault.TailFault.{TailFault}
 use Rattle.rw_wal_format.specs.declared.tail_fault.TailFault.TheVariants as tail
 use Rattle.rw_text.specs.HexText.{hex_text, read_text}
-use Rattle.rw_log_commands.specs.Body.{body_of}
+use Rattle.rw_log_commands.specs.Body.{body_of_segment}
 use Rattle.rw_log_commands.specs.Taking.{ReadsToFault}
-use Rattle.rw_text.specs.declared.tool_fault.ToolFault.{ToolFault}
-use Rattle.rw_text.specs.declared.tool_fault.ToolFault.TheVariants.{OutOfMemory, Log, Line, SegmentFull, Device}
+use Rattle.rw_text.specs.declared.tool_fault.ToolFault.TheVariants.{OutOfMemory}
 
 -- the bytes that an input stands for, which may be hexadecimal text
-abbrev pub StandsFor : Bool → List ℕ → List ℕ → Type 0
-StandsFor false input segment = input ≡ segment
-StandsFor true input segment = read_text input ≡ Ok segment
+abbrev pub IsInputFor : Bool → List ℕ → List ℕ → Type 0
+IsInputFor false input segment = input ≡ segment
+IsInputFor true input segment = read_text input ≡ Ok segment
 
 -- what is written of a text: hexadecimal text with a newline at its end, or the bytes alone
 abbrev pub output_of : Bool → List ℕ → List ℕ
@@ -25,19 +24,19 @@ pub record ReadsInput (hex : Bool) (has : Option TailFault) (left_before left_af
   pub input : List ℕ
   pub read : Consumes left_before left_after input
   pub ended : IsAtEnd left_after
-  pub stands : StandsFor hex input segment
+  pub stands : IsInputFor hex input segment
   pub faulty : fault (bytes segment ∷ []) ≡ has
 
 -- an input was read whose segment has no fault, and the segment's body was written
 abbrev pub WritesBody : Bool → Option (List ℕ) → Option (List ℕ) → Option (List ℕ) → Option (List ℕ) → Type 0
 WritesBody hex left_before left_after before after =
-    (segment : List ℕ) × ReadsInput hex None left_before left_after segment × Appends before after (output_of hex (body_of segment))
+    (segment : List ℕ) × ReadsInput hex None left_before left_after segment × Appends before after (output_of hex (body_of_segment segment))
 
 -- the same, and a prefix of its body was written
 abbrev pub WritesPart : Bool → Option (List ℕ) → Option (List ℕ) → Option (List ℕ) → Option (List ℕ) → Type 0
 WritesPart hex left_before left_after before after =
     (segment : List ℕ) × ReadsInput hex None left_before left_after segment
-    × ((n : ℕ) × (n ≤ length (output_of hex (body_of segment))) × Appends before after (take n (output_of hex (body_of segment))))
+    × ((n : ℕ) × (n ≤ length (output_of hex (body_of_segment segment))) × Appends before after (take n (output_of hex (body_of_segment segment))))
 
 -- The log has this fault. Bytes are read up to it, and hexadecimal text to its end.
 abbrev pub ReadsFault : Bool → TailFault → Option (List ℕ) → Option (List ℕ) → Type 0
@@ -48,11 +47,3 @@ ReadsFault true f left_before left_after = (f ≢ tail.OutOfMemory) × ((segment
 abbrev pub ReadsLine : Bool → ℕ → Option (List ℕ) → Option (List ℕ) → Type 0
 ReadsLine false line left_before left_after = ⊥
 ReadsLine true line left_before left_after = (text : List ℕ) × Consumes left_before left_after text × IsAtEnd left_after × (read_text text ≡ Err line)
-
--- why an input's segment is not read, by a reader that then has failed or not
-abbrev pub StopsInput : Bool → Option (List ℕ) → Option (List ℕ) → Bool → ToolFault → Type 0
-StopsInput hex left_before left_after failed OutOfMemory = Unit {0}
-StopsInput hex left_before left_after failed (Log f) = ReadsFault hex f left_before left_after
-StopsInput hex left_before left_after failed (Line line) = ReadsLine hex line left_before left_after
-StopsInput hex left_before left_after failed SegmentFull = ⊥
-StopsInput hex left_before left_after failed Device = failed ≡ true

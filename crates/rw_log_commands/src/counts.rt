@@ -3,7 +3,7 @@
 ghost use Rattle.std.specs.Prelude.{◌≡◌, ◌+◌, ◌++◌, IfOk, OnOk};
 ghost use Rattle.rw_series_cache.specs.Found.{standing_in};
 ghost use Rattle.rw_log_commands.specs.Plan.{count_text, counts_text};
-ghost use Rattle.rw_log_commands.specs.Planned.{with_sample};
+ghost use Rattle.rw_log_commands.specs.inner.Planned.{with_sample};
 
 use rw_series_cache::Known;
 use rw_text::push_number;

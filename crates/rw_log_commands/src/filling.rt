@@ -1,9 +1,10 @@
 //! Segments of records in memory.
 
 ghost use Rattle.std.specs.Prelude.{◌≡◌, ◌<◌, ◌≤◌, ℕ, List, [], ◌∷◌, true, false, IfOk, MatchBool};
-ghost use Rattle.rw_log_commands.specs.Filling.{HasMemory, TakesRecords};
+ghost use Rattle.rw_log_commands.specs.inner.Filling.{HasMemory, TakesRecords};
 ghost use Rattle.rw_text.specs.RecordLines.{lines};
-ghost use Rattle.rw_log_commands.specs.LogText.{have_room, AreRecords, Fills};
+ghost use Rattle.rw_log_commands.specs.LogText.{have_room, AreRecordsOfLines};
+ghost use Rattle.rw_log_commands.specs.inner.LogText.{Fills};
 
 use rw_text::{TextFault, first_line, read_record};
 use rw_types::Room;
@@ -17,9 +18,9 @@ fn log_line(
     writer: &mut SegmentWriter<Room>,
     line: &[u8],
 ) -> Result<bool, AllocError>
-    requires good { (recs : List (List ℕ)) × AreRecords (line.now ∷ []) recs }
+    requires good { (recs : List (List ℕ)) × AreRecordsOfLines (line.now ∷ []) recs }
     requires memory { HasMemory writer.old }
-    ensures { IfOk result (λ took. (recs : List (List ℕ)) × AreRecords (line.now ∷ []) recs
+    ensures { IfOk result (λ took. (recs : List (List ℕ)) × AreRecordsOfLines (line.now ∷ []) recs
         × MatchBool took (TakesRecords writer.old writer.new recs)
         ((writer.new ≡ writer.old) × (have_room writer.old.pages writer.old.offset recs ≡ false))) }
 {
@@ -69,7 +70,7 @@ fn end_filling(writer: SegmentWriter<Room>, rest: &[u8]) -> Filled<'_>
 pub(crate) fn fill(alloc: Global, text: &[u8], pages: usize) -> Result<Filled<'_>, AllocError>
     requires some { 1 ≤ pages }
     requires most { pages ≤ 4096 }
-    requires good { (recs : List (List ℕ)) × AreRecords (lines text.now) recs }
+    requires good { (recs : List (List ℕ)) × AreRecordsOfLines (lines text.now) recs }
     ensures { IfOk result (λ f. Fills pages text.now f.segment.items f.rest.now) }
 {
     let mut writer = new_segment(alloc, pages)?;

@@ -2,7 +2,7 @@
 
 ghost use Rattle.std.specs.Prelude.{◌≡◌, ◌∷◌, ◌++◌, [], OnOk};
 ghost use Rattle.rw_batch.specs.Grouping.{message};
-ghost use Rattle.rw_log_commands.specs.Labelled.{labelled};
+ghost use Rattle.rw_log_commands.specs.Labelled.{labelled_samples};
 
 use rw_batch::Grouping;
 use rw_history::History;
@@ -26,7 +26,7 @@ pub struct Labelling {
 impl Model for Labelling {
     ghost use Rattle.std.specs.Prelude.{List};
     ghost use Rattle.rw_types.specs.declared.entry.Entry.{Entry};
-    ghost use Rattle.rw_log_commands.specs.Labelling.{IsLabelling};
+    ghost use Rattle.rw_log_commands.specs.inner.Labelling.{IsLabelling};
 
     ghost Value = { List Entry };
 
@@ -49,7 +49,7 @@ impl Labelling {
 
     /// Returns the message of the samples that have a label set.
     pub fn into_message(self) -> Message
-        ensures { result ≡ message (labelled self) }
+        ensures { result ≡ message (labelled_samples self) }
     {
         let Labelling {
             taken: _,

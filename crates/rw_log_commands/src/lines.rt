@@ -1,8 +1,8 @@
 //! The lines of definitions.
 
 ghost use Rattle.std.specs.Prelude.{◌≡◌, ◌++◌, OnOk};
-ghost use Rattle.rw_log_commands.specs.Plan.{bad_text, filtered_text, kept_text};
-ghost use Rattle.rw_log_commands.specs.Planned.{found_text};
+ghost use Rattle.rw_log_commands.specs.Plan.{bad_text, filtered_line, kept_text};
+ghost use Rattle.rw_log_commands.specs.inner.Planned.{found_text};
 
 use rw_series_cache::Known;
 use rw_text::{push_labels, push_number};
@@ -25,7 +25,7 @@ pub(crate) fn push_bad(
 
 /// Adds the line of a definition that the rules drop.
 fn push_filtered(out: &mut Vec<u8>, reference: u64, labels: &LabelSet) -> Result<(), AllocError>
-    ensures { OnOk result (out.new.items ≡ out.old.items ++ filtered_text reference labels.now) }
+    ensures { OnOk result (out.new.items ≡ out.old.items ++ filtered_line reference labels.now) }
 {
     push_number(out, reference)?;
     out.extend_from_slice(b" filtered ")?;

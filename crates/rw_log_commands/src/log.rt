@@ -2,8 +2,9 @@
 
 ghost use Rattle.std.specs.Prelude.{◌≡◌, ◌≢◌, ◌⊎◌, ◌≤◌, ℕ, List, true, false, Err, IfOk, OnOk, IfErr};
 ghost use Rattle.rw_text.specs.RecordLines.{lines};
-ghost use Rattle.rw_log_commands.specs.LogText.{have_room, segment_of, AreRecords};
-ghost use Rattle.rw_log_commands.specs.Logging.{IsFaultOfAny, IsFaultOfLog, IsForSegments, ReadsAnyFault, ReadsRecords, ReadsFaulty, StopsLog, WritesLog, WritesLogPart};
+ghost use Rattle.rw_log_commands.specs.LogText.{have_room, segment_of, AreRecordsOfLines};
+ghost use Rattle.rw_log_commands.specs.Logging.{IsFaultOfAny, IsFaultOfLog, ReadsAnyFault, ReadsRecords, ReadsFaulty, WritesLog, WritesLogPart};
+ghost use Rattle.rw_log_commands.specs.inner.Logging.{IsForSegments, StopsLog};
 ghost use Rattle.rw_wal_format.specs.declared.tail_fault.TailFault.{TailFault};
 ghost use Rattle.rw_text.specs.declared.tool_fault.ToolFault.TheVariants.{OutOfMemory, Log, Line, SegmentFull, Device};
 
@@ -27,7 +28,7 @@ const MAX_SEGMENTS: u32 = 100_000_000;
 fn one_segment(alloc: Global, text: &[u8], pages: usize) -> Result<Vec<u8>, ToolFault>
     requires some { 1 ≤ pages }
     requires most { pages ≤ 4096 }
-    ensures ok { IfOk result (λ v. (recs : List (List ℕ)) × AreRecords (lines text.now) recs
+    ensures ok { IfOk result (λ v. (recs : List (List ℕ)) × AreRecordsOfLines (lines text.now) recs
         × ((have_room pages 0 recs ≡ true) × (v.items ≡ segment_of recs))) }
     ensures err { IfErr result (IsFaultOfLog pages text.now) }
 {

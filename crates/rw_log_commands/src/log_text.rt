@@ -2,14 +2,15 @@
 
 ghost use Rattle.std.specs.Prelude.{◌≡◌, ◌<◌, ℕ, List, [], ◌∷◌, length, Err, IfOk, IfErr};
 ghost use Rattle.rw_text.specs.RecordLines.{lines, IsRecordOf};
-ghost use Rattle.rw_log_commands.specs.LogText.{longest_of, AreRecords, IsFaultOfText};
+ghost use Rattle.rw_log_commands.specs.LogText.{longest_of, AreRecordsOfLines};
+ghost use Rattle.rw_log_commands.specs.inner.LogText.{IsFaultOfText};
 
 use rw_text::{TextFault, ToolFault, first_line, read_record};
 use std::alloc::Global;
 
 /// Returns the length of the record of a line; 0 for an empty line, which has none.
 fn record_len(alloc: Global, line: &[u8]) -> Result<usize, TextFault>
-    ensures ok { IfOk result (λ len. (recs : List (List ℕ)) × AreRecords (line.now ∷ []) recs
+    ensures ok { IfOk result (λ len. (recs : List (List ℕ)) × AreRecordsOfLines (line.now ∷ []) recs
         × (len ≡ longest_of recs)) }
     ensures err { result ≡ Err TextFault.NotOfForm → (0 < length line.now)
         × ((rec : List ℕ) → IsRecordOf line.now rec → ⊥) }
@@ -23,7 +24,7 @@ fn record_len(alloc: Global, line: &[u8]) -> Result<usize, TextFault>
 
 /// Judges each line of a text, and returns the length of the longest record.
 pub(crate) fn judge(alloc: Global, text: &[u8]) -> Result<usize, ToolFault>
-    ensures ok { IfOk result (λ longest. (recs : List (List ℕ)) × AreRecords (lines text.now) recs
+    ensures ok { IfOk result (λ longest. (recs : List (List ℕ)) × AreRecordsOfLines (lines text.now) recs
         × (longest ≡ longest_of recs)) }
     ensures err { IfErr result (IsFaultOfText text.now) }
 {

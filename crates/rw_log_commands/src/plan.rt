@@ -5,8 +5,9 @@ ghost use Rattle.rw_wal_format.specs.declared.tail_fault.TailFault.{TailFault};
 ghost use Rattle.rw_log_commands.specs.Plan.{plan_of};
 ghost use Rattle.rw_shard_core.specs.Configs.{choice_of};
 ghost use Rattle.rw_log_commands.specs.Planning.{WritesPlan, WritesPlanPart};
-ghost use Rattle.rw_log_commands.specs.Running.{ReadsInput, ReadsFault, ReadsLine, StopsInput};
-ghost use Rattle.rw_log_commands.specs.Taking.{ReadsSegment, StopsReading};
+ghost use Rattle.rw_log_commands.specs.Running.{ReadsInput, ReadsFault, ReadsLine};
+ghost use Rattle.rw_log_commands.specs.inner.Running.{StopsInput};
+ghost use Rattle.rw_log_commands.specs.inner.Taking.{ReadsSegment, StopsReading};
 ghost use Rattle.rw_text.specs.declared.tool_fault.ToolFault.TheVariants.{Log, Line, SegmentFull, Device};
 
 use crate::planner::Planner;

@@ -3,8 +3,8 @@
 ghost use Rattle.std.specs.Prelude.{◌≡◌, [], ◌∷◌, ◌++◌, List, false, true, IfOk, OnOk, OnErr};
 ghost use Rattle.rw_types.specs.declared.entry.Entry.{Entry};
 ghost use Rattle.rw_series_cache.specs.Known.{known, definitions_of};
-ghost use Rattle.rw_log_commands.specs.Plan.{line_of, plan_text};
-ghost use Rattle.rw_log_commands.specs.Planned.{with_sample};
+ghost use Rattle.rw_log_commands.specs.Plan.{plan_line, plan_text};
+ghost use Rattle.rw_log_commands.specs.inner.Planned.{with_sample};
 
 use crate::counts::SampleCounts;
 use crate::lines::{push_bad, push_found};
@@ -29,7 +29,8 @@ pub struct Planner {
 
 impl Model for Planner {
     ghost use Rattle.std.specs.Prelude.{◌≡◌, false};
-    ghost use Rattle.rw_log_commands.specs.Planned.{Planned, IsPlanned};
+    ghost use Rattle.rw_log_commands.specs.Planned.{Planned};
+    ghost use Rattle.rw_log_commands.specs.inner.Planned.{IsPlanned};
 
     ghost Value = { Planned };
 
@@ -59,7 +60,7 @@ fn define(
     ensures lines { (entries : List Entry) → definitions_of entries ≡ cache.old.definitions
         → OnOk result
         (lines.new.items
-        ≡ lines.old.items ++ line_of cache.old.choice entries (Entry.Def reference labels)) }
+        ≡ lines.old.items ++ plan_line cache.old.choice entries (Entry.Def reference labels)) }
 {
     match LabelSet::check_as(alloc, cache.names(), &labels) {
         Ok(set) => {

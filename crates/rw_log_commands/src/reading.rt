@@ -6,7 +6,7 @@ ghost use Rattle.rw_types.specs.declared.entry.Entry.{Entry};
 ghost use Rattle.rw_wal_format.specs.Pieces.{bytes, entries};
 ghost use Rattle.rw_relabel.specs.declared.choice.Choice.{Choice};
 ghost use Rattle.rw_wal_tail.specs.Taking.{HasTaken, HasTakenAll};
-ghost use Rattle.rw_log_commands.specs.Taking.{IsFaultOf, FeedsMore, ReadsSegment, StopsReading};
+ghost use Rattle.rw_log_commands.specs.inner.Taking.{IsFaultOf, FeedsMore, ReadsSegment, StopsReading};
 ghost use Rattle.rw_text.specs.declared.tool_fault.ToolFault.TheVariants.{OutOfMemory, Device};
 
 use rw_text::ToolFault;

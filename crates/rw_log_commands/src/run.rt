@@ -4,9 +4,10 @@ ghost use Rattle.std.specs.Prelude.{◌≡◌, ◌≢◌, ◌⊎◌, ℕ, List, 
 ghost use Rattle.std.specs.Io.KnownBytes.{Consumes, IsAtEnd};
 ghost use Rattle.rw_wal_format.specs.declared.tail_fault.TailFault.{TailFault};
 ghost use Rattle.rw_text.specs.declared.tool_fault.ToolFault.TheVariants.{OutOfMemory, Log, Line, SegmentFull, Device};
-ghost use Rattle.rw_log_commands.specs.Body.{body_of};
-ghost use Rattle.rw_log_commands.specs.Taking.{ReadsSegment, StopsReading};
-ghost use Rattle.rw_log_commands.specs.Running.{output_of, ReadsInput, WritesBody, WritesPart, ReadsFault, ReadsLine, StopsInput};
+ghost use Rattle.rw_log_commands.specs.Body.{body_of_segment};
+ghost use Rattle.rw_log_commands.specs.inner.Taking.{ReadsSegment, StopsReading};
+ghost use Rattle.rw_log_commands.specs.Running.{output_of, ReadsInput, WritesBody, WritesPart, ReadsFault, ReadsLine};
+ghost use Rattle.rw_log_commands.specs.inner.Running.{StopsInput};
 
 use crate::labelling::Labelling;
 use crate::reading::{Taker, read_segment};
@@ -46,7 +47,7 @@ pub(crate) fn read_input<R: Source>(alloc: Global, reader: &mut R) -> Result<Vec
 fn read_body<R: Source>(alloc: Global, reader: &mut R) -> Result<Vec<u8>, ToolFault>
     ensures ok { IfOk result (λ v. (segment : List ℕ)
         × ReadsSegment None (R.remaining reader.old) (R.remaining reader.new) segment
-        × (v.items ≡ body_of segment)) }
+        × (v.items ≡ body_of_segment segment)) }
     ensures sound { OnOk result (R.has_failed reader.new ≡ false) }
     ensures err { IfErr result
         (StopsReading (R.remaining reader.old) (R.remaining reader.new) (R.has_failed reader.new)) }
@@ -59,7 +60,7 @@ fn read_body<R: Source>(alloc: Global, reader: &mut R) -> Result<Vec<u8>, ToolFa
 fn read_hex_body<R: Source>(alloc: Global, reader: &mut R) -> Result<Vec<u8>, ToolFault>
     ensures ok { IfOk result (λ v. (segment : List ℕ)
         × ReadsInput true None (R.remaining reader.old) (R.remaining reader.new) segment
-        × (v.items ≡ body_of segment)) }
+        × (v.items ≡ body_of_segment segment)) }
     ensures sound { OnOk result (R.has_failed reader.new ≡ false) }
     ensures err { IfErr result
         (StopsInput true (R.remaining reader.old) (R.remaining reader.new)

@@ -12,9 +12,11 @@ use Rattle.std.proofs.lemmas.List.{drop_more}
 use Rattle.std.proofs.lemmas.List.Sorted.{All-permutation, list_any-IsPermutation, IsNonDecreasingBy-from_sort}
 use Rattle.rw_log_folder.specs.declared.listing.Name.{Name}
 use Rattle.std.specs.declared.result.Result.{Result}
+use Rattle.std.proofs.lemmas.Bool.{or_right}
 use Rattle.rw_log_folder.specs.declared.order.OrderFault.{OrderFault}
 use Rattle.rw_log_folder.specs.declared.order.OrderFault.TheVariants.{OutOfMemory, Missing}
-use Rattle.rw_log_folder.specs.Order.{comes_before, is_above, has_number, has_above, AreByNumber, IsGap, IsWhole, gap_after}
+use Rattle.rw_log_folder.specs.Order.{comes_before, is_after_checkpoint, has_number, has_above, AreByNumber, IsGap, HasNoGap}
+use Rattle.rw_log_folder.specs.inner.Order.{gap_after}
 
 abbrev number : Name → ℕ
 number s = s.number
@@ -50,10 +52,6 @@ less a b h = grind (arith, nat_tests)
 
 no_less : (a b : ℕ) → ltb a b ≡ false → ltb b a ≡ false → a ≡ b
 no_less a b h k = grind (arith, nat_tests)
-
-or_right : (a b : Bool) → b ≡ true → (a || b) ≡ true
-or_right true b h = refl
-or_right false b h = h
 
 or_unless : (a b : Bool) → (a ≡ false → b ≡ true) → (a || b) ≡ true
 or_unless true b h = refl
@@ -101,11 +99,11 @@ gap-some m n (s ∷ ss) up low e = by_test (ltb (m + 1) s.number) refl (gap-some
     by_test true far on e = subst (IsGap m (s ∷ ss)) (ap or_zero e) (gap_here m s ss up far)
     by_test false near on e = gap_past m n s ss (All-head (λ (t : Name). m ≤ t.number) s ss low) near (on e)
 
-pub gap-none : (m : ℕ) (ns : List Name) → IsNonDecreasingBy number ns → gap_after m ns ≡ None → IsWhole m ns
+pub gap-none : (m : ℕ) (ns : List Name) → IsNonDecreasingBy number ns → gap_after m ns ≡ None → HasNoGap m ns
 gap-none m [] up e k lk later = absurd (true≢false (sym later))
 gap-none m (s ∷ ss) up e k lk later = by_test (ltb (m + 1) s.number) refl (λ rest. gap-none s.number ss (tail_up s ss up) rest) e
   where
-    by_test : (b : Bool) → ltb (m + 1) s.number ≡ b → (gap_after s.number ss ≡ None → IsWhole s.number ss) → cond b (Some (m + 1)) (gap_after s.number ss) ≡ None → has_number (s ∷ ss) k ≡ true
+    by_test : (b : Bool) → ltb (m + 1) s.number ≡ b → (gap_after s.number ss ≡ None → HasNoGap s.number ss) → cond b (Some (m + 1)) (gap_after s.number ss) ≡ None → has_number (s ∷ ss) k ≡ true
     by_test true far on e = absurd cc
     by_test false near on e = or_unless (s.number == k) (has_number ss k) (λ ne.
         let past : s.number < k = beyond m k s.number near ne lk in
@@ -149,7 +147,7 @@ module _ (xs ys : List Name) (same : IsPermutation xs ys) where
   number_moved k = list_any-IsPermutation (λ (s : Name). s.number == k) xs ys same
 
   above_moved : (k : ℕ) → has_above xs k ≡ has_above ys k
-  above_moved k = list_any-IsPermutation (is_above k) xs ys same
+  above_moved k = list_any-IsPermutation (is_after_checkpoint k) xs ys same
 
   gap_there : (m n : ℕ) → IsGap m xs n → IsGap m ys n
   gap_there m n is = record {
@@ -167,7 +165,7 @@ module _ (xs ys : List Name) (same : IsPermutation xs ys) where
     least = λ k low high. number_moved k ∙ is.least k low high;
   }
 
-  whole_back : (m : ℕ) → IsWhole m ys → IsWhole m xs
+  whole_back : (m : ℕ) → HasNoGap m ys → HasNoGap m xs
   whole_back m is k low later = number_moved k ∙ is k low (sym (above_moved k) ∙ later)
 
 -- ---- of the segments above a number
@@ -179,48 +177,48 @@ number_missing (Ok x) = 0
 number_missing (Err OutOfMemory) = 0
 number_missing (Err (Missing n)) = n
 
-module _ (m : ℕ) (names sorted : List Name) (up : AreByNumber (filter (is_above m) names) sorted) where
+module _ (m : ℕ) (names sorted : List Name) (up : AreByNumber (filter (is_after_checkpoint m) names) sorted) where
   rise : IsNonDecreasingBy number sorted
   rise = numbers_rise sorted up.1
 
   all_low : All (λ (t : Name). m ≤ t.number) sorted
-  all_low = All-permutation (λ (t : Name). m ≤ t.number) (filter (is_above m) names) sorted up.0
-      (All-weaker (λ (t : Name). is_above m t ≡ true) (λ (t : Name). m ≤ t.number) (λ t h. weaker m t.number (less m t.number h)) (filter (is_above m) names) (filter_passes (is_above m) names))
+  all_low = All-permutation (λ (t : Name). m ≤ t.number) (filter (is_after_checkpoint m) names) sorted up.0
+      (All-weaker (λ (t : Name). is_after_checkpoint m t ≡ true) (λ (t : Name). m ≤ t.number) (λ t h. weaker m t.number (less m t.number h)) (filter (is_after_checkpoint m) names) (filter_passes (is_after_checkpoint m) names))
     where
       weaker : (a b : ℕ) → a < b → a ≤ b
       weaker a b h = omega arith
 
-  pub IsGap-found : (n : ℕ) → gap_after m sorted ≡ Some n → IsGap m (filter (is_above m) names) n
-  IsGap-found n e = gap_back (filter (is_above m) names) sorted up.0 m n (gap-some m n sorted rise all_low e)
+  pub IsGap-found : (n : ℕ) → gap_after m sorted ≡ Some n → IsGap m (filter (is_after_checkpoint m) names) n
+  IsGap-found n e = gap_back (filter (is_after_checkpoint m) names) sorted up.0 m n (gap-some m n sorted rise all_low e)
 
-  pub gap-found : (n : ℕ) → IsGap m (filter (is_above m) names) n → gap_after m sorted ≡ Some n
-  gap-found n is = gap-is m n sorted rise all_low (gap_there (filter (is_above m) names) sorted up.0 m n is)
+  pub gap-found : (n : ℕ) → IsGap m (filter (is_after_checkpoint m) names) n → gap_after m sorted ≡ Some n
+  gap-found n is = gap-is m n sorted rise all_low (gap_there (filter (is_after_checkpoint m) names) sorted up.0 m n is)
 
   -- what the walk found is what a fault says
-  pub missing_here : {X : Type 0} (a : ℕ) → gap_after m sorted ≡ Some a → (n : ℕ) → fault_of {X = X} a ≡ fault_of n ↔ IsGap m (filter (is_above m) names) n
+  pub missing_here : {X : Type 0} (a : ℕ) → gap_after m sorted ≡ Some a → (n : ℕ) → fault_of {X = X} a ≡ fault_of n ↔ IsGap m (filter (is_after_checkpoint m) names) n
   missing_here a e n = (
-    λ same. subst (IsGap m (filter (is_above m) names)) (ap number_missing same) (IsGap-found a e),
+    λ same. subst (IsGap m (filter (is_after_checkpoint m) names)) (ap number_missing same) (IsGap-found a e),
     λ is. ap fault_of (ap or_zero (sym e ∙ gap-found n is)),
   )
 
   -- and what found nothing has another answer
-  missing_nowhere : {X : Type 0} (r : Result X OrderFault) → gap_after m sorted ≡ None → ((n : ℕ) → r ≡ fault_of n → ⊥) → (n : ℕ) → r ≡ fault_of n ↔ IsGap m (filter (is_above m) names) n
+  missing_nowhere : {X : Type 0} (r : Result X OrderFault) → gap_after m sorted ≡ None → ((n : ℕ) → r ≡ fault_of n → ⊥) → (n : ℕ) → r ≡ fault_of n ↔ IsGap m (filter (is_after_checkpoint m) names) n
   missing_nowhere r e never n = (λ same. absurd (never n same), λ is. absurd (nothing n (sym e ∙ gap-found n is)))
     where
       nothing : (n : ℕ) → None ≡ Some n → ⊥
       nothing n same = cc
 
-  pub missing_ok : {X : Type 0} (x : X) → gap_after m sorted ≡ None → (n : ℕ) → Ok x ≡ fault_of n ↔ IsGap m (filter (is_above m) names) n
+  pub missing_ok : {X : Type 0} (x : X) → gap_after m sorted ≡ None → (n : ℕ) → Ok x ≡ fault_of n ↔ IsGap m (filter (is_after_checkpoint m) names) n
   missing_ok {X} x e = missing_nowhere {X = X} (Ok x) e never
     where
       never : (n : ℕ) → Ok x ≡ fault_of {X = X} n → ⊥
       never n same = cc
 
-  pub missing_full : {X : Type 0} → gap_after m sorted ≡ None → (n : ℕ) → Err OutOfMemory ≡ fault_of {X = X} n ↔ IsGap m (filter (is_above m) names) n
+  pub missing_full : {X : Type 0} → gap_after m sorted ≡ None → (n : ℕ) → Err OutOfMemory ≡ fault_of {X = X} n ↔ IsGap m (filter (is_after_checkpoint m) names) n
   missing_full {X} e = missing_nowhere {X = X} (Err OutOfMemory) e never
     where
       never : (n : ℕ) → Err OutOfMemory ≡ fault_of {X = X} n → ⊥
       never n same = cc
 
-  pub IsWhole-found : gap_after m sorted ≡ None → IsWhole m (filter (is_above m) names)
-  IsWhole-found e = whole_back (filter (is_above m) names) sorted up.0 m (gap-none m sorted rise e)
+  pub IsWhole-found : gap_after m sorted ≡ None → HasNoGap m (filter (is_after_checkpoint m) names)
+  IsWhole-found e = whole_back (filter (is_after_checkpoint m) names) sorted up.0 m (gap-none m sorted rise e)

@@ -1,5 +1,5 @@
 -- Which files of a log are read, and in which order.
-use Rattle.std.specs.Prelude.{◌≡◌, ℕ, ◌+◌, ◌<◌, ◌≤◌, ltb, ◌==◌, Bool, true, false, if◌then◌else◌, List, [], ◌∷◌, ◌++◌, map, Option, None, Some}
+use Rattle.std.specs.Prelude.{◌≡◌, ℕ, ◌+◌, ◌<◌, ◌≤◌, ltb, ◌==◌, Bool, true, false, List, [], ◌++◌, map, Option, None, Some}
 use Rattle.std.specs.List.{All, Contains, filter, list_any}
 use Rattle.std.specs.List.Sorted.{IsPermutation, IsSortedBy}
 use Rattle.std.specs.Ordering.{is_lt, nat_cmp, ordering_then}
@@ -26,8 +26,8 @@ abbrev pub place_in : Option Name → Name → Place
 place_in checkpoint segment = record { checkpoint = checkpoint; segment = segment }
 
 -- the segment comes after a checkpoint of this number
-abbrev pub is_above : ℕ → Name → Bool
-is_above number segment = ltb number segment.number
+abbrev pub is_after_checkpoint : ℕ → Name → Bool
+is_after_checkpoint number segment = ltb number segment.number
 
 -- a segment of this number exists
 abbrev pub has_number : List Name → ℕ → Bool
@@ -35,7 +35,7 @@ has_number segments n = list_any (λ (s : Name). s.number == n) segments
 
 -- a segment of a greater number exists
 abbrev pub has_above : List Name → ℕ → Bool
-has_above segments n = list_any (is_above n) segments
+has_above segments n = list_any (is_after_checkpoint n) segments
 
 -- n is the least number above `last` that is missing although a greater one exists
 pub record IsGap (last : ℕ) (segments : List Name) (n : ℕ) : Type 0 where
@@ -45,14 +45,9 @@ pub record IsGap (last : ℕ) (segments : List Name) (n : ℕ) : Type 0 where
   pub least : (k : ℕ) → last < k → k < n → has_number segments k ≡ true
 
 -- no number above `last` is missing before one that exists
-abbrev pub IsWhole : ℕ → List Name → Type 0
-IsWhole last segments =
+abbrev pub HasNoGap : ℕ → List Name → Type 0
+HasNoGap last segments =
     (k : ℕ) → last < k → has_above segments k ≡ true → has_number segments k ≡ true
-
--- the same by a walk over segments in order
-abbrev pub gap_after : ℕ → List Name → Option ℕ
-gap_after last [] = None
-gap_after last (s ∷ ss) = if ltb (last + 1) s.number then Some (last + 1) else gap_after s.number ss
 
 -- the files of a log that is read from this checkpoint on: its segments by ascending number, and
 -- then those of the folder with greater numbers than the checkpoint's, none missing between
@@ -60,8 +55,8 @@ pub record IsReadFrom (checkpoint : Checkpoint) (segments : List Name) (places :
   pub first : List Name
   pub then_ : List Name
   pub first_sorted : AreByNumber checkpoint.segments.items first
-  pub then_sorted : AreByNumber (filter (is_above checkpoint.name.number) segments) then_
-  pub whole : IsWhole checkpoint.name.number (filter (is_above checkpoint.name.number) segments)
+  pub then_sorted : AreByNumber (filter (is_after_checkpoint checkpoint.name.number) segments) then_
+  pub whole : HasNoGap checkpoint.name.number (filter (is_after_checkpoint checkpoint.name.number) segments)
   pub is : places ≡ map (place_in (Some checkpoint.name)) first ++ map (place_in None) then_
 
 -- the files of a log: from a checkpoint on, or, without one, all segments by ascending number
@@ -78,4 +73,4 @@ IsLogOrder listing places = (newest : Option Checkpoint)
 -- the least number that is missing after the newest checkpoint although a greater one exists
 abbrev pub IsMissing : Listing → ℕ → Type 0
 IsMissing listing n = (checkpoint : Checkpoint) × IsNewest listing.checkpoints.items (Some checkpoint)
-    × IsGap checkpoint.name.number (filter (is_above checkpoint.name.number) listing.segments.items) n
+    × IsGap checkpoint.name.number (filter (is_after_checkpoint checkpoint.name.number) listing.segments.items) n

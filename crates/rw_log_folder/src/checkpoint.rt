@@ -1,7 +1,7 @@
 //! The files of a log in a folder, from its newest checkpoint on.
 
 ghost use Rattle.std.specs.Prelude.{IfSome};
-ghost use Rattle.rw_log_folder.specs.Folders.{IsCheckpointName, IsNameOf};
+ghost use Rattle.rw_log_folder.specs.inner.Folders.{IsCheckpointName, IsNameOf};
 
 use crate::files::{
     SegmentFile, SegmentName, count_bytes, fault_of, file_of, number_of, push_unreadable,

@@ -2,7 +2,8 @@
 
 ghost use Rattle.std.specs.Prelude.{◌≡◌, ◌<◌, ◌^◌, ℕ, IfOk, MatchOption, string_bytes};
 ghost use Rattle.std.specs.List.Sorted.{IsPermutation, IsSortedBy};
-ghost use Rattle.rw_log_folder.specs.Folders.{IsNameOf, comes_before};
+ghost use Rattle.rw_log_folder.specs.Folders.{comes_before};
+ghost use Rattle.rw_log_folder.specs.inner.Folders.{IsNameOf};
 
 use crate::opened::{Open, Opened};
 use rw_metrics::SendCounters;

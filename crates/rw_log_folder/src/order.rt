@@ -2,7 +2,8 @@
 
 ghost use Rattle.std.specs.Prelude.{◌≡◌, ◌↔◌, ◌++◌, ℕ, None, Some, Err, IfOk, OnOk, map};
 ghost use Rattle.std.specs.List.{filter};
-ghost use Rattle.rw_log_folder.specs.Order.{AreByNumber, IsGap, IsNewest, IsLogOrder, IsMissing, IsReadAfter, IsReadFrom, gap_after, is_above, place_in};
+ghost use Rattle.rw_log_folder.specs.Order.{AreByNumber, IsGap, IsNewest, IsLogOrder, IsMissing, IsReadAfter, IsReadFrom, is_after_checkpoint, place_in};
+ghost use Rattle.rw_log_folder.specs.inner.Order.{gap_after};
 ghost use Rattle.rw_log_folder.specs.declared.order.OrderFault.TheVariants.{Missing};
 
 use crate::listing::{Checkpoint, Listing, Name, Place};
@@ -88,7 +89,7 @@ fn push_places(
 
 /// Keeps the segments with greater numbers than this one.
 fn keep_above(segments: &mut Vec<Name>, number: u64)
-    ensures { segments.new.items ≡ filter (is_above number) segments.old.items }
+    ensures { segments.new.items ≡ filter (is_after_checkpoint number) segments.old.items }
 {
     segments.retain(|segment| number < segment.number);
 }
@@ -130,7 +131,7 @@ fn log_from(
         (λ places. IsReadFrom checkpoint segments.items places.items) }
     ensures missing { (n : ℕ) → (result ≡ Err (Missing n))
         ↔ IsGap checkpoint.name.number
-        (filter (is_above checkpoint.name.number) segments.items) n }
+        (filter (is_after_checkpoint checkpoint.name.number) segments.items) n }
 {
     let Checkpoint {
         name,

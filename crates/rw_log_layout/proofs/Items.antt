@@ -12,7 +12,9 @@ use Rattle.rw_wal_format.specs.Segments.{Kind, full, first, middle, last, Item, 
 use Rattle.rw_wal_format.specs.Writing.{type_byte}
 use Rattle.rw_wal_format.specs.declared.tail_fault.TailFault.{TailFault}
 use Rattle.rw_wal_format.specs.declared.tail_fault.TailFault.TheVariants.{BadType, BadLength, BadCrc, Compressed, NonzeroPadding, OutOfMemory, Sequence, BadRecord, TornSegment}
+use Rattle.rw_wal_format.proofs.shared.Written.{empty_item}
 use Rattle.rw_log_layout.specs.Items.{Fragment, HasHeader, IsFragment, EndsInHeader, EndsInData, IsWrongType, HasWrongType, HasWrongLength, HasWrongCrc, IsEmptyRest, HasWrongPadding, ItemFault, IsItem}
+use Rattle.rw_types.proofs.shared.Booleans.{or_true}
 
 -- ---- what the reader finds is there
 
@@ -137,10 +139,6 @@ fragment_are left kind (a ∷ b ∷ c ∷ d ∷ e ∷ f ∷ rest) room =
 typed_are : (left b : ℕ) (kind : Kind) (bs : List ℕ) → 7 ≤ left → b ≡ type_byte kind
     → IsItem left (b ∷ bs) (fragment_at kind left bs)
 typed_are left b kind bs room e = subst (λ (c : ℕ). IsItem left (c ∷ bs) (fragment_at kind left bs)) (sym e) (fragment_are left kind bs room)
-
-or_true : (x y : Bool) → (x || y) ≡ true → (x ≡ true) ⊎ (y ≡ true)
-or_true true y h = inl refl
-or_true false y h = inr h
 
 wrong_are : (left b : ℕ) (bs : List ℕ) → 7 ≤ left → 4 < b
     → IsItem left (b ∷ bs) (cond (nat_le 8 b) (cond (nat_lt b 32) (wrong Compressed) (wrong BadType)) (wrong BadType))
@@ -353,12 +351,8 @@ pub zeros_read : (left : ℕ) (after : List ℕ) → 0 < left
 zeros_read zero after l = absurd (omega arith)
 zeros_read (suc n) after l = empty_read (suc n) 0 (replicate n 0 ++ after) (inr (replicate n 0 ++ after, refl)) ∙ zeros_whole (suc n) after
 
-nil_read : (left : ℕ) → item_at left [] ≡ nothing
-unfolding item_at
-nil_read left = refl
-
 nothing_read : (left n : ℕ) → n < left → item_at left (replicate n 0) ≡ nothing
-nothing_read left zero l = nil_read left
+nothing_read left zero l = empty_item left
 nothing_read left (suc n) l = empty_read left 0 (replicate n 0) (inr (replicate n 0, refl))
     ∙ zeros_short left (suc n) l
 

@@ -7,65 +7,16 @@ use Rattle.std.specs.List.{concat}
 use Rattle.rw_types.specs.declared.entry.Entry.{Entry}
 use Rattle.rw_wal_format.specs.Records.{record_entries}
 use Rattle.rw_wal_format.specs.Segments.{Kind, full, first, middle, last, Item, nothing, begun, zeros, fragment, wrong, item_at, left_after, Reading, with_record, read_from}
-use Rattle.rw_wal_format.proofs.Growing.{left_after_pos}
-use Rattle.rw_wal_format.proofs.Items.{read_zeros, read_full, read_first, read_middle, read_last}
-use Rattle.rw_wal_tail.specs.Places.{closes, opens, count_after, count_from, count_of, read_count}
+use Rattle.rw_wal_format.proofs.shared.Growing.{left_after_pos}
+use Rattle.rw_wal_format.proofs.shared.Items.{read_zeros, read_full, read_first, read_middle, read_last}
+use Rattle.rw_wal_tail.specs.Places.{closes, opens, count_after, count_from, counted_items, read_count}
+use Rattle.rw_wal_tail.proofs.shared.PlaceLaws.{same_after, same_count, empty_count, count_enough, count_step, count_item}
 use Rattle.rw_log_layout.specs.Items.{Fragment, IsFragment}
 use Rattle.rw_log_layout.specs.Fragments.{InTurn, IsOpenRecord, IsRecord, MayBeOpen}
 use Rattle.rw_log_layout.specs.Segment.{IsPage, IsPaged, IsFront}
 use Rattle.rw_log_layout.proofs.Items.{length_fragment, fragment_read, zeros_read}
 
 -- ---- how many bytes are read, an item at a time
-
-same_after : (page left n : ℕ) (bs : List ℕ) (next next' : ℕ → Option (List ℕ) → List ℕ
-    → ℕ) (opened : Option (Option (List ℕ)))
-    → ((o : Option (List ℕ))
-    → next (left_after page left n) o (drop n bs) ≡ next' (left_after page left n) o (drop n bs))
-    → count_after page left n bs next opened ≡ count_after page left n bs next' opened
-same_after page left n bs next next' None ih = refl
-same_after page left n bs next next' (Some o) ih = ap (λ (m : ℕ). n + m) (ih o)
-
-same_count : (page left : ℕ) (o : Option (List ℕ)) (bs : List ℕ) (next next' : ℕ → Option (List ℕ)
-    → List ℕ → ℕ) (x : Item) → 0 < page → 0 < left → 0 < length bs
-    → ((l : ℕ) (o : Option (List ℕ)) (rest : List ℕ) → 0 < l → length rest < length bs
-    → next l o rest ≡ next' l o rest)
-    → count_from page left o bs next x ≡ count_from page left o bs next' x
-same_count page left o bs next next' nothing p l n ih = refl
-same_count page left o bs next next' begun p l n ih = refl
-same_count page left o bs next next' zeros p l n ih = ap (λ (m : ℕ). left + m) (ih page o (drop left bs) p (omega (arith, length-drop left bs)))
-same_count page left o bs next next' (fragment kind d) p l n ih =
-    same_after page left (7 + length d) bs next next' (opens o kind d)
-    (λ o'. ih (left_after page left (7 + length d)) o' (drop (7 + length d) bs) (left_after_pos page left (7 + length d) p) (omega (arith, length-drop (7 + length d) bs)))
-same_count page left o bs next next' (wrong f) p l n ih = refl
-
-empty_count : (page k left : ℕ) (o : Option (List ℕ)) → count_of page k left o [] ≡ 0
-unfolding item_at
-empty_count page zero left o = refl
-empty_count page (suc k) left o = refl
-
-count_enough : (page k k' left : ℕ) (o : Option (List ℕ)) (bs : List ℕ) → 0 < page → 0 < left
-    → length bs ≤ k → length bs ≤ k' → count_of page k left o bs ≡ count_of page k' left o bs
-count_enough page k k' left o [] p l h h' = empty_count page k left o
-    ∙ sym (empty_count page k' left o)
-count_enough page zero k' left o (b ∷ bs) p l h h' = absurd (omega arith)
-count_enough page (suc k) zero left o (b ∷ bs) p l h h' = absurd (omega arith)
-count_enough page (suc k) (suc k') left o (b ∷ bs) p l h h' =
-    same_count page left o (b ∷ bs) (λ m r rest. count_of page k m r rest) (λ m r rest. count_of page k' m r rest) (item_at left (b ∷ bs)) p l (omega arith)
-    (λ m r rest pos short. count_enough page k k' m r rest p pos (omega arith) (omega arith))
-
-count_step : (page left : ℕ) (o : Option (List ℕ)) (bs : List ℕ) → 0 < page → 0 < left
-    → read_count page left o bs ≡ count_from page left o bs (λ m r rest. read_count page m r rest) (item_at left bs)
-unfolding item_at
-count_step page left o [] p l = refl
-count_step page left o (b ∷ bs) p l =
-    same_count page left o (b ∷ bs) (λ m r rest. count_of page (length bs) m r rest) (λ m r rest. read_count page m r rest) (item_at left (b ∷ bs)) p l (omega arith)
-    (λ m r rest pos short. count_enough page (length bs) (length rest) m r rest p pos (omega arith) (le_refl (length rest)))
-
-pub count_item : (page left : ℕ) (o : Option (List ℕ)) (bs : List ℕ) (x : Item) → 0 < page
-    → 0 < left → item_at left bs ≡ x
-    → read_count page left o bs ≡ count_from page left o bs (λ m r rest. read_count page m r rest) x
-count_item page left o bs x p l e = count_step page left o bs p l
-    ∙ ap (count_from page left o bs (λ m r rest. read_count page m r rest)) e
 
 -- ---- what one fragment adds
 

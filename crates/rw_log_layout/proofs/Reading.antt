@@ -10,13 +10,14 @@ use Rattle.rw_wal_format.specs.Segments.{Kind, full, first, middle, last, nothin
 use Rattle.rw_wal_format.specs.Laws.{entries_of_records}
 use Rattle.rw_wal_format.specs.declared.tail_fault.TailFault.{TailFault}
 use Rattle.rw_wal_format.specs.declared.tail_fault.TailFault.TheVariants.{OutOfMemory, BadType, BadLength, BadCrc, Compressed, NonzeroPadding, Sequence, BadRecord, TornSegment}
-use Rattle.rw_wal_format.proofs.Items.{read_step, read_nothing, read_begun, read_wrong, read_full, read_last}
+use Rattle.rw_wal_format.proofs.shared.Items.{read_step, read_nothing, read_begun, read_wrong, read_full, read_last}
 use Rattle.rw_wal_tail.specs.Places.{closes, opens, count_after, read_count, stop_offset}
+use Rattle.rw_wal_tail.proofs.shared.PlaceLaws.{count_item}
 use Rattle.rw_log_layout.specs.Items.{Fragment, StartsWithFragment}
 use Rattle.rw_log_layout.specs.Fragments.{FragmentFault, Completes}
 use Rattle.rw_log_layout.specs.Segment.{StopsFor, IsSegment}
 use Rattle.rw_log_layout.proofs.Items.{item_read, fragment_read}
-use Rattle.rw_log_layout.proofs.Passing.{count_item, with_records, HaveForms, passes_front}
+use Rattle.rw_log_layout.proofs.Passing.{with_records, HaveForms, passes_front}
 
 -- ---- the entries of records
 

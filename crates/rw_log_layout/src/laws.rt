@@ -55,7 +55,8 @@ pub fn faults_are_first()
 /// Law: what a writer makes of records is one of the layouts of these records.
 pub fn written_records_are_laid_out()
     ensures { (page : ℕ) (records : List (List ℕ)) → 7 < page → page < 2 ^ 16 → AreRecords records
-        → (offset : ℕ) × IsSegment page (log_all page 0 records) (reading_of_records records) offset }
+        → (offset : ℕ)
+        × IsSegment page (log_all page 0 records) (reading_of_records records) offset }
 {}
 
 /// Law: small segments have the layout that the format gives them, up to these offsets.

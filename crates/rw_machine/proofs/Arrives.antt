@@ -3,19 +3,19 @@ use Rattle.std.proofs.Common.{◌≡◌, ℕ, ◌+◌, ◌-◌, ◌<◌, ◌==�
 use Rattle.std.proofs.lemmas.Bool.{cases_eq, true≢false, not-false, cond-false, cond-true, ne_eqb}
 use Rattle.std.proofs.lemmas.Bool.Decides.{Decides-eqb}
 use Rattle.std.proofs.lemmas.List.{map-append}
-use Rattle.rw_machine.proofs.Steps.{either, same_is, is_same}
+use Rattle.rw_machine.proofs.shared.Steps.{same_is, is_same}
 use Rattle.std.specs.List.{AllByRecursion}
 use Rattle.rw_types.specs.Rising.{Rises}
-use Rattle.rw_types.proofs.AllLemmas.{AllByRecursion-append, AllByRecursion-map, AllByRecursion-weaker}
-use Rattle.rw_types.proofs.RisingLemmas.{Rises-left}
+use Rattle.rw_types.proofs.shared.AllLemmas.{AllByRecursion-append, AllByRecursion-map, AllByRecursion-weaker}
+use Rattle.rw_types.proofs.shared.RisingLemmas.{Rises-left}
 use Rattle.rw_head.specs.Lists.{IsEarlier}
 use Rattle.rw_machine.proofs.Risen.{IsEarlierPoint, Rises-risen}
 use Rattle.rw_machine.proofs.OrderRule.{accept_repeats, accept_later, holds_append, holds_right, distinct_apart, Took, take_message}
-use Rattle.rw_machine.proofs.Places.{Numbered, numbered_left, numbered_all, of_append}
+use Rattle.rw_machine.proofs.shared.Places.{Numbered, numbered_left, numbered_all, of_append}
 use Rattle.rw_machine.proofs.Invariant.{Inv, as_points, waits, home, id_at, Past, SampleOk, ShardOk, GotOk, IsOpen, InStore, RequestOk, AnswersOpen, AnswerOk, by_bool}
 use Rattle.rw_machine.proofs.Keeps.{pairs_of_points, of_none}
-use Rattle.rw_machine.proofs.Resolves.{holds_each, open_id}
-use Rattle.rw_machine.proofs.Others.{pending_parts, all_distinct}
+use Rattle.rw_machine.proofs.shared.Resolves.{holds_each, open_id}
+use Rattle.rw_machine.proofs.shared.Others.{pending_parts, all_distinct}
 use Rattle.rw_machine.proofs.Heads.{accept_all, by_answer, Takes}
 use Rattle.rw_batch.specs.Grouping.{distinct}
 use Rattle.rw_head.specs.Head.{Answer}
@@ -26,10 +26,10 @@ use Rattle.rw_head.specs.Order.{accept, holds}
 use Rattle.rw_head.specs.Store.{list_of}
 use Rattle.rw_retry.specs.Judgements.{judgement_of}
 use Rattle.rw_retry.specs.declared.judgement.Judgement.TheVariants.{Again, Done, Refused}
-use Rattle.rw_machine.proofs.Views.{IsKept, Ledger, Pairs, Store, is_let_in, logged_points, message, of, owed_by, pairs, points}
-use Rattle.rw_machine.specs.Promises.{Point, pair_of}
-use Rattle.rw_machine.specs.Shards.{Shard, samples_in}
-use Rattle.rw_machine.specs.Steps.{answered, arrive, endpoint_answer}
+use Rattle.rw_machine.proofs.shared.Views.{IsKept, Ledger, Pairs, Store, is_let_in, logged_points, message, of, owed_by, pairs, points}
+use Rattle.rw_machine.specs.Promises.{LoggedPoint, pair_of}
+use Rattle.rw_machine.specs.Shards.{Shard, samples_waiting}
+use Rattle.rw_machine.specs.Steps.{with_answer, arrive, endpoint_answer}
 use Rattle.rw_machine.specs.Worlds.{Reply, Request, Setup, World, log}
 use Rattle.rw_machine.specs.declared.event.How.{How}
 use Rattle.rw_machine.specs.declared.event.How.TheVariants.{Busy, Plain, OutOfMemory}
@@ -37,20 +37,21 @@ use Rattle.rw_shard_core.specs.Shard.{batch_id, is_empty}
 use Rattle.rw_plain_queue.specs.Items.{Placed}
 use Rattle.rw_types.specs.LabelOrder.{labels_eq}
 use Rattle.rw_types.specs.Labels.{Labels}
+use Rattle.rw_types.proofs.shared.Booleans.{either}
 
-later_pairs : (t : ℤ) (ps : List Point) → AllByRecursion (λ (p : Point). int_lt t p.1 ≡ true) ps → AllByRecursion (λ (y : ℤ × ℕ). int_lt t y.0 ≡ true) (map pair_of ps)
+later_pairs : (t : ℤ) (ps : List LoggedPoint) → AllByRecursion (λ (p : LoggedPoint). int_lt t p.1 ≡ true) ps → AllByRecursion (λ (y : ℤ × ℕ). int_lt t y.0 ≡ true) (map pair_of ps)
 later_pairs t [] h = tt
 later_pairs t (p ∷ ps) h = (h.0, later_pairs t ps h.1)
 
-pub ascends_points : (ps : List Point) → Rises IsEarlierPoint ps → Rises IsEarlier (map pair_of ps)
+pub ascends_points : (ps : List LoggedPoint) → Rises IsEarlierPoint ps → Rises IsEarlier (map pair_of ps)
 ascends_points [] h = tt
 ascends_points (p ∷ ps) h = (later_pairs p.1 ps h.0, ascends_points ps h.1)
 
-all_owed : (P : ℤ × ℕ → Type 0) (ledger : Ledger) (ps : List Point) (ys : Pairs) → AllByRecursion P (map pair_of ps ++ ys) → AllByRecursion P (map pair_of (owed_by ledger ps) ++ ys)
+all_owed : (P : ℤ × ℕ → Type 0) (ledger : Ledger) (ps : List LoggedPoint) (ys : Pairs) → AllByRecursion P (map pair_of ps ++ ys) → AllByRecursion P (map pair_of (owed_by ledger ps) ++ ys)
 all_owed P ledger [] ys h = h
 all_owed P ledger (p ∷ ps) ys h = either (λ qs. AllByRecursion P (map pair_of qs ++ ys)) (is_none (ledger p.0)) (p ∷ owed_by ledger ps) (owed_by ledger ps) (λ _. (h.0, all_owed P ledger ps ys h.1)) (λ _. all_owed P ledger ps ys h.1)
 
-ascends_owed : (ledger : Ledger) (ps : List Point) (ys : Pairs) → Rises IsEarlier (map pair_of ps ++ ys) → Rises IsEarlier (map pair_of (owed_by ledger ps) ++ ys)
+ascends_owed : (ledger : Ledger) (ps : List LoggedPoint) (ys : Pairs) → Rises IsEarlier (map pair_of ps ++ ys) → Rises IsEarlier (map pair_of (owed_by ledger ps) ++ ys)
 ascends_owed ledger [] ys h = h
 ascends_owed ledger (p ∷ ps) ys h = either (λ qs. Rises IsEarlier (map pair_of qs ++ ys)) (is_none (ledger p.0)) (p ∷ owed_by ledger ps) (owed_by ledger ps) (λ _. (all_owed (λ (y : ℤ × ℕ). int_lt p.1 y.0 ≡ true) ledger ps ys h.0, ascends_owed ledger ps ys h.1)) (λ _. ascends_owed ledger ps ys h.1)
 
@@ -97,7 +98,7 @@ module _ (c : Setup) (w : World) (at : Inv c w) (r : Request) (r_ok : RequestOk 
   ascends l k = ascends_owed (get w.names) (at.done l) (pairs (of l (waits (slice_get w.shards (home at.width w.series l))))) (subst (Rises IsEarlier) (ap (map pair_of) (at.mine l k) ∙ map-append pair_of (at.done l) (as_points (of l (waits (slice_get w.shards (home at.width w.series l))))) ∙ ap (λ ps. map pair_of (at.done l) ++ ps) (pairs_of_points (of l (waits (slice_get w.shards (home at.width w.series l)))))) (ascends_points (points c l (take w.placed (log w))) (Rises-risen (logged_points c l (take w.placed (log w))))))
 
   ascends_batch : (l : Labels) → IsKept c l → (s : Shard) → slice_get w.shards (home at.width w.series l) ≡ Some s → Rises IsEarlier (kept_part l ++ pairs (of l s.core.batch))
-  ascends_batch l k s e = Rises-left IsEarlier (kept_part l ++ pairs (of l s.core.batch)) (pairs (of l (s.core.builder ++ samples_in s.queue))) (subst (Rises IsEarlier) (ap (λ o. kept_part l ++ pairs (of l (waits o))) e ∙ ap (λ xs. kept_part l ++ pairs (of l xs)) (pending_parts s) ∙ ap (λ ps. kept_part l ++ ps) (ap pairs (of_append l s.core.batch (s.core.builder ++ samples_in s.queue)) ∙ map-append _ (of l s.core.batch) (of l (s.core.builder ++ samples_in s.queue))) ∙ sym (append_assoc (kept_part l) (pairs (of l s.core.batch)) (pairs (of l (s.core.builder ++ samples_in s.queue))))) (ascends l k))
+  ascends_batch l k s e = Rises-left IsEarlier (kept_part l ++ pairs (of l s.core.batch)) (pairs (of l (s.core.builder ++ samples_waiting s.queue))) (subst (Rises IsEarlier) (ap (λ o. kept_part l ++ pairs (of l (waits o))) e ∙ ap (λ xs. kept_part l ++ pairs (of l xs)) (pending_parts s) ∙ ap (λ ps. kept_part l ++ ps) (ap pairs (of_append l s.core.batch (s.core.builder ++ samples_waiting s.queue)) ∙ map-append _ (of l s.core.batch) (of l (s.core.builder ++ samples_waiting s.queue))) ∙ sym (append_assoc (kept_part l) (pairs (of l s.core.batch)) (pairs (of l (s.core.builder ++ samples_waiting s.queue))))) (ascends l k))
 
   ascends_kept : (l : Labels) → IsKept c l → Rises IsEarlier (kept_part l)
   ascends_kept l k = Rises-left IsEarlier (kept_part l) (pairs (of l (waits (slice_get w.shards (home at.width w.series l))))) (ascends l k)
@@ -122,7 +123,7 @@ module _ (c : Setup) (w : World) (at : Inv c w) (r : Request) (r_ok : RequestOk 
     stays : (i : ℕ) (s : Shard) → slice_get w.shards i ≡ Some s → at.got i ≡ s.core.batch → got i ≡ s.core.batch
     new : AnswerOk c w.epoch w.shards got (record { id = r.id; status = v.status })
 
-  answered_keeps : (v : Answer) (got : ℕ → List Placed) → Fits v got → Inv c (answered w r.id v)
+  answered_keeps : (v : Answer) (got : ℕ → List Placed) → Fits v got → Inv c (with_answer w r.id v)
   answered_keeps v got f = record {
     width = at.width;
     ident = at.ident;
@@ -155,7 +156,7 @@ module _ (c : Setup) (w : World) (at : Inv c w) (r : Request) (r_ok : RequestOk 
       older a (inr h) = inr (h.0, at_shard a (slice_get w.shards a.id.shard) refl h.1)
 
   -- the store stays
-  same_keeps : (v : Answer) → v.head.limits ≡ w.head.limits → ((l : Labels) → list_of v.head.store l ≡ list_of w.head.store l) → ((s : Shard) → slice_get w.shards r.id.shard ≡ Some s → s.core.batch ≡ r.batch → is_empty r.batch ≡ false → (judgement_of v.status ≡ Done → at.got r.id.shard ≡ s.core.batch) × (judgement_of v.status ≡ Refused → is_let_in c s.core.batch ≡ false)) → Inv c (answered w r.id v)
+  same_keeps : (v : Answer) → v.head.limits ≡ w.head.limits → ((l : Labels) → list_of v.head.store l ≡ list_of w.head.store l) → ((s : Shard) → slice_get w.shards r.id.shard ≡ Some s → s.core.batch ≡ r.batch → is_empty r.batch ≡ false → (judgement_of v.status ≡ Done → at.got r.id.shard ≡ s.core.batch) × (judgement_of v.status ≡ Refused → is_let_in c s.core.batch ≡ false)) → Inv c (with_answer w r.id v)
   same_keeps v limits same says = answered_keeps v at.got (record {
     limits = limits;
     stored = λ l k. same l ∙ at.stored l k;
@@ -173,10 +174,10 @@ module _ (c : Setup) (w : World) (at : Inv c w) (r : Request) (r_ok : RequestOk 
       by_fate (inl h) = inl h.0
       by_fate (inr h) = inr (h.0, by_shard (slice_get w.shards r.id.shard) refl h.1)
 
-  refused_keeps : (status : ℕ) → judgement_of status ≡ Refused → is_let_in c r.batch ≡ false → Inv c (answered w r.id (record { status = status; head = w.head }))
+  refused_keeps : (status : ℕ) → judgement_of status ≡ Refused → is_let_in c r.batch ≡ false → Inv c (with_answer w r.id (record { status = status; head = w.head }))
   refused_keeps status is unfit = same_keeps (record { status = status; head = w.head }) refl (λ l. refl) (λ s e b _. (λ d. let z : Refused ≡ Done = sym is ∙ d in let never : Refused ≡ Done → ⊥ = λ h. cc in absurd (never z), λ _. ap (is_let_in c) b ∙ unfit))
 
-  again_keeps : (v : Answer) → v.head.limits ≡ w.head.limits → ((l : Labels) → list_of v.head.store l ≡ list_of w.head.store l) → judgement_of v.status ≡ Again → Inv c (answered w r.id v)
+  again_keeps : (v : Answer) → v.head.limits ≡ w.head.limits → ((l : Labels) → list_of v.head.store l ≡ list_of w.head.store l) → judgement_of v.status ≡ Again → Inv c (with_answer w r.id v)
   again_keeps v limits same is = same_keeps v limits same (λ s e b _. (λ d. let z : Again ≡ Done = sym is ∙ d in let never : Again ≡ Done → ⊥ = λ h. cc in absurd (never z), λ d. let z : Again ≡ Refused = sym is ∙ d in let never : Again ≡ Refused → ⊥ = λ h. cc in absurd (never z)))
 
   abbrev ls : List Labels
@@ -197,7 +198,7 @@ module _ (c : Setup) (w : World) (at : Inv c w) (r : Request) (r_ok : RequestOk 
   next_is next t f e = t.same ∙ same_Some _ _ (sym t.taken ∙ e)
 
   -- a batch that the head has already
-  repeated : AllByRecursion (InStore (list_of w.head.store)) r.batch → ((s : Shard) → slice_get w.shards r.id.shard ≡ Some s → s.core.batch ≡ r.batch → is_empty r.batch ≡ false → at.got r.id.shard ≡ s.core.batch) → (next : head.Store) → Takes w.head r.batch next → Inv c (answered w r.id (taken_as next))
+  repeated : AllByRecursion (InStore (list_of w.head.store)) r.batch → ((s : Shard) → slice_get w.shards r.id.shard ≡ Some s → s.core.batch ≡ r.batch → is_empty r.batch ≡ false → at.got r.id.shard ≡ s.core.batch) → (next : head.Store) → Takes w.head r.batch next → Inv c (with_answer w r.id (taken_as next))
   repeated in_store has next t =
       let took = repeat_took in_store in
       let now : list_of next ≡ took.after = next_is next t took.after took.taken in
@@ -217,7 +218,7 @@ module _ (c : Setup) (w : World) (at : Inv c w) (r : Request) (r_ok : RequestOk 
     ok = at.shards_ok j s at_j
 
     each_of_batch : (Q : Placed → Type 0) → ((k : ℕ) (x : Placed) → SampleOk c w.epoch w.placed at.width w.series (get w.names) at.ident j k x → Q x) → AllByRecursion Q r.batch
-    each_of_batch Q more = subst (AllByRecursion Q) batch_is (numbered_all (SampleOk c w.epoch w.placed at.width w.series (get w.names) at.ident j) Q (length s.core.resolved) (length s.core.resolved + length s.core.batch) s.core.batch refl (λ k x _ _ x_ok. more k x x_ok) (numbered_left (SampleOk c w.epoch w.placed at.width w.series (get w.names) at.ident j) (length s.core.resolved) s.core.batch (s.core.builder ++ samples_in s.queue) (subst (Numbered (SampleOk c w.epoch w.placed at.width w.series (get w.names) at.ident j) (length s.core.resolved)) (pending_parts s) ok.numbered)))
+    each_of_batch Q more = subst (AllByRecursion Q) batch_is (numbered_all (SampleOk c w.epoch w.placed at.width w.series (get w.names) at.ident j) Q (length s.core.resolved) (length s.core.resolved + length s.core.batch) s.core.batch refl (λ k x _ _ x_ok. more k x x_ok) (numbered_left (SampleOk c w.epoch w.placed at.width w.series (get w.names) at.ident j) (length s.core.resolved) s.core.batch (s.core.builder ++ samples_waiting s.queue) (subst (Numbered (SampleOk c w.epoch w.placed at.width w.series (get w.names) at.ident j) (length s.core.resolved)) (pending_parts s) ok.numbered)))
 
     homes : AllByRecursion (λ (x : Placed). IsKept c x.labels × (home at.width w.series x.labels ≡ j)) r.batch
     homes = each_of_batch (λ (x : Placed). IsKept c x.labels × (home at.width w.series x.labels ≡ j)) (λ k x x_ok. (x_ok.kept, x_ok.home_is))
@@ -238,7 +239,7 @@ module _ (c : Setup) (w : World) (at : Inv c w) (r : Request) (r_ok : RequestOk 
         let store_is : (l : Labels) → IsKept c l → home at.width w.series l ≡ j → list_of w.head.store l ≡ kept_part l = λ l k h. at.stored l k ∙ ap (λ (n : ℕ). kept_part l ++ pairs (of l (at.got n))) h ∙ ap (λ b. kept_part l ++ pairs (of l b)) none ∙ append-nil (kept_part l) in
         take_message r.batch (λ l. pairs (of l r.batch)) ls (list_of w.head.store) (distinct_apart (map (λ (x : Placed). x.labels) r.batch)) (AllByRecursion-weaker (λ l. IsKept c l × (home at.width w.series l ≡ j)) (λ l. accept (Some (list_of w.head.store l)) (pairs (of l r.batch)) ≡ Some (list_of w.head.store l ++ pairs (of l r.batch))) (λ l k. accept_later (list_of w.head.store l) (pairs (of l r.batch)) (subst (Rises IsEarlier) (λ i. sym (store_is l k.0 k.1) i ++ pairs (of l (batch_is i))) (ascends_batch l k.0 s (ap (slice_get w.shards) k.1 ∙ at_j)))) ls (all_distinct (λ l. IsKept c l × (home at.width w.series l ≡ j)) (map (λ (x : Placed). x.labels) r.batch) (AllByRecursion-map (λ l. IsKept c l × (home at.width w.series l ≡ j)) (λ (x : Placed). x.labels) r.batch homes)))
 
-    first : at.got j ≡ [] → (next : head.Store) → Takes w.head r.batch next → Inv c (answered w r.id (taken_as next))
+    first : at.got j ≡ [] → (next : head.Store) → Takes w.head r.batch next → Inv c (with_answer w r.id (taken_as next))
     first none next t =
         let took = first_took none in
         let now : list_of next ≡ took.after = next_is next t took.after took.taken in
@@ -273,10 +274,10 @@ module _ (c : Setup) (w : World) (at : Inv c w) (r : Request) (r_ok : RequestOk 
         by_stay i u at_i e (inl h) = cond-true (i == j) s.core.batch (at.got i) ((Decides-eqb i j).1 h) ∙ ap (λ (v : Shard). v.core.batch) (same_Some _ _ (sym at_j ∙ ap (slice_get w.shards) (sym h) ∙ at_i))
         by_stay i u at_i e (inr h) = cond-false (i == j) s.core.batch (at.got i) (ne_eqb i j h) ∙ e
 
-    open_keeps : (next : head.Store) → Takes w.head r.batch next → Inv c (answered w r.id (taken_as next))
+    open_keeps : (next : head.Store) → Takes w.head r.batch next → Inv c (with_answer w r.id (taken_as next))
     open_keeps = by_got (subst (λ (o : Option Shard). GotOk c o (at.got j)) at_j (at.got_ok j))
       where
-        by_got : (at.got j ≡ []) ⊎ ((at.got j ≡ s.core.batch) × (is_let_in c s.core.batch ≡ true)) → (next : head.Store) → Takes w.head r.batch next → Inv c (answered w r.id (taken_as next))
+        by_got : (at.got j ≡ []) ⊎ ((at.got j ≡ s.core.batch) × (is_let_in c s.core.batch ≡ true)) → (next : head.Store) → Takes w.head r.batch next → Inv c (with_answer w r.id (taken_as next))
         by_got (inl g) = first g
         by_got (inr g) = repeated (has_all g.0) (λ u at_u _ _. g.0 ∙ ap (λ (v : Shard). v.core.batch) (same_Some _ _ (sym at_j ∙ at_u)))
 
@@ -317,7 +318,7 @@ module _ (c : Setup) (w : World) (at : Inv c w) (r : Request) (r_ok : RequestOk 
       refused_tells : (status : ℕ) → judgement_of status ≡ Refused → is_let_in c r.batch ≡ false → Tells status
       refused_tells status is unfit = (λ d. let z : Refused ≡ Done = sym is ∙ d in let never : Refused ≡ Done → ⊥ = λ h. cc in absurd (never z), λ _. unfit)
 
-  let_in_keeps : is_let_in c r.batch ≡ true → (next : head.Store) → Takes w.head r.batch next → Inv c (answered w r.id (taken_as next))
+  let_in_keeps : is_let_in c r.batch ≡ true → (next : head.Store) → Takes w.head r.batch next → Inv c (with_answer w r.id (taken_as next))
   let_in_keeps fits = by_fate r_ok.fate
     where
       -- the id of a resolved batch is no open one's
@@ -325,16 +326,16 @@ module _ (c : Setup) (w : World) (at : Inv c w) (r : Request) (r_ok : RequestOk 
       never s at_j (inl z) = let lt : w.epoch < w.epoch = z in omega arith
       never s at_j (inr z) = let lt : length s.core.resolved < length s.core.resolved = z.1 s at_j in omega arith
 
-      by_shard : r.id.epoch ≡ w.epoch → (o : Option Shard) → slice_get w.shards r.id.shard ≡ o → IsOpen o r.batch → (next : head.Store) → Takes w.head r.batch next → Inv c (answered w r.id (taken_as next))
+      by_shard : r.id.epoch ≡ w.epoch → (o : Option Shard) → slice_get w.shards r.id.shard ≡ o → IsOpen o r.batch → (next : head.Store) → Takes w.head r.batch next → Inv c (with_answer w r.id (taken_as next))
       by_shard e None at_j h = absurd h
       by_shard e (Some s) at_j h = open_keeps s at_j e h.0 h.1 fits
 
-      by_fate : ((Past w.epoch w.shards r.id × (is_let_in c r.batch ≡ true → AllByRecursion (InStore (list_of w.head.store)) r.batch)) ⊎ ((r.id.epoch ≡ w.epoch) × IsOpen (slice_get w.shards r.id.shard) r.batch)) → (next : head.Store) → Takes w.head r.batch next → Inv c (answered w r.id (taken_as next))
+      by_fate : ((Past w.epoch w.shards r.id × (is_let_in c r.batch ≡ true → AllByRecursion (InStore (list_of w.head.store)) r.batch)) ⊎ ((r.id.epoch ≡ w.epoch) × IsOpen (slice_get w.shards r.id.shard) r.batch)) → (next : head.Store) → Takes w.head r.batch next → Inv c (with_answer w r.id (taken_as next))
       by_fate (inl h) = repeated (h.1 fits) (λ s at_j batch_is full. absurd (never s at_j (subst (Past w.epoch w.shards) (r_ok.id_is ∙ ap batch_id (sym batch_is) ∙ open_id c w.epoch w.placed at.width w.series (get w.names) at.ident r.id.shard s (at.shards_ok r.id.shard s at_j) (ap is_empty batch_is ∙ full)) h.0)))
       by_fate (inr h) = by_shard h.0 (slice_get w.shards r.id.shard) refl h.1
 
-  pub plain_keeps : Inv c (answered w r.id (endpoint_answer c w.head r.batch))
-  plain_keeps = by_answer (λ a. Inv c (answered w r.id a)) c w.head r.batch at.limited
+  pub plain_keeps : Inv c (with_answer w r.id (endpoint_answer c w.head r.batch))
+  plain_keeps = by_answer (λ a. Inv c (with_answer w r.id a)) c w.head r.batch at.limited
       (refused_keeps 413 refl)
       (again_keeps (record { status = 429; head = record w.head { busy = w.head.busy - 1 } }) refl (λ l. refl) refl)
       (refused_keeps 400 refl)

@@ -3,17 +3,17 @@ use Rattle.std.proofs.Common.{◌≡◌, ℕ, zero, suc, ◌<◌, Bool, true, fa
 use Rattle.std.proofs.lemmas.Bool.Decides.{Decides-eqb}
 use Rattle.std.proofs.lemmas.Bool.{true≢false, not-true, and_parts}
 use Rattle.std.proofs.lemmas.Option.{same_Some}
-use Rattle.rw_machine.proofs.Steps.{always, either, Each, each_change, each_new}
+use Rattle.rw_machine.proofs.shared.Steps.{always, Each, each_change, each_new}
 use Rattle.rw_machine.proofs.Invariant.{by_bool}
-use Rattle.rw_machine.proofs.Places.{get_below}
+use Rattle.rw_machine.proofs.shared.Places.{get_below}
 use Rattle.rw_machine.specs.declared.event.Event.TheVariants as event
 use Rattle.rw_plain_queue.specs.declared.item.Kind.TheVariants as kind
 use Rattle.rw_retry.specs.Judgements.{judgement_of}
 use Rattle.rw_retry.specs.declared.judgement.Judgement.{Judgement}
 use Rattle.rw_retry.specs.declared.judgement.Judgement.TheVariants.{Again, Done, Refused}
 use Rattle.rw_machine.specs.Shards.{EndMark, FlushMark, One, Queued, Shard, has_room, shard_end, shard_flush, shard_freeze, shard_lost, shard_put, shard_send, shard_take, take_front, with_core}
-use Rattle.rw_machine.specs.Steps.{act, arrive, change, changed, close, feed, flush_shard, happens, mark, next_sample, place, place_entry, place_kept, place_sample, put_if_room, reply_to, restart_as, run, send_batch, shard_of, take_reply, unless_over}
-use Rattle.rw_machine.specs.Worlds.{Reply, Request, Setup, World, all_drained, is_at, is_finished, is_over, log, new_shards, start}
+use Rattle.rw_machine.specs.Steps.{act, arrive, change, changed, close, feed, flush_shard, happens, shard_mark, next_sample, place, place_entry, place_kept, place_sample, put_if_room, reply_to, restart_as, run, send_batch, shard_of_labels, take_reply, unless_over}
+use Rattle.rw_machine.specs.Worlds.{Reply, Request, Setup, World, all_drained, is_closed_at, is_finished, is_over, log, new_shards, start}
 use Rattle.rw_machine.specs.Promises.{IsClosedForGood}
 use Rattle.rw_plain_queue.specs.declared.item.Kind.{Kind}
 use Rattle.rw_wal_tail.specs.Fed.{piece_of}
@@ -26,6 +26,7 @@ use Rattle.rw_series_cache.specs.Rising.{rises}
 use Rattle.rw_types.specs.Labels.{Labels}
 use Rattle.rw_types.specs.declared.entry.Entry.{Entry}
 use Rattle.rw_types.specs.declared.entry.Entry.TheVariants.{Def, Sample}
+use Rattle.rw_types.proofs.shared.Booleans.{either}
 
 abbrev pub NoEnd : List Queued → Type 0
 NoEnd [] = Unit {0}
@@ -94,7 +95,7 @@ pub record Ends (w : World) : Type 0 where
 pub finished_end : (w : World) → Ends w → is_finished w ≡ true → length (log w) ≡ w.placed
 finished_end w at h = by_closed w.closed refl h
   where
-    by_closed : (o : Option ℕ) → w.closed ≡ o → is_at w.placed o ≡ true → length (log w) ≡ w.placed
+    by_closed : (o : Option ℕ) → w.closed ≡ o → is_closed_at w.placed o ≡ true → length (log w) ≡ w.placed
     by_closed None e h = absurd (true≢false (sym h))
     by_closed (Some end) e h = at.at_close end e ∙ sym ((Decides-eqb w.placed end).0 h)
 
@@ -125,7 +126,7 @@ ends_place c w at = by_bool (Ends (place c w)) (is_some w.draining) (λ d. subst
         (λ _. at)
 
     by_rising : is_some w.draining ≡ false → (x : Entry) → slice_get (log w) w.placed ≡ Some x → (l : Labels) (t : ℤ) (word : ℕ) (b : Bool) → Ends (place_kept c w l t word b)
-    by_rising d x e l t word true = by_shard d x e l t word (shard_of w l) (slice_get w.shards (shard_of w l))
+    by_rising d x e l t word true = by_shard d x e l t word (shard_of_labels w l) (slice_get w.shards (shard_of_labels w l))
     by_rising d x e l t word false = record { at_close = at.at_close; shapes = λ i s at_i. let h = at.shapes i s at_i in (h.0, λ p. absurd (true≢false (sym p ∙ unput d x e s h.1))) }
 
     by_known : is_some w.draining ≡ false → (x : Entry) → slice_get (log w) w.placed ≡ Some x → (t : ℤ) (word : ℕ) (k : Standing) → Ends (place_sample c w t word k)
@@ -140,9 +141,9 @@ ends_place c w at = by_bool (Ends (place c w)) (is_some w.draining) (λ d. subst
     by_entry d (Some (Sample r t word)) e = by_known d (Sample r t word) e t word (known c.choice (take w.placed (log w)) r)
 
 ends_flush : (c : Setup) (w : World) (i : ℕ) → Ends w → Ends (changed w i (flush_shard c w))
-ends_flush c w i at = record { at_close = at.at_close; shapes = each_change (λ i s. ShapeOf s × MayEnd w s) (flush_shard c w) i w.shards at.shapes (λ s _ h. either (λ u. ShapeOf u × MayEnd w u) (not s.end_put && has_room c.capacity s) (mark w s) s (λ g. marked s h (not-true s.end_put (and_parts (not s.end_put) (has_room c.capacity s) g).0)) (λ _. h)) }
+ends_flush c w i at = record { at_close = at.at_close; shapes = each_change (λ i s. ShapeOf s × MayEnd w s) (flush_shard c w) i w.shards at.shapes (λ s _ h. either (λ u. ShapeOf u × MayEnd w u) (not s.end_put && has_room c.capacity s) (shard_mark w s) s (λ g. marked s h (not-true s.end_put (and_parts (not s.end_put) (has_room c.capacity s) g).0)) (λ _. h)) }
   where
-    marked : (s : Shard) → ShapeOf s × MayEnd w s → s.end_put ≡ false → ShapeOf (mark w s) × MayEnd w (mark w s)
+    marked : (s : Shard) → ShapeOf s × MayEnd w s → s.end_put ≡ false → ShapeOf (shard_mark w s) × MayEnd w (shard_mark w s)
     marked s h z = either (λ u. ShapeOf u × MayEnd w u) (is_finished w) (shard_end kind.Orderly s) (cond (is_some w.draining) (shard_end kind.Reshard s) (shard_flush s))
         (λ f. (ends s.end_put s.core.ended s.queue kind.Orderly z h.0, λ _. inr f))
         (λ _. either (λ u. ShapeOf u × MayEnd w u) (is_some w.draining) (shard_end kind.Reshard s) (shard_flush s)
@@ -217,11 +218,11 @@ ends_act c w event.Restart at = by_draining w.draining
         restarted n = record w { epoch = suc w.epoch; shards = new_shards c (suc w.epoch) 0 n; draining = None }
 ends_act c w event.Close at = by_bool (Ends (close w)) (is_some w.closed) (λ b. subst Ends (ap (λ (b : Bool). cond b w (record w { closed = Some (length (log w)) })) (sym b)) at) (λ b. subst Ends (ap (λ (b : Bool). cond b w (record w { closed = Some (length (log w)) })) (sym b)) (record { at_close = λ end h. same_Some _ _ h; shapes = λ i s e. ((at.shapes i s e).0, λ p. by_case b s ((at.shapes i s e).1 p)) }))
   where
-    by_case : is_some w.closed ≡ false → (s : Shard) → (is_some w.draining ≡ true) ⊎ (is_finished w ≡ true) → (is_some w.draining ≡ true) ⊎ (is_at w.placed (Some (length (log w))) ≡ true)
+    by_case : is_some w.closed ≡ false → (s : Shard) → (is_some w.draining ≡ true) ⊎ (is_finished w ≡ true) → (is_some w.draining ≡ true) ⊎ (is_closed_at w.placed (Some (length (log w))) ≡ true)
     by_case b s (inl d) = inl d
     by_case b s (inr f) = not_yet w.closed b f
       where
-        not_yet : (o : Option ℕ) → is_some o ≡ false → is_at w.placed o ≡ true → (is_some w.draining ≡ true) ⊎ (is_at w.placed (Some (length (log w))) ≡ true)
+        not_yet : (o : Option ℕ) → is_some o ≡ false → is_closed_at w.placed o ≡ true → (is_some w.draining ≡ true) ⊎ (is_closed_at w.placed (Some (length (log w))) ≡ true)
         not_yet None b f = absurd (true≢false (sym f))
         not_yet (Some end) b f = absurd (true≢false b)
 ends_act c w event.Kill at = record { at_close = at.at_close; shapes = at.shapes }

@@ -3,9 +3,10 @@
 use Rattle.std.proofs.Common.{◌≡◌, ℕ, ◌-◌, Bool, true, false, cond, not, List, [], ◌∷◌, map, length, Option, Some, None, is_some, Result, Ok, Err, refl, sym, ap, ◌∙◌, subst, ◌&&◌, nat_lt, nat_le, arith}
 use Rattle.std.specs.List.{filter}
 use Rattle.std.proofs.lemmas.Bool.Decides.{nat_tests}
-use Rattle.std.proofs.lemmas.Bool.{not-true, and_parts, and_right}
+use Rattle.std.proofs.lemmas.Bool.{not-true, and_parts, and_right, and_from}
 use Rattle.rw_types.specs.Labels.{Labels, label_fault}
 use Rattle.rw_types.specs.LabelOrder.{labels_eq}
+use Rattle.rw_types.proofs.shared.Booleans.{either}
 use Rattle.rw_batch.specs.Grouping.{LabelledSample, distinct, samples_of}
 use Rattle.rw_batch.specs.Grouping as grouping
 use Rattle.rw_write_request.specs.Message.{TimeSeries, WriteRequest}
@@ -15,17 +16,17 @@ use Rattle.rw_head.specs.Order.{accept}
 use Rattle.rw_head.specs.Order as order
 use Rattle.rw_head.specs.Store.{list_of, with_list}
 use Rattle.rw_head.specs.Store as head
-use Rattle.rw_head.specs.Verdicts.{LabelLimits, is_over, refusal, accepted, taken, taken_unless, taken_next, taken_all}
+use Rattle.rw_head.specs.Verdicts.{LabelLimits, is_over_limits, refusal, accepted, taken, taken_unless, taken_next, taken_all}
 use Rattle.rw_head.specs.Verdicts as verdicts
 use Rattle.rw_head.specs.Head.{State, Answer, status_of, answer_to, answered}
-use Rattle.rw_head.proofs.StoreLemmas.{list_of-with_list}
+use Rattle.rw_head.proofs.shared.StoreLemmas.{list_of-with_list}
 use Rattle.rw_shard_core.specs.Shard.{body_of, labelled}
 use Rattle.rw_plain_queue.specs.Items.{Placed}
 use Rattle.rw_machine.specs.Steps.{endpoint_answer}
 use Rattle.rw_machine.specs.Worlds.{Setup}
-use Rattle.rw_machine.proofs.Names.{one_answer}
-use Rattle.rw_machine.proofs.Steps.{either, is_same, same_is, and_both}
-use Rattle.rw_machine.proofs.Views.{Pairs, Store, Series, of, pairs, series_of, message, is_refused, is_fit, is_let_in}
+use Rattle.rw_machine.proofs.shared.Names.{one_answer}
+use Rattle.rw_machine.proofs.shared.Steps.{is_same, same_is}
+use Rattle.rw_machine.proofs.shared.Views.{Pairs, Store, Series, of, pairs, series_of, message, is_refused, is_fit, is_let_in}
 
 abbrev pub store_at : Labels → Pairs → Store → Store
 store_at l xs store m = cond (labels_eq l m) xs (store m)
@@ -94,7 +95,7 @@ RefusedForGood (Some v) = status_of v ≡ 400
 pub refused_for_good : (limits : LabelLimits) (l : Labels) → RefusedForGood (refusal limits l)
 refused_for_good limits l =
     either RefusedForGood (is_some (label_fault limits.names l)) (Some BadLabels) _ (λ _. refl)
-    (λ _. either RefusedForGood (is_over limits l) (Some OverLimit) None (λ _. refl) (λ _. tt))
+    (λ _. either RefusedForGood (is_over_limits limits l) (Some OverLimit) None (λ _. refl) (λ _. tt))
 
 series_gives : (limits : LabelLimits) (batch : List Placed) (l : Labels) (s : head.Store) (f : Store) → is_refused limits l ≡ false → list_of s ≡ f → Gives (taken limits s (time_series batch l)) (accept_series (Some f) (series_of batch l))
 series_gives limits batch l s f fine same =
@@ -217,6 +218,6 @@ by_answer P c h batch limited large busy unfit refused taken =
 
     by_fit : (b : Bool) → is_fit c.limits (message batch) ≡ b → nat_le (length (body_of batch)) c.max_body ≡ true → P (judged h (taken_all c.limits (Ok h.store) (map (time_series batch) ls)))
     by_fit true fit small =
-        let fits : is_let_in c batch ≡ true = and_both (nat_le (length (body_of batch)) c.max_body) (is_fit c.limits (message batch)) small fit in
+        let fits : is_let_in c batch ≡ true = and_from (nat_le (length (body_of batch)) c.max_body) (is_fit c.limits (message batch)) small fit in
         let_in P h batch (refused fits) (taken fits) (taken_all c.limits (Ok h.store) (map (time_series batch) ls)) (accept_all (Some (list_of h.store)) (message batch)) refl (fit_gives c.limits batch ls (Ok h.store) (Some (list_of h.store)) fit refl)
     by_fit false fit small = kept_out P h (unfit (and_right (nat_le (length (body_of batch)) c.max_body) (is_fit c.limits (message batch)) fit)) (taken_all c.limits (Ok h.store) (map (time_series batch) ls)) (unfit_refuses c.limits batch ls (Ok h.store) fit tt)

@@ -1,10 +1,10 @@
 -- What holds after every event, and that the small steps of a shard keep it.
 use Rattle.std.proofs.Common.{◌≡◌, ℕ, ◌+◌, ◌%◌, ◌<◌, ◌≤◌, Bool, true, false, cond, List, [], ◌∷◌, ◌++◌, length, map, take, Option, Some, None, is_some, slice_get, refl, sym, ap, ◌∙◌, subst, ◌&&◌, not, arith, inl, inr, ◌⊎◌}
 use Rattle.std.specs.List.{AllByRecursion, list_any}
-use Rattle.rw_types.proofs.AllLemmas.{AllByRecursion-weaker}
-use Rattle.rw_machine.proofs.Steps.{either, Each, each_change}
-use Rattle.rw_machine.proofs.Others.{pending_flush, pending_end, pending_take, pending_freeze, pending_lost}
-use Rattle.rw_machine.proofs.Places.{at_change, Numbered, length_change}
+use Rattle.rw_types.proofs.shared.AllLemmas.{AllByRecursion-weaker}
+use Rattle.rw_machine.proofs.shared.Steps.{Each, each_change}
+use Rattle.rw_machine.proofs.shared.Others.{pending_flush, pending_end, pending_take, pending_freeze, pending_lost}
+use Rattle.rw_machine.proofs.shared.Places.{at_change, Numbered, length_change}
 use Rattle.rw_plain_queue.specs.declared.item.Kind.TheVariants as kind
 use Rattle.std.specs.FinMap.{get}
 use Rattle.std.proofs.lemmas.Option.{same_Some}
@@ -13,10 +13,10 @@ use Rattle.rw_head.specs.Order.{holds}
 use Rattle.rw_head.specs.Store.{list_of}
 use Rattle.rw_retry.specs.Judgements.{judgement_of}
 use Rattle.rw_retry.specs.declared.judgement.Judgement.TheVariants.{Done, Refused}
-use Rattle.rw_machine.proofs.Views.{IsKept, Ledger, Store, is_let_in, of, owed_by, pairs, points, shard_again}
-use Rattle.rw_machine.specs.Promises.{Point, pair_of}
-use Rattle.rw_machine.specs.Shards.{EndMark, FlushMark, One, Queued, Shard, has_room, pending, shard_end, shard_flush, shard_freeze, shard_lost, shard_send, shard_take, take_front}
-use Rattle.rw_machine.specs.Steps.{change, changed, flush_shard, mark}
+use Rattle.rw_machine.proofs.shared.Views.{IsKept, Ledger, Store, is_let_in, of, owed_by, pairs, points, shard_again}
+use Rattle.rw_machine.specs.Promises.{LoggedPoint, pair_of}
+use Rattle.rw_machine.specs.Shards.{EndMark, FlushMark, One, Queued, Shard, has_room, pending_in_shard, shard_end, shard_flush, shard_freeze, shard_lost, shard_send, shard_take, take_front}
+use Rattle.rw_machine.specs.Steps.{change, changed, flush_shard, shard_mark}
 use Rattle.rw_machine.specs.Worlds.{Reply, Request, Setup, World, is_finished, log}
 use Rattle.rw_shard_core.specs.Shard.{Core, again, awaits, batch_id, can_freeze, can_send, can_take, is_empty}
 use Rattle.rw_series_cache.specs.Known.{Kept, known}
@@ -24,14 +24,15 @@ use Rattle.rw_series_cache.specs.Numbers.{number_of}
 use Rattle.rw_plain_queue.specs.Items.{Placed}
 use Rattle.rw_types.specs.LabelOrder.{labels_eq}
 use Rattle.rw_types.specs.Labels.{Labels}
-use Rattle.rw_shard_core.proofs.EmptyLemmas.{nil_from_empty}
+use Rattle.rw_types.proofs.shared.Booleans.{either}
+use Rattle.rw_shard_core.proofs.shared.EmptyLemmas.{nil_from_empty}
 
-abbrev pub as_points : List Placed → List Point
+abbrev pub as_points : List Placed → List LoggedPoint
 as_points = map (λ (x : Placed). (x.place.pos, x.t, x.word))
 
 abbrev pub waits : Option Shard → List Placed
 waits None = []
-waits (Some s) = pending s
+waits (Some s) = pending_in_shard s
 
 -- a series' shard
 abbrev pub home : ℕ → List Labels → Labels → ℕ
@@ -58,15 +59,15 @@ pub record SampleOk (c : Setup) (epoch placed width : ℕ) (series : List Labels
   pub home_is : home width series x.labels ≡ i
 
 pub record ShardOk (c : Setup) (epoch placed width : ℕ) (series : List Labels) (ledger : Ledger) (ident : ℕ → BatchId) (i : ℕ) (s : Shard) : Type 0 where
-  pub counted : length s.put ≡ length s.core.resolved + length (pending s)
-  pub numbered : Numbered (SampleOk c epoch placed width series ledger ident i) (length s.core.resolved) (pending s)
+  pub counted : length s.put ≡ length s.core.resolved + length (pending_in_shard s)
+  pub numbered : Numbered (SampleOk c epoch placed width series ledger ident i) (length s.core.resolved) (pending_in_shard s)
 
 -- what the head has of an open batch: nothing, or all of it
 abbrev pub GotOk : Setup → Option Shard → List Placed → Type 0
 GotOk c None got = got ≡ []
 GotOk c (Some s) got = (got ≡ []) ⊎ ((got ≡ s.core.batch) × (is_let_in c s.core.batch ≡ true))
 
-abbrev pub DoneOk : ℕ → List Shard → ℕ → (ℕ → BatchId) → Point → Type 0
+abbrev pub DoneOk : ℕ → List Shard → ℕ → (ℕ → BatchId) → LoggedPoint → Type 0
 DoneOk epoch shards placed ident q = Past epoch shards (ident q.0) × (q.0 < placed)
 
 abbrev pub IsOpen : Option Shard → List Placed → Type 0
@@ -91,7 +92,7 @@ AnswerOk c epoch shards got a = Past epoch shards a.id ⊎ ((a.id.epoch ≡ epoc
 pub record Inv (c : Setup) (w : World) : Type 0 where
   pub width : ℕ
   pub ident : ℕ → BatchId  -- each position's id, permanently
-  pub done : Labels → List Point  -- the resolved points of a series
+  pub done : Labels → List LoggedPoint  -- the resolved points of a series
   pub got : ℕ → List Placed  -- what the head has of each open batch
   pub limited : w.head.limits ≡ c.limits
   pub wide : length w.shards ≡ width
@@ -108,7 +109,7 @@ pub record Inv (c : Setup) (w : World) : Type 0 where
 
 -- a step of a shard that resolves nothing
 pub record IsQuiet (f : Shard → Shard) (s : Shard) : Type 0 where
-  pub same_pending : pending (f s) ≡ pending s
+  pub same_pending : pending_in_shard (f s) ≡ pending_in_shard s
   pub same_resolved : (f s).core.resolved ≡ s.core.resolved
   pub same_put : (f s).put ≡ s.put
   pub same_batch : is_empty s.core.batch ≡ false → (f s).core.batch ≡ s.core.batch
@@ -151,7 +152,7 @@ quiet c w j f q at = record {
     kept_ok : {i : ℕ} (s : Shard) → ShardOk c w.epoch w.placed at.width w.series (get w.names) at.ident i s → ShardOk c w.epoch w.placed at.width w.series (get w.names) at.ident i (f s)
     kept_ok {i} s ok = record {
       counted = ap length ((q s).same_put) ∙ ok.counted ∙ (λ k. length (sym (q s).same_resolved k) + length (sym (q s).same_pending k));
-      numbered = subst (λ (n : ℕ). Numbered (SampleOk c w.epoch w.placed at.width w.series (get w.names) at.ident i) n (pending (f s))) (sym (ap length ((q s).same_resolved))) (subst (λ ps. Numbered (SampleOk c w.epoch w.placed at.width w.series (get w.names) at.ident i) (length s.core.resolved) ps) (sym ((q s).same_pending)) ok.numbered);
+      numbered = subst (λ (n : ℕ). Numbered (SampleOk c w.epoch w.placed at.width w.series (get w.names) at.ident i) n (pending_in_shard (f s))) (sym (ap length ((q s).same_resolved))) (subst (λ ps. Numbered (SampleOk c w.epoch w.placed at.width w.series (get w.names) at.ident i) (length s.core.resolved) ps) (sym ((q s).same_pending)) ok.numbered);
     }
 
     kept_got : (s : Shard) (got : List Placed) → GotOk c (Some s) got → GotOk c (Some (f s)) got
@@ -184,7 +185,7 @@ pub record Leaves (s t : Shard) : Type 0 where
 -- the quiet steps
 pub quiet_send : (s : Shard) → IsQuiet shard_send s
 quiet_send s = record {
-  same_pending = either (λ d. pending (record s { core = d }) ≡ pending s) (can_send s.core) _ s.core (λ _. refl) (λ _. refl);
+  same_pending = either (λ d. pending_in_shard (record s { core = d }) ≡ pending_in_shard s) (can_send s.core) _ s.core (λ _. refl) (λ _. refl);
   same_resolved = either (λ d. d.resolved ≡ s.core.resolved) (can_send s.core) _ s.core (λ _. refl) (λ _. refl);
   same_put = refl;
   same_batch = λ _. either (λ d. d.batch ≡ s.core.batch) (can_send s.core) _ s.core (λ _. refl) (λ _. refl);
@@ -235,16 +236,16 @@ quiet_flush c w s = by_guard (not s.end_put && has_room c.capacity s)
     by_mark false true = record { resolved = refl; put = refl; batch = refl }
     by_mark false false = record { resolved = refl; put = refl; batch = refl }
 
-    pend : (b d : Bool) → pending (cond b (shard_end kind.Orderly s) (cond d (shard_end kind.Reshard s) (shard_flush s))) ≡ pending s
+    pend : (b d : Bool) → pending_in_shard (cond b (shard_end kind.Orderly s) (cond d (shard_end kind.Reshard s) (shard_flush s))) ≡ pending_in_shard s
     pend true d = pending_end kind.Orderly s
     pend false true = pending_end kind.Reshard s
     pend false false = pending_flush s
 
-    left : (b : Bool) → Leaves s (cond b (mark w s) s)
+    left : (b : Bool) → Leaves s (cond b (shard_mark w s) s)
     left true = by_mark (is_finished w) (is_some w.draining)
     left false = record { resolved = refl; put = refl; batch = refl }
 
-    pends : (b : Bool) → pending (cond b (mark w s) s) ≡ pending s
+    pends : (b : Bool) → pending_in_shard (cond b (shard_mark w s) s) ≡ pending_in_shard s
     pends true = pend (is_finished w) (is_some w.draining)
     pends false = refl
 

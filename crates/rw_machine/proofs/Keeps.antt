@@ -5,11 +5,11 @@ use Rattle.std.proofs.lemmas.Bool.{cases_eq, true≢false, or_right, cond-false,
 use Rattle.std.proofs.lemmas.Bool.Decides.{Decides-eqb}
 use Rattle.std.proofs.lemmas.List.{take-append-le, map-append}
 use Rattle.std.proofs.lemmas.List.Elements.{filter-append}
-use Rattle.rw_types.proofs.AllLemmas.{AllByRecursion-left, AllByRecursion-weaker}
-use Rattle.rw_machine.proofs.Steps.{either, each_change, same_is, is_same}
-use Rattle.rw_machine.proofs.Others.{entries_grow, known_kept, pending_parts, pending_put}
-use Rattle.rw_machine.proofs.Names.{ledger_insert, name_batch}
-use Rattle.rw_machine.proofs.Places.{at_change, Numbered, numbered_more, numbered_push, numbered_all, length_change, points_more, take_next, get_below, number_more, get_changed, get_others, of_append}
+use Rattle.rw_types.proofs.shared.AllLemmas.{AllByRecursion-left, AllByRecursion-weaker}
+use Rattle.rw_machine.proofs.shared.Steps.{each_change, same_is, is_same}
+use Rattle.rw_machine.proofs.shared.Others.{entries_grow, known_kept, pending_parts, pending_put}
+use Rattle.rw_machine.proofs.shared.Names.{ledger_insert, name_batch}
+use Rattle.rw_machine.proofs.shared.Places.{at_change, Numbered, numbered_more, numbered_push, numbered_all, length_change, points_more, take_next, get_below, number_more, get_changed, get_others, of_append}
 use Rattle.rw_machine.proofs.Invariant.{Inv, as_points, waits, home, id_at, Past, SampleOk, ShardOk, GotOk, DoneOk, IsOpen, InStore, RequestOk, AnswersOpen, AnswerOk, past_change, by_bool}
 use Rattle.std.specs.FinMap.{FinMap, get, insert}
 use Rattle.std.specs.Ordering.{nat_cmp}
@@ -17,15 +17,15 @@ use Rattle.std.proofs.lemmas.Option.{same_Some}
 use Rattle.rw_wal_format.specs.Pieces.{entries}
 use Rattle.rw_wal_tail.specs.Fed.{piece_of}
 use Rattle.rw_wal_tail.specs.declared.piece.Piece.{Piece}
-use Rattle.rw_series_cache.proofs.KnownLemmas.{definitions_of-sample, known-definition, known-definitions_of}
+use Rattle.rw_series_cache.proofs.shared.KnownLemmas.{definitions_of-sample, known-definition, known-definitions_of}
 use Rattle.rw_batch.specs.declared.batch.BatchId.{BatchId}
 use Rattle.rw_ledger.specs.declared.ledger.Reason.{Reason}
 use Rattle.rw_ledger.specs.declared.ledger.Reason.TheVariants.{BadLabels, NoSeries, NotRising, Status}
 use Rattle.rw_head.specs.Store.{list_of}
-use Rattle.rw_machine.proofs.Views.{IsKept, Ledger, is_let_in, is_of, named_at, of, owed_by, pairs, point_of, points}
-use Rattle.rw_machine.specs.Promises.{Point, pair_of}
-use Rattle.rw_machine.specs.Shards.{Shard, has_room, pending, samples_in, shard_put}
-use Rattle.rw_machine.specs.Steps.{change, feed, next_sample, place, place_entry, place_kept, place_sample, put_if_room, shard_of}
+use Rattle.rw_machine.proofs.shared.Views.{IsKept, Ledger, is_let_in, is_of, named_at, of, owed_by, pairs, point_of, points}
+use Rattle.rw_machine.specs.Promises.{LoggedPoint, pair_of}
+use Rattle.rw_machine.specs.Shards.{Shard, has_room, pending_in_shard, samples_waiting, shard_put}
+use Rattle.rw_machine.specs.Steps.{change, feed, next_sample, place, place_entry, place_kept, place_sample, put_if_room, shard_of_labels}
 use Rattle.rw_machine.specs.Worlds.{Reply, Request, Setup, World, log}
 use Rattle.rw_series_cache.specs.Known.{Bad, Filtered, Kept, Standing, Unknown, known, standing_of}
 use Rattle.rw_series_cache.specs.Rising.{rises}
@@ -35,6 +35,7 @@ use Rattle.rw_types.specs.LabelOrder.{labels_eq}
 use Rattle.rw_types.specs.Labels.{Labels, label_fault_number}
 use Rattle.rw_types.specs.declared.entry.Entry.{Entry}
 use Rattle.rw_types.specs.declared.entry.Entry.TheVariants.{Def, Sample}
+use Rattle.rw_types.proofs.shared.Booleans.{either}
 
 -- the ledger
 pub named_other : (p q : ℕ) (r : Reason) (ledger : Ledger) → (p ≡ q → ⊥) → named_at p r ledger q ≡ ledger q
@@ -55,20 +56,20 @@ names_own status (x ∷ xs) ledger = (
   names_own status xs (named_at x.place.pos (Status status) ledger),
 )
 
-pub owed_same : (new old : Ledger) (ps : List Point) → AllByRecursion (λ (q : Point). new q.0 ≡ old q.0) ps → owed_by new ps ≡ owed_by old ps
+pub owed_same : (new old : Ledger) (ps : List LoggedPoint) → AllByRecursion (λ (q : LoggedPoint). new q.0 ≡ old q.0) ps → owed_by new ps ≡ owed_by old ps
 owed_same new old [] h = refl
 owed_same new old (q ∷ ps) h = (λ i. cond (is_none (h.0 i)) (q ∷ owed_by new ps) (owed_by new ps)) ∙ ap (λ rest. cond (is_none (old q.0)) (q ∷ rest) rest) (owed_same new old ps h.1)
 
-pub owed_all : (ledger : Ledger) (ps : List Point) → AllByRecursion (λ (q : Point). ledger q.0 ≡ None) ps → owed_by ledger ps ≡ ps
+pub owed_all : (ledger : Ledger) (ps : List LoggedPoint) → AllByRecursion (λ (q : LoggedPoint). ledger q.0 ≡ None) ps → owed_by ledger ps ≡ ps
 owed_all ledger [] h = refl
 owed_all ledger (q ∷ ps) h = cond-true (is_none (ledger q.0)) (q ∷ owed_by ledger ps) (owed_by ledger ps) (ap is_none h.0) ∙ ap (λ rest. q ∷ rest) (owed_all ledger ps h.1)
 
-pub owed_none : (ledger : Ledger) (ps : List Point) → AllByRecursion (λ (q : Point). is_none (ledger q.0) ≡ false) ps → owed_by ledger ps ≡ []
+pub owed_none : (ledger : Ledger) (ps : List LoggedPoint) → AllByRecursion (λ (q : LoggedPoint). is_none (ledger q.0) ≡ false) ps → owed_by ledger ps ≡ []
 owed_none ledger [] h = refl
 owed_none ledger (q ∷ ps) h = cond-false (is_none (ledger q.0)) (q ∷ owed_by ledger ps) (owed_by ledger ps) h.0 ∙ owed_none ledger ps h.1
 
-pub owed_append : (ledger : Ledger) (xs ys : List Point) → owed_by ledger (xs ++ ys) ≡ owed_by ledger xs ++ owed_by ledger ys
-owed_append ledger xs ys = filter-append (λ (q : Point). is_none (ledger q.0)) xs ys
+pub owed_append : (ledger : Ledger) (xs ys : List LoggedPoint) → owed_by ledger (xs ++ ys) ≡ owed_by ledger xs ++ owed_by ledger ys
+owed_append ledger xs ys = filter-append (λ (q : LoggedPoint). is_none (ledger q.0)) xs ys
 
 pub pairs_of_points : (xs : List Placed) → map pair_of (as_points xs) ≡ pairs xs
 pairs_of_points [] = refl
@@ -105,14 +106,14 @@ feed_keeps c w piece at = either (Inv c) (is_some w.closed) w (record w { pieces
 -- a series that was not met has no pending sample
 no_member : (c : Setup) (w : World) (at : Inv c w) (l : Labels) → list_any (labels_eq l) w.series ≡ false → (i : ℕ) (o : Option Shard) → slice_get w.shards i ≡ o → AllByRecursion (λ (x : Placed). labels_eq l x.labels ≡ false) (waits o)
 no_member c w at l new i None e = tt
-no_member c w at l new i (Some s) e = numbered_all (SampleOk c w.epoch w.placed at.width w.series (get w.names) at.ident i) (λ (x : Placed). labels_eq l x.labels ≡ false) (length s.core.resolved) (length s.core.resolved + length (pending s)) (pending s) refl
+no_member c w at l new i (Some s) e = numbered_all (SampleOk c w.epoch w.placed at.width w.series (get w.names) at.ident i) (λ (x : Placed). labels_eq l x.labels ≡ false) (length s.core.resolved) (length s.core.resolved + length (pending_in_shard s)) (pending_in_shard s) refl
     (λ k x _ _ ok. by_bool (labels_eq l x.labels ≡ false) (labels_eq l x.labels) (λ h. absurd (true≢false (sym ok.member ∙ ap (λ m. list_any (labels_eq m) w.series) (sym (same_is l x.labels h)) ∙ new))) (λ h. h))
     ((at.shards_ok i s e).numbered)
 
 got_of_none : (c : Setup) (l : Labels) (o : Option Shard) (got : List Placed) → GotOk c o got → AllByRecursion (λ (x : Placed). labels_eq l x.labels ≡ false) (waits o) → of l got ≡ []
 got_of_none c l None got g h = ap (of l) g
 got_of_none c l (Some s) got (inl g) h = ap (of l) g
-got_of_none c l (Some s) got (inr g) h = ap (of l) g.0 ∙ of_none l s.core.batch (AllByRecursion-left (λ (x : Placed). labels_eq l x.labels ≡ false) s.core.batch (s.core.builder ++ samples_in s.queue) (subst (AllByRecursion (λ (x : Placed). labels_eq l x.labels ≡ false)) (pending_parts s) h))
+got_of_none c l (Some s) got (inr g) h = ap (of l) g.0 ∙ of_none l s.core.batch (AllByRecursion-left (λ (x : Placed). labels_eq l x.labels ≡ false) s.core.batch (s.core.builder ++ samples_waiting s.queue) (subst (AllByRecursion (λ (x : Placed). labels_eq l x.labels ≡ false)) (pending_parts s) h))
 
 -- an entry is placed that puts nothing
 pub record Moves (c : Setup) (w : World) (e : Entry) (series : List Labels) (ledger : Ledger) : Type 0 where
@@ -133,7 +134,7 @@ moves_keeps c w e series names filtered m at = record {
   wide = at.wide;
   placed_in = get_below (log w) w.placed e m.next;
   series_in = λ r l h. m.met r l (ap (λ s. known c.choice s r) (sym seen) ∙ h);
-  shards_ok = λ i s at_i. let ok = at.shards_ok i s at_i in record { counted = ok.counted; numbered = numbered_more (SampleOk c w.epoch w.placed at.width w.series (get w.names) at.ident i) (SampleOk c w.epoch (suc w.placed) at.width series (get names) at.ident i) (length s.core.resolved) (pending s) (λ k x _ x_ok. sample i k x x_ok) ok.numbered };
+  shards_ok = λ i s at_i. let ok = at.shards_ok i s at_i in record { counted = ok.counted; numbered = numbered_more (SampleOk c w.epoch w.placed at.width w.series (get w.names) at.ident i) (SampleOk c w.epoch (suc w.placed) at.width series (get names) at.ident i) (length s.core.resolved) (pending_in_shard s) (λ k x _ x_ok. sample i k x x_ok) ok.numbered };
   got_ok = at.got_ok;
   mine = λ l k. ap (points c l) seen ∙ points_more c l (take w.placed (log w)) e ∙ ap (λ ps. points c l (take w.placed (log w)) ++ ps) (m.no_point l k) ∙ append-nil (points c l (take w.placed (log w))) ∙ at.mine l k ∙ ap (λ ps. at.done l ++ as_points ps) (same_wait l);
   stored = λ l k. at.stored l k ∙ (λ i. map pair_of (sym (same_owed l k) i) ++ pairs (same_got l i));
@@ -176,7 +177,7 @@ moves_keeps c w e series names filtered m at = record {
         (λ h. none_got l h (home at.width w.series l) ∙ sym (none_got l h (home at.width series l)))
 
     same_owed : (l : Labels) → IsKept c l → owed_by (get names) (at.done l) ≡ owed_by (get w.names) (at.done l)
-    same_owed l k = owed_same (get names) (get w.names) (at.done l) (AllByRecursion-weaker (DoneOk w.epoch w.shards w.placed at.ident) (λ (q : Point). get names q.0 ≡ get w.names q.0) (λ q ok. m.below q.0 ok.1) (at.done l) (at.done_ok l k))
+    same_owed l k = owed_same (get names) (get w.names) (at.done l) (AllByRecursion-weaker (DoneOk w.epoch w.shards w.placed at.ident) (λ (q : LoggedPoint). get names q.0 ≡ get w.names q.0) (λ q ok. m.below q.0 ok.1) (at.done l) (at.done_ok l k))
 
 pub of_is : (l : Labels) (k : Standing) → is_of l k ≡ true → k ≡ Kept l
 of_is l Unknown h = absurd (true≢false (sym h))
@@ -188,7 +189,7 @@ of_is l (Kept m) h = ap Kept (sym (same_is l m h))
 no_point_by : (c : Setup) (l : Labels) (seen : List Entry) (r : ℕ) (t : ℤ) (word : ℕ) → (is_of l (known c.choice seen r) ≡ true → rises c.choice seen l t ≡ false) → point_of c l seen (Sample r t word) ≡ []
 no_point_by c l seen r t word h = by_test (is_of l (known c.choice seen r)) h
   where
-    by_test : (b : Bool) → (b ≡ true → rises c.choice seen l t ≡ false) → cond {A = List Point} (b && rises c.choice seen l t) ((length seen, t, word) ∷ []) [] ≡ []
+    by_test : (b : Bool) → (b ≡ true → rises c.choice seen l t ≡ false) → cond {A = List LoggedPoint} (b && rises c.choice seen l t) ((length seen, t, word) ∷ []) [] ≡ []
     by_test true h = cond-false (rises c.choice seen l t) ((length seen, t, word) ∷ []) [] (h refl)
     by_test false h = refl
 
@@ -260,7 +261,7 @@ named_above : (c : Setup) (w : World) (at : Inv c w) (reason : Reason) (p : ℕ)
 named_above c w at reason p le = ap (λ ledger. ledger p) (ledger_insert w.names w.placed reason) ∙ named_other w.placed p reason (get w.names) (λ e. omega arith) ∙ at.fresh p (omega arith)
 
 -- a kept sample is put
-put_keeps : (c : Setup) (w : World) (r : ℕ) (t : ℤ) (word : ℕ) (l : Labels) (i : ℕ) (s : Shard) → slice_get (log w) w.placed ≡ Some (Sample r t word) → known c.choice (take w.placed (log w)) r ≡ Kept l → rises c.choice (take w.placed (log w)) l t ≡ true → i ≡ shard_of w l → slice_get w.shards i ≡ Some s → Inv c w → Inv c (record w { shards = change i (shard_put (next_sample w i l t word s)) w.shards; placed = suc w.placed })
+put_keeps : (c : Setup) (w : World) (r : ℕ) (t : ℤ) (word : ℕ) (l : Labels) (i : ℕ) (s : Shard) → slice_get (log w) w.placed ≡ Some (Sample r t word) → known c.choice (take w.placed (log w)) r ≡ Kept l → rises c.choice (take w.placed (log w)) l t ≡ true → i ≡ shard_of_labels w l → slice_get w.shards i ≡ Some s → Inv c w → Inv c (record w { shards = change i (shard_put (next_sample w i l t word s)) w.shards; placed = suc w.placed })
 put_keeps c w r t word l i s e is_known up i_is at_i at = record {
   width = at.width;
   ident = ident;
@@ -309,15 +310,15 @@ put_keeps c w r t word l i s e is_known up i_is at_i at = record {
     sample j k y ok = record { epoch_is = ok.epoch_is; shard_is = ok.shard_is; seq_is = ok.seq_is; ident_is = same_ident y.place.pos ok.below ∙ ok.ident_is; below = (let lt : y.place.pos < w.placed = ok.below in omega arith); unnamed = ok.unnamed; kept = ok.kept; member = ok.member; home_is = ok.home_is }
 
     older : (j : ℕ) (u : Shard) → ShardOk c w.epoch w.placed at.width w.series (get w.names) at.ident j u → ShardOk c w.epoch (suc w.placed) at.width w.series (get w.names) ident j u
-    older j u ok = record { counted = ok.counted; numbered = numbered_more (SampleOk c w.epoch w.placed at.width w.series (get w.names) at.ident j) (SampleOk c w.epoch (suc w.placed) at.width w.series (get w.names) ident j) (length u.core.resolved) (pending u) (λ k y _ y_ok. sample j k y y_ok) ok.numbered }
+    older j u ok = record { counted = ok.counted; numbered = numbered_more (SampleOk c w.epoch w.placed at.width w.series (get w.names) at.ident j) (SampleOk c w.epoch (suc w.placed) at.width w.series (get w.names) ident j) (length u.core.resolved) (pending_in_shard u) (λ k y _ y_ok. sample j k y y_ok) ok.numbered }
 
     new : SampleOk c w.epoch (suc w.placed) at.width w.series (get w.names) ident i (length s.put) x
     new = record { epoch_is = refl; shard_is = refl; seq_is = refl; ident_is = cond-true (w.placed == w.placed) (id_at w.epoch i (length s.put)) (at.ident w.placed) ((Decides-eqb w.placed w.placed).1 refl); below = omega arith; unnamed = at.fresh w.placed (omega arith); kept = kept; member = at.series_in r l is_known; home_is = home_l }
 
     pushed : ShardOk c w.epoch (suc w.placed) at.width w.series (get w.names) ident i (shard_put x s)
     pushed = let ok = older i s (at.shards_ok i s at_i) in record {
-      counted = (let a : length (s.put ++ x ∷ []) ≡ length s.put + 1 = length-append s.put (x ∷ []) in let b : length (pending (shard_put x s)) ≡ length (pending s) + 1 = ap length (pending_put x s) ∙ length-append (pending s) (x ∷ []) in let d : length s.put ≡ length s.core.resolved + length (pending s) = ok.counted in omega arith);
-      numbered = subst (Numbered (SampleOk c w.epoch (suc w.placed) at.width w.series (get w.names) ident i) (length s.core.resolved)) (sym (pending_put x s)) (numbered_push (SampleOk c w.epoch (suc w.placed) at.width w.series (get w.names) ident i) (length s.core.resolved) (length s.put) (pending s) x ok.counted ok.numbered new);
+      counted = (let a : length (s.put ++ x ∷ []) ≡ length s.put + 1 = length-append s.put (x ∷ []) in let b : length (pending_in_shard (shard_put x s)) ≡ length (pending_in_shard s) + 1 = ap length (pending_put x s) ∙ length-append (pending_in_shard s) (x ∷ []) in let d : length s.put ≡ length s.core.resolved + length (pending_in_shard s) = ok.counted in omega arith);
+      numbered = subst (Numbered (SampleOk c w.epoch (suc w.placed) at.width w.series (get w.names) ident i) (length s.core.resolved)) (sym (pending_put x s)) (numbered_push (SampleOk c w.epoch (suc w.placed) at.width w.series (get w.names) ident i) (length s.core.resolved) (length s.put) (pending_in_shard s) x ok.counted ok.numbered new);
     }
 
     before : (m : Labels) → List Placed
@@ -338,9 +339,9 @@ put_keeps c w r t word l i s e is_known up i_is at_i at = record {
     by_home m k (inl h) =
         let here : slice_get (change i (shard_put x) w.shards) (home at.width w.series m) ≡ Some (shard_put x s) = ap (slice_get (change i (shard_put x) w.shards)) h ∙ get_changed i (shard_put x) w.shards s at_i in
         let was : slice_get w.shards (home at.width w.series m) ≡ Some s = ap (slice_get w.shards) h ∙ at_i in
-        let mine : points c m seen ≡ at.done m ++ as_points (of m (pending s)) = at.mine m k ∙ ap (λ o. at.done m ++ as_points (of m (waits o))) was in
-        let joined : as_points (of m (pending s)) ++ as_points (of m (x ∷ [])) ≡ as_points (of m (pending (shard_put x s))) = sym (map-append _ (of m (pending s)) (of m (x ∷ []))) ∙ ap as_points (sym (of_append m (pending s) (x ∷ []))) ∙ ap (λ ps. as_points (of m ps)) (sym (pending_put x s)) in
-        (λ j. mine j ++ same_point m j) ∙ append_assoc (at.done m) (as_points (of m (pending s))) (as_points (of m (x ∷ []))) ∙ ap (λ ps. at.done m ++ ps) joined ∙ ap (λ o. at.done m ++ as_points (of m (waits o))) (sym here)
+        let mine : points c m seen ≡ at.done m ++ as_points (of m (pending_in_shard s)) = at.mine m k ∙ ap (λ o. at.done m ++ as_points (of m (waits o))) was in
+        let joined : as_points (of m (pending_in_shard s)) ++ as_points (of m (x ∷ [])) ≡ as_points (of m (pending_in_shard (shard_put x s))) = sym (map-append _ (of m (pending_in_shard s)) (of m (x ∷ []))) ∙ ap as_points (sym (of_append m (pending_in_shard s) (x ∷ []))) ∙ ap (λ ps. as_points (of m ps)) (sym (pending_put x s)) in
+        (λ j. mine j ++ same_point m j) ∙ append_assoc (at.done m) (as_points (of m (pending_in_shard s))) (as_points (of m (x ∷ []))) ∙ ap (λ ps. at.done m ++ ps) joined ∙ ap (λ o. at.done m ++ as_points (of m (waits o))) (sym here)
     by_home m k (inr h) =
         let differs : labels_eq m l ≡ false = by_bool _ (labels_eq m l) (λ z. absurd (h (ap (home at.width w.series) (same_is m l z) ∙ home_l))) (λ z. z) in
         let none : point_of c m seen (Sample r t word) ≡ [] = same_point m ∙ ap as_points (cond-false (labels_eq m l) (x ∷ []) [] differs) in
@@ -357,15 +358,15 @@ put_keeps c w r t word l i s e is_known up i_is at_i at = record {
 pub place_keeps : (c : Setup) (w : World) → Inv c w → Inv c (place c w)
 place_keeps c w at = either (Inv c) (is_some w.draining) w (place_entry c w (slice_get (log w) w.placed)) (λ _. at) (λ _. by_entry (slice_get (log w) w.placed) refl)
   where
-    by_shard : (r : ℕ) (t : ℤ) (word : ℕ) (l : Labels) (o : Option Shard) → slice_get (log w) w.placed ≡ Some (Sample r t word) → known c.choice (take w.placed (log w)) r ≡ Kept l → rises c.choice (take w.placed (log w)) l t ≡ true → slice_get w.shards (shard_of w l) ≡ o → Inv c (put_if_room c w (shard_of w l) l t word o)
+    by_shard : (r : ℕ) (t : ℤ) (word : ℕ) (l : Labels) (o : Option Shard) → slice_get (log w) w.placed ≡ Some (Sample r t word) → known c.choice (take w.placed (log w)) r ≡ Kept l → rises c.choice (take w.placed (log w)) l t ≡ true → slice_get w.shards (shard_of_labels w l) ≡ o → Inv c (put_if_room c w (shard_of_labels w l) l t word o)
     by_shard r t word l None e is_known up at_i = at
-    by_shard r t word l (Some s) e is_known up at_i = either (Inv c) (has_room c.capacity s) _ w (λ _. put_keeps c w r t word l (shard_of w l) s e is_known up refl at_i at) (λ _. at)
+    by_shard r t word l (Some s) e is_known up at_i = either (Inv c) (has_room c.capacity s) _ w (λ _. put_keeps c w r t word l (shard_of_labels w l) s e is_known up refl at_i at) (λ _. at)
 
     named : (r : ℕ) (t : ℤ) (word : ℕ) (reason : Reason) → slice_get (log w) w.placed ≡ Some (Sample r t word) → ((l : Labels) → point_of c l (take w.placed (log w)) (Sample r t word) ≡ []) → Inv c (record w { names = insert w.names w.placed reason; placed = suc w.placed })
     named r t word reason e none = moves_keeps c w (Sample r t word) w.series (insert w.names w.placed reason) w.filtered (sample_moves c w r t word (get (insert w.names w.placed reason)) e none (named_below w reason) (named_above c w at reason) at) at
 
     by_rising : (r : ℕ) (t : ℤ) (word : ℕ) (l : Labels) → slice_get (log w) w.placed ≡ Some (Sample r t word) → known c.choice (take w.placed (log w)) r ≡ Kept l → (b : Bool) → rises c.choice (take w.placed (log w)) l t ≡ b → Inv c (place_kept c w l t word b)
-    by_rising r t word l e is_known true up = by_shard r t word l (slice_get w.shards (shard_of w l)) e is_known up refl
+    by_rising r t word l e is_known true up = by_shard r t word l (slice_get w.shards (shard_of_labels w l)) e is_known up refl
     by_rising r t word l e is_known false falls = named r t word NotRising e (λ m. no_point_fallen c m l (take w.placed (log w)) r t word is_known falls)
 
     by_known : (r : ℕ) (t : ℤ) (word : ℕ) (k : Standing) → slice_get (log w) w.placed ≡ Some (Sample r t word) → known c.choice (take w.placed (log w)) r ≡ k → Inv c (place_sample c w t word k)

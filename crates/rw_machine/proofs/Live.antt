@@ -1,15 +1,15 @@
 -- What holds after every event, whatever the timestamps: what `settle` needs to come to a report.
 use Rattle.std.proofs.Common.{◌≡◌, ℕ, suc, ◌+◌, ◌<◌, ◌≤◌, ◌==◌, Bool, true, false, cond, List, [], ◌∷◌, ◌++◌, length, take, Option, Some, None, is_some, slice_get, refl, sym, ap, ◌∙◌, subst, ℤ, ◌||◌, ◌&&◌, not, nat_le, length-append, arith}
 use Rattle.std.specs.List.{AllByRecursion, list_any}
-use Rattle.std.proofs.lemmas.Bool.{leb-true, true≢false, not-true, and_parts}
+use Rattle.std.proofs.lemmas.Bool.{leb-true, true≢false, not-true, and_parts, and_from}
 use Rattle.std.proofs.lemmas.Bool.Decides.{Decides-eqb}
 use Rattle.std.proofs.lemmas.Option.{same_Some}
-use Rattle.rw_types.proofs.AllLemmas.{AllByRecursion-append, AllByRecursion-left, AllByRecursion-right}
-use Rattle.rw_machine.proofs.Steps.{always, either, Each, each_change, each_new, and_both}
-use Rattle.rw_machine.proofs.Others.{pending_put, pending_freeze, entries_grow}
-use Rattle.rw_machine.proofs.Places.{get_below, length_change}
+use Rattle.rw_types.proofs.shared.AllLemmas.{AllByRecursion-append, AllByRecursion-left, AllByRecursion-right}
+use Rattle.rw_machine.proofs.shared.Steps.{always, Each, each_change, each_new}
+use Rattle.rw_machine.proofs.shared.Others.{pending_put, pending_freeze, entries_grow}
+use Rattle.rw_machine.proofs.shared.Places.{get_below, length_change}
 use Rattle.rw_machine.proofs.Invariant.{quiet_take, quiet_flush}
-use Rattle.rw_machine.proofs.Resolves.{length_new}
+use Rattle.rw_machine.proofs.shared.Resolves.{length_new}
 use Rattle.rw_machine.proofs.Closed.{Ends, ends_act, ends_at, Shape, ShapeOf}
 use Rattle.rw_machine.specs.declared.event.Event.TheVariants as event
 use Rattle.rw_plain_queue.specs.declared.item.Kind.TheVariants as kind
@@ -19,9 +19,9 @@ use Rattle.rw_wal_tail.specs.declared.piece.Piece.{Piece}
 use Rattle.rw_retry.specs.Judgements.{judgement_of}
 use Rattle.rw_retry.specs.declared.judgement.Judgement.{Judgement}
 use Rattle.rw_retry.specs.declared.judgement.Judgement.TheVariants.{Again, Done, Refused}
-use Rattle.rw_machine.proofs.Views.{shard_again, shard_resolve}
-use Rattle.rw_machine.specs.Shards.{EndMark, FlushMark, One, Queued, Shard, has_room, new_shard, pending, samples_in, shard_end, shard_flush, shard_freeze, shard_lost, shard_put, shard_send, shard_take, take_front, with_core}
-use Rattle.rw_machine.specs.Steps.{act, arrive, change, changed, flush_shard, mark, next_sample, place, place_entry, place_kept, place_sample, put_if_room, reply_to, request_by, restart_as, run, send_batch, settled, shard_of, take_reply}
+use Rattle.rw_machine.proofs.shared.Views.{shard_again, shard_resolve}
+use Rattle.rw_machine.specs.Shards.{EndMark, FlushMark, One, Queued, Shard, has_room, new_shard, pending_in_shard, samples_waiting, shard_end, shard_flush, shard_freeze, shard_lost, shard_put, shard_send, shard_take, take_front, with_core}
+use Rattle.rw_machine.specs.Steps.{act, arrive, change, changed, flush_shard, shard_mark, next_sample, place, place_entry, place_kept, place_sample, put_if_room, reply_to, request_by, restart_as, run, send_batch, settled, shard_of_labels, take_reply}
 use Rattle.rw_machine.specs.Worlds.{Reply, Request, Setup, World, is_finished, log, new_shards, start}
 use Rattle.rw_machine.specs.declared.event.Event.{Event}
 use Rattle.rw_machine.specs.declared.event.How.{How}
@@ -33,10 +33,9 @@ use Rattle.rw_plain_queue.specs.Items.{Placed}
 use Rattle.rw_types.specs.Labels.{Labels}
 use Rattle.rw_types.specs.declared.entry.Entry.{Entry}
 use Rattle.rw_types.specs.declared.entry.Entry.TheVariants.{Def, Sample}
-use Rattle.rw_shard_core.proofs.EmptyLemmas.{is_empty-push}
-
-pub same_id_own : (d : BatchId) → same_id d d ≡ true
-same_id_own d = and_both (d.epoch == d.epoch && d.shard == d.shard) (d.seq == d.seq) (and_both (d.epoch == d.epoch) (d.shard == d.shard) ((Decides-eqb d.epoch d.epoch).1 refl) ((Decides-eqb d.shard d.shard).1 refl)) ((Decides-eqb d.seq d.seq).1 refl)
+use Rattle.rw_types.proofs.shared.Booleans.{either}
+use Rattle.rw_shard_core.proofs.shared.EmptyLemmas.{is_empty-push}
+use Rattle.rw_shard_core.proofs.shared.StepGuards.{same_id-self}
 
 -- a request with the id was sent
 abbrev pub HasId : List Request → BatchId → Type 0
@@ -51,7 +50,7 @@ has_more (q ∷ qs) r id h = by_test (same_id id q.id) h (has_more qs r id)
     by_test false h more = more h
 
 has_own : (requests : List Request) (r : Request) → HasId (requests ++ r ∷ []) r.id
-has_own [] r = ap (λ b. b || false) (same_id_own r.id)
+has_own [] r = ap (λ b. b || false) (same_id-self r.id)
 has_own (q ∷ qs) r = by_test (same_id r.id q.id) (has_own qs r)
   where
     by_test : (b : Bool) → list_any (λ (p : Request). same_id r.id p.id) (qs ++ r ∷ []) ≡ true → (b || list_any (λ (p : Request). same_id r.id p.id) (qs ++ r ∷ [])) ≡ true
@@ -62,8 +61,8 @@ has_own (q ∷ qs) r = by_test (same_id r.id q.id) (has_own qs r)
 pub record Going (c : Setup) (requests : List Request) (i : ℕ) (s : Shard) : Type 0 where
   pub alive : s.core.killed ≡ false
   pub full_is : s.core.full ≡ c.batch
-  pub counted : length s.put ≡ length s.core.resolved + length (pending s)
-  pub mine : AllByRecursion (λ (x : Placed). x.place.shard ≡ i) (pending s)
+  pub counted : length s.put ≡ length s.core.resolved + length (pending_in_shard s)
+  pub mine : AllByRecursion (λ (x : Placed). x.place.shard ≡ i) (pending_in_shard s)
   pub held : s.core.marked ≡ true → is_empty s.core.builder ≡ false
   pub closes : s.core.ended ≡ true → is_empty s.core.builder ≡ false → s.core.marked ≡ true
   pub sent : is_empty s.core.batch ≡ false → s.core.waiting ≡ true → HasId requests (batch_id s.core.batch)
@@ -85,8 +84,8 @@ put_going : (c : Setup) (requests : List Request) (i : ℕ) (x : Placed) (s : Sh
 put_going c requests i x s own g = record {
   alive = g.alive;
   full_is = g.full_is;
-  counted = (let a : length (s.put ++ x ∷ []) ≡ length s.put + 1 = length-append s.put (x ∷ []) in let b : length (pending (shard_put x s)) ≡ length (pending s) + 1 = ap length (pending_put x s) ∙ length-append (pending s) (x ∷ []) in let d : length s.put ≡ length s.core.resolved + length (pending s) = g.counted in omega arith);
-  mine = subst (AllByRecursion (λ (y : Placed). y.place.shard ≡ i)) (sym (pending_put x s)) (AllByRecursion-append (λ (y : Placed). y.place.shard ≡ i) (pending s) (x ∷ []) g.mine (own, tt));
+  counted = (let a : length (s.put ++ x ∷ []) ≡ length s.put + 1 = length-append s.put (x ∷ []) in let b : length (pending_in_shard (shard_put x s)) ≡ length (pending_in_shard s) + 1 = ap length (pending_put x s) ∙ length-append (pending_in_shard s) (x ∷ []) in let d : length s.put ≡ length s.core.resolved + length (pending_in_shard s) = g.counted in omega arith);
+  mine = subst (AllByRecursion (λ (y : Placed). y.place.shard ≡ i)) (sym (pending_put x s)) (AllByRecursion-append (λ (y : Placed). y.place.shard ≡ i) (pending_in_shard s) (x ∷ []) g.mine (own, tt));
   held = g.held;
   closes = g.closes;
   sent = g.sent;
@@ -94,14 +93,14 @@ put_going c requests i x s own g = record {
 
 -- a step that leaves what is pending
 record Leaves (s t : Shard) : Type 0 where
-  same_pending : pending t ≡ pending s
+  same_pending : pending_in_shard t ≡ pending_in_shard s
   same_resolved : t.core.resolved ≡ s.core.resolved
   same_put : t.put ≡ s.put
 
-left_counted : (s t : Shard) → Leaves s t → length s.put ≡ length s.core.resolved + length (pending s) → length t.put ≡ length t.core.resolved + length (pending t)
+left_counted : (s t : Shard) → Leaves s t → length s.put ≡ length s.core.resolved + length (pending_in_shard s) → length t.put ≡ length t.core.resolved + length (pending_in_shard t)
 left_counted s t q e = ap length q.same_put ∙ e ∙ (λ k. length (sym q.same_resolved k) + length (sym q.same_pending k))
 
-left_mine : (i : ℕ) (s t : Shard) → Leaves s t → AllByRecursion (λ (x : Placed). x.place.shard ≡ i) (pending s) → AllByRecursion (λ (x : Placed). x.place.shard ≡ i) (pending t)
+left_mine : (i : ℕ) (s t : Shard) → Leaves s t → AllByRecursion (λ (x : Placed). x.place.shard ≡ i) (pending_in_shard s) → AllByRecursion (λ (x : Placed). x.place.shard ≡ i) (pending_in_shard t)
 left_mine i s t q h = subst (AllByRecursion (λ (x : Placed). x.place.shard ≡ i)) (sym q.same_pending) h
 
 flush_core : (c : Setup) (w : World) (s : Shard) → (flush_shard c w s).core ≡ s.core
@@ -112,7 +111,7 @@ flush_core c w s = by_guard (not s.end_put && has_room c.capacity s)
     by_mark false true = refl
     by_mark false false = refl
 
-    by_guard : (b : Bool) → (cond b (mark w s) s).core ≡ s.core
+    by_guard : (b : Bool) → (cond b (shard_mark w s) s).core ≡ s.core
     by_guard true = by_mark (is_finished w) (is_some w.draining)
     by_guard false = refl
 
@@ -176,12 +175,12 @@ take_going c requests i s shape g =
     }
 
 freeze_going : (c : Setup) (requests : List Request) (i : ℕ) (s : Shard) → Going c requests i s → Going c requests i (shard_freeze s)
-freeze_going c requests i s g = either (λ (k : Core). pending (record s { core = k }) ≡ pending s → Going c requests i (record s { core = k })) (can_freeze s.core) (record s.core { builder = []; marked = false; batch = s.core.builder; waiting = false }) s.core (λ _ same. frozen same) (λ _ _. g) (pending_freeze s)
+freeze_going c requests i s g = either (λ (k : Core). pending_in_shard (record s { core = k }) ≡ pending_in_shard s → Going c requests i (record s { core = k })) (can_freeze s.core) (record s.core { builder = []; marked = false; batch = s.core.builder; waiting = false }) s.core (λ _ same. frozen same) (λ _ _. g) (pending_freeze s)
   where
     t : Shard
     t = record s { core = record s.core { builder = []; marked = false; batch = s.core.builder; waiting = false } }
 
-    frozen : pending t ≡ pending s → Going c requests i t
+    frozen : pending_in_shard t ≡ pending_in_shard s → Going c requests i t
     frozen same = record {
       alive = g.alive;
       full_is = g.full_is;
@@ -205,8 +204,8 @@ resolve_going : (c : Setup) (requests : List Request) (i : ℕ) (s : Shard) → 
 resolve_going c requests i s g = record {
   alive = g.alive;
   full_is = g.full_is;
-  counted = (let a : length (s.core.resolved ++ s.core.batch) ≡ length s.core.resolved + length s.core.batch = length-append s.core.resolved s.core.batch in let b : length (pending s) ≡ length (s.core.batch ++ s.core.builder) + length (samples_in s.queue) = length-append (s.core.batch ++ s.core.builder) (samples_in s.queue) in let e : length (s.core.batch ++ s.core.builder) ≡ length s.core.batch + length s.core.builder = length-append s.core.batch s.core.builder in let f : length (s.core.builder ++ samples_in s.queue) ≡ length s.core.builder + length (samples_in s.queue) = length-append s.core.builder (samples_in s.queue) in let d : length s.put ≡ length s.core.resolved + length (pending s) = g.counted in omega arith);
-  mine = AllByRecursion-append mine s.core.builder (samples_in s.queue) (AllByRecursion-right mine s.core.batch s.core.builder (AllByRecursion-left mine (s.core.batch ++ s.core.builder) (samples_in s.queue) g.mine)) (AllByRecursion-right mine (s.core.batch ++ s.core.builder) (samples_in s.queue) g.mine);
+  counted = (let a : length (s.core.resolved ++ s.core.batch) ≡ length s.core.resolved + length s.core.batch = length-append s.core.resolved s.core.batch in let b : length (pending_in_shard s) ≡ length (s.core.batch ++ s.core.builder) + length (samples_waiting s.queue) = length-append (s.core.batch ++ s.core.builder) (samples_waiting s.queue) in let e : length (s.core.batch ++ s.core.builder) ≡ length s.core.batch + length s.core.builder = length-append s.core.batch s.core.builder in let f : length (s.core.builder ++ samples_waiting s.queue) ≡ length s.core.builder + length (samples_waiting s.queue) = length-append s.core.builder (samples_waiting s.queue) in let d : length s.put ≡ length s.core.resolved + length (pending_in_shard s) = g.counted in omega arith);
+  mine = AllByRecursion-append mine s.core.builder (samples_waiting s.queue) (AllByRecursion-right mine s.core.batch s.core.builder (AllByRecursion-left mine (s.core.batch ++ s.core.builder) (samples_waiting s.queue) g.mine)) (AllByRecursion-right mine (s.core.batch ++ s.core.builder) (samples_waiting s.queue) g.mine);
   held = g.held;
   closes = g.closes;
   sent = λ e _. absurd (true≢false e);
@@ -252,7 +251,7 @@ place_live c w at = either (LiveIf c) (is_some w.draining) w (place_entry c w (s
         (λ _ _. at)
 
     by_rising : (x : Entry) → slice_get (log w) w.placed ≡ Some x → (l : Labels) (t : ℤ) (word : ℕ) (b : Bool) → LiveIf c (place_kept c w l t word b)
-    by_rising x e l t word true = by_shard x e l t word (shard_of w l) (slice_get w.shards (shard_of w l))
+    by_rising x e l t word true = by_shard x e l t word (shard_of_labels w l) (slice_get w.shards (shard_of_labels w l))
     by_rising x e l t word false = λ ends. record { ends = ends; placed_in = moved x e; wide = at.wide; drains = at.drains; going = at.going }
 
     by_known : (x : Entry) → slice_get (log w) w.placed ≡ Some x → (t : ℤ) (word : ℕ) (k : Standing) → LiveIf c (place_sample c w t word k)

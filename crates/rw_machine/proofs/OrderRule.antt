@@ -1,20 +1,21 @@
 -- The order rule on repeats and on later samples, one series and a whole message.
 use Rattle.std.proofs.Common.{◌≡◌, ℕ, ◌==◌, Bool, true, false, cond, List, [], ◌∷◌, ◌++◌, map, filter, Option, Some, None, refl, sym, ap, ◌∙◌, subst, ℤ, int_lt, int_eq, ◌||◌, ◌&&◌, not, append-nil, append_assoc}
 use Rattle.std.proofs.lemmas.Bool.Decides.{Decides-int_eq, Decides-eqb}
-use Rattle.std.proofs.lemmas.Bool.{true≢false, not-true, cond-false, cond-true, and_parts}
+use Rattle.std.proofs.lemmas.Bool.{true≢false, not-true, cond-false, cond-true, and_parts, and_from}
 use Rattle.std.specs.List.{AllByRecursion}
 use Rattle.rw_types.specs.Rising.{Rises}
 use Rattle.rw_head.specs.Lists.{IsEarlier}
-use Rattle.rw_types.proofs.AllLemmas.{AllByRecursion-filter, AllByRecursion-weaker}
-use Rattle.rw_machine.proofs.Steps.{either, and_both, same_is, is_same}
+use Rattle.rw_types.proofs.shared.AllLemmas.{AllByRecursion-filter, AllByRecursion-weaker}
+use Rattle.rw_machine.proofs.shared.Steps.{same_is, is_same}
 use Rattle.rw_head.specs.Order.{accept, accept_one, holds, is_later}
-use Rattle.rw_machine.proofs.Views.{Pairs, Store, of, pairs, series_of}
+use Rattle.rw_machine.proofs.shared.Views.{Pairs, Store, of, pairs, series_of}
 use Rattle.rw_machine.proofs.Heads.{store_at, put_series, accept_series, accept_all}
 use Rattle.rw_batch.specs.Grouping.{distinct}
 use Rattle.rw_plain_queue.specs.Items.{Placed}
 use Rattle.rw_types.specs.LabelOrder.{labels_eq}
 use Rattle.rw_types.specs.Labels.{Labels}
-use Rattle.rw_types.proofs.TimeLemmas.{int_lt-asymm, int_lt-irrefl}
+use Rattle.rw_types.proofs.shared.TimeLemmas.{int_lt-asymm, int_lt-irrefl}
+use Rattle.rw_types.proofs.shared.Booleans.{either}
 
 not_later : (t : ℤ) (y : ℤ × ℕ) (ys : Pairs) → AllByRecursion (λ (y : ℤ × ℕ). int_lt t y.0 ≡ true) (y ∷ ys) → is_later t (y ∷ ys) ≡ false
 not_later t y [] h = int_lt-asymm t y.0 h.0
@@ -70,7 +71,7 @@ holds_right s (x ∷ xs) ys h = by_test (int_eq x.0 s.0 && (x.1 == s.1)) (holds_
     by_test false h = h
 
 pub holds_own : (s : ℤ × ℕ) (xs : Pairs) → holds s (s ∷ xs) ≡ true
-holds_own s xs = by_test (int_eq s.0 s.0 && (s.1 == s.1)) (and_both _ _ ((Decides-int_eq s.0 s.0).1 refl) ((Decides-eqb s.1 s.1).1 refl))
+holds_own s xs = by_test (int_eq s.0 s.0 && (s.1 == s.1)) (and_from _ _ ((Decides-int_eq s.0 s.0).1 refl) ((Decides-eqb s.1 s.1).1 refl))
   where
     by_test : (b : Bool) → b ≡ true → (b || holds s xs) ≡ true
     by_test true h = refl

@@ -4,6 +4,7 @@ use Rattle.std.specs.FinMap.{get}
 use Rattle.rw_types.specs.Labels.{Labels}
 use Rattle.rw_types.specs.declared.entry.Entry.{Entry}
 use Rattle.rw_types.specs.declared.entry.Entry.TheVariants.{Def, Sample}
+use Rattle.rw_types.proofs.shared.Booleans.{either}
 use Rattle.rw_ledger.specs.declared.ledger.Reason.TheVariants.{NotRising}
 use Rattle.rw_series_cache.specs.Known.{Kept, known}
 use Rattle.rw_series_cache.specs.Points.{is_kept}
@@ -11,9 +12,8 @@ use Rattle.rw_series_cache.specs.Rising.{rises}
 use Rattle.rw_machine.specs.Promises.{Accounted, AccountedEntry, AccountedKept, HasOneClassEach}
 use Rattle.rw_machine.specs.Worlds.{Setup, World, log}
 use Rattle.rw_machine.proofs.Risen.{risen}
-use Rattle.rw_machine.proofs.Steps.{either}
-use Rattle.rw_machine.proofs.Views.{is_of, logged_of, logged_points, owed_by, point_of, points}
-use Rattle.rw_machine.proofs.Places.{get_some, logged_more, points_more, take_next}
+use Rattle.rw_machine.proofs.shared.Views.{is_of, logged_of, logged_points, owed_by, point_of, points}
+use Rattle.rw_machine.proofs.shared.Places.{get_some, logged_more, points_more, take_next}
 use Rattle.rw_machine.proofs.Keeps.{of_is, owed_append, owed_none}
 
 pub no_logged : (c : Setup) (l : Labels) → logged_points c l [] ≡ []

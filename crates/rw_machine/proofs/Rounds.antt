@@ -1,11 +1,10 @@
 -- Each round of `settle` leaves less work.
 use Rattle.std.proofs.Common.{◌≡◌, ℕ, suc, ◌+◌, ◌-◌, ◌*◌, ◌<◌, ◌≤◌, Bool, true, false, cond, List, [], ◌∷◌, ◌++◌, length, map, take, Option, Some, None, Result, Ok, Err, is_some, slice_get, refl, sym, ap, ◌∙◌, subst, ℤ, ◌||◌, ◌&&◌, not, nat_lt, length-append, arith, inl, inr, ◌⊎◌}
 use Rattle.std.specs.List.{AllByRecursion, list_any}
-use Rattle.std.proofs.lemmas.Bool.{ltb-true, true≢false, not-true, cond-false, cond-true, and_parts}
-use Rattle.rw_types.proofs.AllLemmas.{AllByRecursion-left}
-use Rattle.rw_machine.proofs.Steps.{either, and_both}
-use Rattle.rw_machine.proofs.Places.{get_below}
-use Rattle.rw_machine.proofs.Live.{HasId, Going, same_id_own}
+use Rattle.std.proofs.lemmas.Bool.{ltb-true, true≢false, not-true, cond-false, cond-true, and_parts, and_from}
+use Rattle.rw_types.proofs.shared.AllLemmas.{AllByRecursion-left}
+use Rattle.rw_machine.proofs.shared.Places.{get_below}
+use Rattle.rw_machine.proofs.Live.{HasId, Going}
 use Rattle.rw_machine.proofs.Measure.{builder_work, batch_work, end_work, shard_work, shards_work, drain_work, work, work_change}
 use Rattle.rw_machine.specs.declared.event.Event.TheVariants as event
 use Rattle.rw_plain_queue.specs.declared.item.Kind.{Kind}
@@ -14,8 +13,8 @@ use Rattle.rw_batch.specs.declared.batch.BatchId.{BatchId}
 use Rattle.rw_retry.specs.Judgements.{judgement_of}
 use Rattle.rw_retry.specs.declared.judgement.Judgement.{Judgement}
 use Rattle.rw_retry.specs.declared.judgement.Judgement.TheVariants.{Again, Done, Refused}
-use Rattle.rw_machine.proofs.Resolves.{same_id_is}
-use Rattle.rw_machine.proofs.Views.{shard_again, shard_resolve}
+use Rattle.rw_machine.proofs.shared.Resolves.{same_id_is}
+use Rattle.rw_machine.proofs.shared.Views.{shard_again, shard_resolve}
 use Rattle.rw_head.specs.Head.{Answer, State, answer_to, status_of}
 use Rattle.rw_head.specs.Head as head
 use Rattle.rw_head.specs.Order.{Point, points, accept}
@@ -28,18 +27,20 @@ use Rattle.rw_batch.specs.Grouping.{message}
 use Rattle.rw_write_request.specs.Message.{TimeSeries, WriteRequest}
 use Rattle.rw_series_cache.specs.Fates.{kept_fate}
 use Rattle.rw_machine.specs.Settling.{can_place, can_place_as, can_place_entry, can_place_known, newest_from, room_at}
-use Rattle.rw_machine.specs.Shards.{EndMark, FlushMark, One, Queued, Shard, has_room, samples_in, shard_end, shard_flush, shard_freeze, shard_put, shard_send, shard_take, take_front, with_core}
-use Rattle.rw_machine.specs.Steps.{act, answered, arrive, change, changed, endpoint_answer, flush_shard, happens, mark, next_sample, place, place_entry, place_kept, place_sample, put_if_room, reply_to, request_by, run, send_batch, settled, shard_of, take_reply, unless_over}
+use Rattle.rw_machine.specs.Shards.{EndMark, FlushMark, One, Queued, Shard, has_room, samples_waiting, shard_end, shard_flush, shard_freeze, shard_put, shard_send, shard_take, take_front, with_core}
+use Rattle.rw_machine.specs.Steps.{act, with_answer, arrive, change, changed, endpoint_answer, flush_shard, happens, shard_mark, next_sample, place, place_entry, place_kept, place_sample, put_if_room, reply_to, request_by, run, send_batch, settled, shard_of_labels, take_reply, unless_over}
 use Rattle.rw_machine.specs.Worlds.{Reply, Request, Setup, World, is_finished, is_over, log}
 use Rattle.rw_machine.specs.declared.event.Event.{Event}
 use Rattle.rw_machine.specs.declared.event.How.TheVariants.{Plain}
 use Rattle.rw_shard_core.specs.Shard.{Core, awaits, batch_id, body_of, can_freeze, can_send, can_take, is_answer, is_empty, labelled, same_id, settle}
+use Rattle.rw_shard_core.proofs.shared.StepGuards.{same_id-self}
 use Rattle.rw_series_cache.specs.Known.{Bad, Filtered, Kept, Standing, Unknown, known}
 use Rattle.rw_series_cache.specs.Rising.{rises}
 use Rattle.rw_plain_queue.specs.Items.{Placed}
 use Rattle.rw_types.specs.Labels.{Labels}
 use Rattle.rw_types.specs.declared.entry.Entry.{Entry}
 use Rattle.rw_types.specs.declared.entry.Entry.TheVariants.{Def, Sample}
+use Rattle.rw_types.proofs.shared.Booleans.{either}
 
 no_shard : {P : Type 0} {s : Shard} → None ≡ Some s → P
 no_shard e = cc
@@ -104,7 +105,7 @@ place_round c w can = subst (Round w) (sym (cond-false (is_some w.draining) w (p
     })
 
     by_rising : (x : Entry) → slice_get (log w) w.placed ≡ Some x → (l : Labels) (t : ℤ) (word : ℕ) (b : Bool) → can_place_as c w (kept_fate b l) ≡ true → Round w (place_kept c w l t word b)
-    by_rising x e l t word true h = by_shard x e l t word (shard_of w l) (slice_get w.shards (shard_of w l)) refl h
+    by_rising x e l t word true h = by_shard x e l t word (shard_of_labels w l) (slice_get w.shards (shard_of_labels w l)) refl h
     by_rising x e l t word false h = record { lower = left x e; same = record { killed = refl; pieces = refl; closed = refl } }
 
     by_known : (x : Entry) → slice_get (log w) w.placed ≡ Some x → (t : ℤ) (word : ℕ) (k : Standing) → can_place_known c w t k ≡ true → Round w (place_sample c w t word k)
@@ -139,7 +140,7 @@ most_builder (x ∷ b) = omega arith
 pub frozen_less : (s : Shard) → s.core.killed ≡ false → is_empty s.core.batch ≡ true → is_empty s.core.builder ≡ false → shard_work (shard_freeze s) < shard_work s
 frozen_less s alive e f =
     let t : Shard = record s { core = record s.core { builder = []; marked = false; batch = s.core.builder; waiting = false } } in
-    let is : shard_freeze s ≡ t = ap (λ (k : Core). record s { core = k }) (cond-true (can_freeze s.core) _ s.core (and_both (not s.core.killed) (is_empty s.core.batch && not (is_empty s.core.builder)) (ap not alive) (and_both (is_empty s.core.batch) (not (is_empty s.core.builder)) e (ap not f)))) in
+    let is : shard_freeze s ≡ t = ap (λ (k : Core). record s { core = k }) (cond-true (can_freeze s.core) _ s.core (and_from (not s.core.killed) (is_empty s.core.batch && not (is_empty s.core.builder)) (ap not alive) (and_from (is_empty s.core.batch) (not (is_empty s.core.builder)) e (ap not f)))) in
     let a : batch_work s.core.batch s.core.waiting ≡ 0 = empty_batch s.core.batch s.core.waiting e in
     let b : builder_work s.core.builder ≡ 3 = full_builder s.core.builder f in
     let d : batch_work s.core.builder false ≤ 2 = most_batch s.core.builder false in
@@ -169,9 +170,9 @@ or_cases true b h = inl refl
 or_cases false b h = inr (refl, h)
 
 pub flush_less : (c : Setup) (w : World) (s : Shard) → (is_finished w || is_some w.draining) ≡ true → s.end_put ≡ false → has_room c.capacity s ≡ true → shard_work (flush_shard c w s) < shard_work s
-flush_less c w s ending unput room = subst (λ t. shard_work t < shard_work s) (sym (cond-true (not s.end_put && has_room c.capacity s) (mark w s) s (and_both (not s.end_put) (has_room c.capacity s) (ap not unput) room))) (by_case (or_cases (is_finished w) (is_some w.draining) ending))
+flush_less c w s ending unput room = subst (λ t. shard_work t < shard_work s) (sym (cond-true (not s.end_put && has_room c.capacity s) (shard_mark w s) s (and_from (not s.end_put) (has_room c.capacity s) (ap not unput) room))) (by_case (or_cases (is_finished w) (is_some w.draining) ending))
   where
-    by_case : (is_finished w ≡ true) ⊎ ((is_finished w ≡ false) × (is_some w.draining ≡ true)) → shard_work (mark w s) < shard_work s
+    by_case : (is_finished w ≡ true) ⊎ ((is_finished w ≡ false) × (is_some w.draining ≡ true)) → shard_work (shard_mark w s) < shard_work s
     by_case (inl f) = subst (λ t. shard_work t < shard_work s) (sym (cond-true (is_finished w) (shard_end kind.Orderly s) (cond (is_some w.draining) (shard_end kind.Reshard s) (shard_flush s)) f)) (ended_less kind.Orderly s unput)
     by_case (inr h) = subst (λ t. shard_work t < shard_work s) (sym (cond-false (is_finished w) (shard_end kind.Orderly s) (cond (is_some w.draining) (shard_end kind.Reshard s) (shard_flush s)) h.0 ∙ cond-true (is_some w.draining) (shard_end kind.Reshard s) (shard_flush s) h.1)) (ended_less kind.Reshard s unput)
 
@@ -182,7 +183,7 @@ sent_less (x ∷ b) h = omega arith
 
 pub send_round : (w : World) (i : ℕ) (s : Shard) → slice_get w.shards i ≡ Some s → s.core.killed ≡ false → is_empty s.core.batch ≡ false → s.core.waiting ≡ false → Round w (send_batch w i (slice_get w.shards i))
 send_round w i s e alive full still =
-    let can : can_send s.core ≡ true = and_both (not s.core.killed) (not (is_empty s.core.batch) && not s.core.waiting) (ap not alive) (and_both (not (is_empty s.core.batch)) (not s.core.waiting) (ap not full) (ap not still)) in
+    let can : can_send s.core ≡ true = and_from (not s.core.killed) (not (is_empty s.core.batch) && not s.core.waiting) (ap not alive) (and_from (not (is_empty s.core.batch)) (not s.core.waiting) (ap not full) (ap not still)) in
     let is : send_batch w i (slice_get w.shards i) ≡ record w { requests = w.requests ++ request_by s ∷ []; shards = change i shard_send w.shards } = ap (send_batch w i) e ∙ cond-true (can_send s.core) _ w can in
     let t : Shard = record s { core = record s.core { waiting = true } } in
     let sent : shard_send s ≡ t = ap (λ (k : Core). record s { core = k }) (cond-true (can_send s.core) _ s.core can) in
@@ -302,7 +303,7 @@ exchange_round c w i s e over g full waits =
     verdict = endpoint_answer c w.head r.batch
 
     u : World
-    u = answered w r.id verdict
+    u = with_answer w r.id verdict
 
     arrived : happens c w (event.Arrive (newest_from (batch_id s.core.batch) 0 w.requests 0) Plain) ≡ u
     arrived = ap (arrive c w Plain) found.1
@@ -315,13 +316,13 @@ exchange_round c w i s e over g full waits =
     shard_is (x ∷ b) h all = all.0
 
     at_i : r.id.shard ≡ i
-    at_i = ap (λ (d : BatchId). d.shard) id_is ∙ shard_is s.core.batch full (AllByRecursion-left (λ (x : Placed). x.place.shard ≡ i) s.core.batch s.core.builder (AllByRecursion-left (λ (x : Placed). x.place.shard ≡ i) (s.core.batch ++ s.core.builder) (samples_in s.queue) g.mine))
+    at_i = ap (λ (d : BatchId). d.shard) id_is ∙ shard_is s.core.batch full (AllByRecursion-left (λ (x : Placed). x.place.shard ≡ i) s.core.batch s.core.builder (AllByRecursion-left (λ (x : Placed). x.place.shard ≡ i) (s.core.batch ++ s.core.builder) (samples_waiting s.queue) g.mine))
 
     here : slice_get w.shards r.id.shard ≡ Some s
     here = ap (slice_get w.shards) at_i ∙ e
 
     guard : is_answer r.id s.core ≡ true
-    guard = and_both (awaits s.core) (same_id r.id (batch_id s.core.batch)) (and_both (not s.core.killed) (not (is_empty s.core.batch) && s.core.waiting) (ap not g.alive) (and_both (not (is_empty s.core.batch)) s.core.waiting (ap not full) waits)) (ap (λ (d : BatchId). same_id d (batch_id s.core.batch)) id_is ∙ same_id_own (batch_id s.core.batch))
+    guard = and_from (awaits s.core) (same_id r.id (batch_id s.core.batch)) (and_from (not s.core.killed) (not (is_empty s.core.batch) && s.core.waiting) (ap not g.alive) (and_from (not (is_empty s.core.batch)) s.core.waiting (ap not full) waits)) (ap (λ (d : BatchId). same_id d (batch_id s.core.batch)) id_is ∙ same_id-self (batch_id s.core.batch))
 
     replied : take_reply u (slice_get u.replies (length w.replies)) ≡ settled u r.id.shard s verdict.status
     replied = ap (take_reply u) (get_last w.replies a) ∙ ap (reply_to u a) here ∙ cond-true (is_answer r.id s.core) (settled u r.id.shard s verdict.status) u guard

@@ -4,14 +4,14 @@ use Rattle.rw_head.specs.Store.{list_of}
 use Rattle.rw_retry.specs.Judgements.{judgement_of}
 use Rattle.rw_retry.specs.declared.judgement.Judgement.TheVariants.{Again, Done, Refused}
 use Rattle.std.specs.List.{AllByRecursion}
-use Rattle.rw_types.proofs.AllLemmas.{AllByRecursion-append, AllByRecursion-get, AllByRecursion-weaker}
-use Rattle.rw_machine.proofs.Steps.{either}
-use Rattle.rw_machine.proofs.Frames.{place_frame, reply_frame, restart_frame}
-use Rattle.rw_machine.proofs.Ids.{get_kept, one_batch}
+use Rattle.rw_types.proofs.shared.AllLemmas.{AllByRecursion-append, AllByRecursion-get, AllByRecursion-weaker}
+use Rattle.rw_types.proofs.shared.Booleans.{either}
+use Rattle.rw_machine.proofs.shared.Frames.{place_frame, reply_frame, restart_frame}
+use Rattle.rw_machine.proofs.shared.Ids.{get_kept, one_batch}
 use Rattle.rw_machine.proofs.Invariant.{Inv, RequestOk}
 use Rattle.rw_machine.proofs.Arrives.{plain_tells}
-use Rattle.rw_machine.proofs.Runs.{along, begins}
-use Rattle.rw_machine.proofs.Views.{is_let_in}
+use Rattle.rw_machine.proofs.shared.Runs.{along, begins}
+use Rattle.rw_machine.proofs.shared.Views.{is_let_in}
 use Rattle.rw_machine.specs.Promises.{NeverTakesAndRefuses}
 use Rattle.rw_machine.specs.Shards.{Shard}
 use Rattle.rw_machine.specs.Steps.{act, arrive, endpoint_answer, run, send_batch}

@@ -1,14 +1,15 @@
 -- Nothing that was sent or answered is removed.
 use Rattle.std.proofs.Common.{ℕ, ◌&&◌, not, nat_le, List, [], ◌∷◌, ◌++◌, Option, Some, None, is_some, slice_get, refl}
 use Rattle.rw_types.specs.Beginnings.{Begins}
-use Rattle.rw_types.proofs.BeginningLemmas.{begins_itself, begins_twice}
+use Rattle.rw_types.proofs.shared.BeginningLemmas.{begins_itself, begins_twice}
+use Rattle.rw_types.proofs.shared.Booleans.{either}
 use Rattle.rw_batch.specs.declared.batch.BatchId.{BatchId}
 use Rattle.rw_shard_core.specs.Shard.{can_send}
 use Rattle.rw_head.specs.Head.{Answer}
-use Rattle.rw_machine.proofs.Frames.{place_frame, reply_frame, restart_frame}
-use Rattle.rw_machine.proofs.Steps.{always, either}
+use Rattle.rw_machine.proofs.shared.Frames.{place_frame, reply_frame, restart_frame}
+use Rattle.rw_machine.proofs.shared.Steps.{always}
 use Rattle.rw_machine.specs.Shards.{Shard}
-use Rattle.rw_machine.specs.Steps.{act, answered, arrive, endpoint_answer, request_by, run, send_batch}
+use Rattle.rw_machine.specs.Steps.{act, with_answer, arrive, endpoint_answer, request_by, run, send_batch}
 use Rattle.rw_machine.specs.Worlds.{Request, Setup, World, is_finished}
 use Rattle.rw_machine.specs.declared.event.Event.{Event}
 use Rattle.rw_machine.specs.declared.event.Event.TheVariants as event
@@ -27,7 +28,7 @@ module _ (c : Setup) (w : World) where
   send_adds v i None at = at
   send_adds v i (Some s) at = either OnlyAdds (can_send s.core) _ v (λ _. (begins_more w.requests v.requests (request_by s ∷ []) at.0, at.1)) (λ _. at)
 
-  answer_adds : (v : World) (id : BatchId) (a : Answer) → OnlyAdds v → OnlyAdds (answered v id a)
+  answer_adds : (v : World) (id : BatchId) (a : Answer) → OnlyAdds v → OnlyAdds (with_answer v id a)
   answer_adds v id a at = (at.0, begins_more w.replies v.replies (record { id = id; status = a.status } ∷ []) at.1)
 
   arrive_adds : (v : World) (how : How) (o : Option Request) → OnlyAdds v → OnlyAdds (arrive c v how o)

@@ -22,25 +22,25 @@ use Rattle.rw_shard_core.specs.SentRequest.{request_of}
 use Rattle.rw_head.specs.Lists.{IsEarlier}
 use Rattle.rw_head.specs.Order.{holds}
 use Rattle.rw_head.specs.Store.{list_of}
-use Rattle.rw_machine.specs.Shards.{Shard, samples_in}
+use Rattle.rw_machine.specs.Shards.{Shard, samples_waiting}
 use Rattle.rw_machine.specs.Worlds.{Setup, Request, Reply, World, log, start, up_to, is_pending, is_over, report, ended_as}
 use Rattle.rw_shard_core.specs.Endings.{Ending, Complete, Damaged}
 use Rattle.rw_machine.specs.Steps.{happens, run}
-use Rattle.rw_machine.specs.Settling.{settle, settle_events}
+use Rattle.rw_machine.specs.Settling.{settle_world, settle_events}
 use Rattle.rw_machine.specs.declared.event.Event.{Event}
 use Rattle.rw_machine.specs.declared.event.Event.TheVariants as event
 
 -- a sample of a series in the log: its position, timestamp and word
-abbrev pub Point : Type 0
-Point = ℕ × ℤ × ℕ
+abbrev pub LoggedPoint : Type 0
+LoggedPoint = ℕ × ℤ × ℕ
 
 -- what a store holds of a sample
-abbrev pub pair_of : Point → ℤ × ℕ
+abbrev pub pair_of : LoggedPoint → ℤ × ℕ
 pair_of p = (p.1, p.2)
 
 -- those that are not named
-abbrev pub owed : FinMap nat_cmp Reason → List Point → List Point
-owed names ps = filter (λ (p : Point). is_none (get names p.0)) ps
+abbrev pub owed : FinMap nat_cmp Reason → List LoggedPoint → List LoggedPoint
+owed names ps = filter (λ (p : LoggedPoint). is_none (get names p.0)) ps
 
 -- the head holds a prefix of the label set's logged samples, less the named ones. Of a label set
 -- that the rules do not keep none are logged samples: there it holds nothing
@@ -48,7 +48,7 @@ abbrev pub HoldsBeginning : Setup → World → Labels → Type 0
 HoldsBeginning c w l = Begins (list_of w.head.store l) (map pair_of (owed w.names (kept_points c.choice (log w) l)))
 
 -- the samples of a label set below a position, less the named ones
-abbrev pub owed_below : Setup → World → ℕ → Labels → List Point
+abbrev pub owed_below : Setup → World → ℕ → Labels → List LoggedPoint
 owed_below c w end l = owed w.names (kept_points_below c.choice (log w) l end)
 
 -- the head holds a prefix of them
@@ -165,7 +165,7 @@ StoresResolved c w =
 abbrev pub HasShardLists : Setup → World → Type 0
 HasShardLists c w =
     (i : ℕ) (s : Shard) → slice_get w.shards i ≡ Some s →
-    (s.put ≡ s.core.taken ++ samples_in s.queue) × (s.core.taken ≡ s.core.resolved ++ (s.core.batch ++ s.core.builder))
+    (s.put ≡ s.core.taken ++ samples_waiting s.queue) × (s.core.taken ≡ s.core.resolved ++ (s.core.batch ++ s.core.builder))
     × (length s.queue ≤ c.capacity)
 
 abbrev pub is_refused : Judgement → Bool
@@ -174,13 +174,13 @@ is_refused Again = false
 is_refused Refused = true
 
 -- the positions that a reply refuses, with its status
-abbrev pub refusal : Reply → Option Shard → List (ℕ × ℕ)
-refusal a None = []
-refusal a (Some s) = if is_answer a.id s.core && is_refused (judgement_of a.status) then map (λ p. (p, a.status)) (positions s.core.batch) else []
+abbrev pub refused_positions : Reply → Option Shard → List (ℕ × ℕ)
+refused_positions a None = []
+refused_positions a (Some s) = if is_answer a.id s.core && is_refused (judgement_of a.status) then map (λ p. (p, a.status)) (positions s.core.batch) else []
 
 abbrev pub refusal_by : World → Option Reply → List (ℕ × ℕ)
 refusal_by w None = []
-refusal_by w (Some a) = refusal a (slice_get w.shards a.id.shard)
+refusal_by w (Some a) = refused_positions a (slice_get w.shards a.id.shard)
 
 abbrev pub refused_in : World → Event → Bool → List (ℕ × ℕ)
 refused_in w (event.Reply k) false = refusal_by w (slice_get w.replies k)
@@ -209,14 +209,14 @@ pub record CanWork (c : Setup) : Type 0 where
   pub batch : 1 ≤ c.batch
   pub shards : 1 ≤ c.shards
 
--- what `settle` leaves: a report; if nothing was killed, that everything is resolved or that the
--- log was damaged, and the head holds all of it
+-- what `settle_world` leaves: a report; if nothing was killed, that everything is resolved or that
+-- the log was damaged, and the head holds all of it
 pub record IsSettled (c : Setup) (w v : World) : Type 0 where
   pub reports : (e : Ending) × (report v ≡ Some e)
   pub same_log : log v ≡ log w
   pub ending : w.killed ≡ false → report v ≡ Some (ended_as (fault w.pieces) (length (log w)))
   pub holds : w.killed ≡ false → (l : Labels) → HoldsAll c v (length (log w)) l
 
--- enough rounds of `settle` come to a report, and more rounds add no event
+-- enough rounds of `settle_world` come to a report, and more rounds add no event
 abbrev pub SettleEnds : Setup → World → Type 0
-SettleEnds c w = (enough : ℕ) × ((n : ℕ) → enough ≤ n → IsSettled c w (settle c n w) × (settle_events c n w ≡ settle_events c enough w))
+SettleEnds c w = (enough : ℕ) × ((n : ℕ) → enough ≤ n → IsSettled c w (settle_world c n w) × (settle_events c n w ≡ settle_events c enough w))

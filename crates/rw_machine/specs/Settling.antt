@@ -9,7 +9,7 @@ use Rattle.rw_batch.specs.declared.batch.BatchId.{BatchId}
 use Rattle.rw_shard_core.specs.Shard.{is_empty, batch_id, same_id, is_due, can_take}
 use Rattle.rw_machine.specs.Shards.{Shard, has_room}
 use Rattle.rw_machine.specs.Worlds.{Setup, Request, World, log, is_finished, is_over}
-use Rattle.rw_machine.specs.Steps.{shard_of, happens, run}
+use Rattle.rw_machine.specs.Steps.{shard_of_labels, happens, run}
 use Rattle.rw_machine.specs.declared.event.How.TheVariants.{Plain}
 use Rattle.rw_machine.specs.declared.event.Event.{Event}
 use Rattle.rw_machine.specs.declared.event.Event.TheVariants as event
@@ -44,7 +44,7 @@ room_at c (Some s) = has_room c.capacity s
 
 -- only a sample that is sent needs room
 abbrev pub can_place_as : Setup → World → Fate → Bool
-can_place_as c w (Sends l) = room_at c (slice_get w.shards (shard_of w l))
+can_place_as c w (Sends l) = room_at c (slice_get w.shards (shard_of_labels w l))
 can_place_as c w (Drops reason) = true
 can_place_as c w Filters = true
 
@@ -76,8 +76,8 @@ settle_if c zero w false = w
 settle_if c (suc n) w false = let next = run c (next_events c w) w in settle_if c n next (is_over next)
 
 -- `n` rounds, or fewer if there is a report before
-abbrev pub settle : Setup → ℕ → World → World
-settle c n w = settle_if c n (happens c w event.Close) (is_over (happens c w event.Close))
+abbrev pub settle_world : Setup → ℕ → World → World
+settle_world c n w = settle_if c n (happens c w event.Close) (is_over (happens c w event.Close))
 
 abbrev pub settle_from : Setup → ℕ → World → Bool → List Event
 settle_from c n w true = []

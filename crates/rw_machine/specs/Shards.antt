@@ -23,11 +23,11 @@ abbrev pub new_shard : Core → Shard
 new_shard c = record { put = []; queue = []; end_put = false; core = c }
 
 -- the samples that wait, without the marks
-abbrev pub samples_in : List Queued → List Placed
-samples_in [] = []
-samples_in (One x ∷ xs) = x ∷ samples_in xs
-samples_in (FlushMark ∷ xs) = samples_in xs
-samples_in (EndMark kind ∷ xs) = samples_in xs
+abbrev pub samples_waiting : List Queued → List Placed
+samples_waiting [] = []
+samples_waiting (One x ∷ xs) = x ∷ samples_waiting xs
+samples_waiting (FlushMark ∷ xs) = samples_waiting xs
+samples_waiting (EndMark kind ∷ xs) = samples_waiting xs
 
 abbrev pub has_room : ℕ → Shard → Bool
 has_room capacity s = nat_lt (length s.queue) capacity
@@ -74,5 +74,5 @@ abbrev pub is_drained : Shard → Bool
 is_drained s = s.core.ended && (length s.core.resolved == length s.put)
 
 -- put and not resolved
-abbrev pub pending : Shard → List Placed
-pending s = core.pending s.core ++ samples_in s.queue
+abbrev pub pending_in_shard : Shard → List Placed
+pending_in_shard s = core.pending s.core ++ samples_waiting s.queue

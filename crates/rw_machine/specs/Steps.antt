@@ -40,8 +40,8 @@ abbrev pub feed : World → Piece → World
 feed w piece = if is_some w.closed then w else record w { pieces = w.pieces ++ piece_of piece ∷ [] }
 
 -- a label set's shard goes by the number of its series
-abbrev pub shard_of : World → Labels → ℕ
-shard_of w l = number_of w.series l % length w.shards
+abbrev pub shard_of_labels : World → Labels → ℕ
+shard_of_labels w l = number_of w.series l % length w.shards
 
 -- the sample that a shard is given next
 abbrev pub next_sample : World → ℕ → Labels → ℤ → ℕ → Shard → Placed
@@ -63,7 +63,7 @@ put_if_room c w i l t word (Some s) =
 abbrev pub place_as : Setup → World → ℤ → ℕ → Fate → World
 place_as c w t word (Drops reason) = record w { names = insert w.names w.placed reason; placed = suc w.placed }
 place_as c w t word Filters = record w { filtered = suc w.filtered; placed = suc w.placed }
-place_as c w t word (Sends l) = put_if_room c w (shard_of w l) l t word (slice_get w.shards (shard_of w l))
+place_as c w t word (Sends l) = put_if_room c w (shard_of_labels w l) l t word (slice_get w.shards (shard_of_labels w l))
 
 abbrev pub place_kept : Setup → World → Labels → ℤ → ℕ → Bool → World
 place_kept c w l t word is_rising = place_as c w t word (kept_fate is_rising l)
@@ -81,15 +81,15 @@ abbrev pub place : Setup → World → World
 place c w = if is_some w.draining then w else place_entry c w (slice_get (log w) w.placed)
 
 -- the mark that a shard is put
-abbrev pub mark : World → Shard → Shard
-mark w s =
+abbrev pub shard_mark : World → Shard → Shard
+shard_mark w s =
     if is_finished w then shard_end kind.Orderly s
     else (if is_some w.draining then shard_end kind.Reshard s
     else shard_flush s)
 
 -- Flush
 abbrev pub flush_shard : Setup → World → Shard → Shard
-flush_shard c w s = if not s.end_put && has_room c.capacity s then mark w s else s
+flush_shard c w s = if not s.end_put && has_room c.capacity s then shard_mark w s else s
 
 -- the open batch of a shard, and the bytes of its request
 abbrev pub request_by : Shard → Request
@@ -112,28 +112,28 @@ endpoint_answer c h batch =
     if nat_lt c.max_body (length (body_of batch)) then record { status = 413; head = h }
     else answer_to h (Ok (message (map labelled batch)))
 
-abbrev pub answered : World → BatchId → Answer → World
-answered w id a = record w { replies = w.replies ++ record { id = id; status = a.status } ∷ []; head = a.head }
+abbrev pub with_answer : World → BatchId → Answer → World
+with_answer w id a = record w { replies = w.replies ++ record { id = id; status = a.status } ∷ []; head = a.head }
 
 -- a request is answered with this status, and the head stays
 abbrev pub turned_away : World → ℕ → Option Request → World
 turned_away w status None = w
-turned_away w status (Some r) = answered w r.id (record { status = status; head = w.head })
+turned_away w status (Some r) = with_answer w r.id (record { status = status; head = w.head })
 
 -- Arrive
 abbrev pub arrive : Setup → World → How → Option Request → World
 arrive c w how None = w
-arrive c w Plain (Some r) = answered w r.id (endpoint_answer c w.head r.batch)
-arrive c w Busy (Some r) = answered w r.id (record { status = 429; head = w.head })
-arrive c w OutOfMemory (Some r) = answered w r.id (record { status = 503; head = w.head })
+arrive c w Plain (Some r) = with_answer w r.id (endpoint_answer c w.head r.batch)
+arrive c w Busy (Some r) = with_answer w r.id (record { status = 429; head = w.head })
+arrive c w OutOfMemory (Some r) = with_answer w r.id (record { status = 503; head = w.head })
 
 -- the names after a reply to that batch: room is no part of the machine
-abbrev pub names_after : ℕ → List Placed → FinMap nat_cmp Reason → FinMap nat_cmp Reason
-names_after status batch names = (settle_names (judgement_of status) status batch (record { names = names; room = 0 })).names
+abbrev pub names_after_reply : ℕ → List Placed → FinMap nat_cmp Reason → FinMap nat_cmp Reason
+names_after_reply status batch names = (settle_names (judgement_of status) status batch (record { names = names; room = 0 })).names
 
 abbrev pub settled : World → ℕ → Shard → ℕ → World
 settled w i s status = record w {
-  names = names_after status s.core.batch w.names;
+  names = names_after_reply status s.core.batch w.names;
   shards = change i (with_core (settle (judgement_of status))) w.shards;
 }
 

@@ -16,7 +16,7 @@ use Rattle.rw_shard_core.specs.declared.config.Target.{Target}
 use Rattle.rw_shard_core.specs.Shard.{new_core}
 use Rattle.rw_head.specs.Verdicts.{LabelLimits}
 use Rattle.rw_head.specs.Head.{State}
-use Rattle.rw_machine.specs.Shards.{Shard, new_shard, is_drained, pending}
+use Rattle.rw_machine.specs.Shards.{Shard, new_shard, is_drained, pending_in_shard}
 use Rattle.rw_shard_core.specs.Endings.{Ending, Complete, Abandoned, Damaged}
 
 -- what the sender and the receiver are set to
@@ -82,20 +82,20 @@ start c = record {
   killed = false;
 }
 
-abbrev pub is_at : ℕ → Option ℕ → Bool
-is_at n None = false
-is_at n (Some end) = n == end
+abbrev pub is_closed_at : ℕ → Option ℕ → Bool
+is_closed_at n None = false
+is_closed_at n (Some end) = n == end
 
 -- closed, and all is placed
 abbrev pub is_finished : World → Bool
-is_finished w = is_at w.placed w.closed
+is_finished w = is_closed_at w.placed w.closed
 
 abbrev pub all_drained : World → Bool
 all_drained w = list_all is_drained w.shards
 
 -- the sample at this position was put, and is not resolved
 abbrev pub is_pending : World → ℕ → Bool
-is_pending w p = list_any (λ s. list_any (λ (x : Placed). x.place.pos == p) (pending s)) w.shards
+is_pending w p = list_any (λ s. list_any (λ (x : Placed). x.place.pos == p) (pending_in_shard s)) w.shards
 
 abbrev pub up_to : ℕ → List ℕ
 up_to zero = []

@@ -6,7 +6,7 @@ ghost use Rattle.rw_types.specs.Beginnings.{Begins};
 ghost use Rattle.rw_head.specs.Growth.{EachRises};
 ghost use Rattle.rw_machine.specs.Worlds.{Setup, World, start};
 ghost use Rattle.rw_machine.specs.Steps.{run};
-ghost use Rattle.rw_machine.specs.Settling.{settle, settle_events};
+ghost use Rattle.rw_machine.specs.Settling.{settle_world, settle_events};
 ghost use Rattle.rw_machine.specs.Promises.{CanWork, IsInOrder, IsOfPlaced, OwedRises, IsWhole, IsWholeBeforeDamage, HoldsNothingElse, IsClosedForGood, HasOneClassEach, CountsFiltered, NamesRefusals, HasOneBatchEachId, CarriesEachBatch, SendsSameBytes, NeverTakesAndRefuses, StoresResolved, HasShardLists, SettleEnds};
 ghost use Rattle.rw_machine.specs.declared.event.Event.{Event};
 
@@ -82,7 +82,8 @@ pub fn shards_keep_their_lists()
 /// Law: an orderly shutdown is a schedule that comes to its report after enough rounds, from
 /// wherever it begins.
 pub fn shutdown_comes_to_its_report()
-    ensures runs { (c : Setup) (n : ℕ) (w : World) → settle c n w ≡ run c (settle_events c n w) w }
+    ensures runs { (c : Setup) (n : ℕ) (w : World)
+        → settle_world c n w ≡ run c (settle_events c n w) w }
     ensures ends { (c : Setup) (events : List Event) → CanWork c
         → SettleEnds c (run c events (start c)) }
 {}

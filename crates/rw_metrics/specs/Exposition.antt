@@ -1,5 +1,5 @@
 -- Metrics in the text format 0.0.4 of Prometheus.
-use Rattle.std.specs.Prelude.{ℕ, List, ◌++◌, flat_map, codes, decimal, length}
+use Rattle.std.specs.Prelude.{ℕ, List, ◌++◌, flat_map, codes, decimal}
 
 -- the lines of a metric before its numbers
 abbrev pub about : (name kind help : List ℕ) → List ℕ
@@ -17,8 +17,8 @@ unfoldable pub counters : (name help : List ℕ) → List ℕ
 counters name help = about name (codes "counter") help
 
 -- a number of it
-unfoldable pub labelled : (name label value : List ℕ) → ℕ → List ℕ
-labelled name label value n = name ++ codes "{" ++ label ++ codes "=\"" ++ value ++ codes "\"} " ++ decimal n ++ codes "\n"
+unfoldable pub labelled_line : (name label value : List ℕ) → ℕ → List ℕ
+labelled_line name label value n = name ++ codes "{" ++ label ++ codes "=\"" ++ value ++ codes "\"} " ++ decimal n ++ codes "\n"
 
 -- how often a status came, after a prefix
 unfoldable pub status_sample : (name label prefix : List ℕ) → ℕ × ℕ → List ℕ
@@ -26,10 +26,3 @@ status_sample name label prefix count = name ++ codes "{" ++ label ++ codes "=\"
 
 abbrev pub by_status : (name label prefix : List ℕ) → List (ℕ × ℕ) → List ℕ
 by_status name label prefix counts = flat_map (status_sample name label prefix) counts
-
--- the reply that carries a page, with the type of its contents
-abbrev pub reply : (kind body : List ℕ) → List ℕ
-reply kind body =
-    codes "HTTP/1.1 200 OK\r\nContent-Type: " ++ kind
-    ++ codes "\r\nConnection: close\r\nContent-Length: " ++ decimal (length body)
-    ++ codes "\r\n\r\n" ++ body

@@ -5,4 +5,4 @@ pub mod Html
 pub mod SendHtml
 pub mod ReceiveHtml
 pub mod Lines
-pub mod Asking
+pub mod inner

@@ -1,6 +1,6 @@
 -- The page of a sender.
 use Rattle.std.specs.Prelude.{ℕ, List, ◌++◌, codes}
-use Rattle.rw_metrics.specs.Exposition.{counter, gauge, counters, labelled, by_status}
+use Rattle.rw_metrics.specs.Exposition.{counter, gauge, counters, labelled_line, by_status}
 use Rattle.rw_metrics.specs.declared.send_numbers.Drops.{Drops}
 use Rattle.rw_metrics.specs.declared.send_numbers.Failures.{Failures}
 use Rattle.rw_metrics.specs.declared.send_numbers.SendNumbers.{SendNumbers}
@@ -42,27 +42,27 @@ queue_page n =
 abbrev pub drops_page : Drops → List ℕ
 drops_page d = let name : List ℕ = codes "rwship_send_samples_dropped_total" in
     counters name (codes "Samples that were dropped, by reason.")
-    ++ labelled name (codes "reason") (codes "noseries") d.no_series
-    ++ labelled name (codes "reason") (codes "badlabels") d.bad_labels
-    ++ labelled name (codes "reason") (codes "notrising") d.not_rising
+    ++ labelled_line name (codes "reason") (codes "noseries") d.no_series
+    ++ labelled_line name (codes "reason") (codes "badlabels") d.bad_labels
+    ++ labelled_line name (codes "reason") (codes "notrising") d.not_rising
     ++ by_status name (codes "reason") (codes "status_") d.refused.items
 
 -- the skipped records that may hold samples
 abbrev pub lost_page : Skipped → List ℕ
 lost_page s = let name : List ℕ = codes "rwship_send_records_skipped_total" in
-    labelled name (codes "type") (codes "histogram_samples") s.histograms
-    ++ labelled name (codes "type") (codes "float_histogram_samples") s.float_histograms
-    ++ labelled name (codes "type") (codes "custom_buckets_histogram_samples") s.custom_histograms
-    ++ labelled name (codes "type") (codes "custom_buckets_float_histogram_samples") s.custom_float_histograms
-    ++ labelled name (codes "type") (codes "unknown") s.unknown
+    labelled_line name (codes "type") (codes "histogram_samples") s.histograms
+    ++ labelled_line name (codes "type") (codes "float_histogram_samples") s.float_histograms
+    ++ labelled_line name (codes "type") (codes "custom_buckets_histogram_samples") s.custom_histograms
+    ++ labelled_line name (codes "type") (codes "custom_buckets_float_histogram_samples") s.custom_float_histograms
+    ++ labelled_line name (codes "type") (codes "unknown") s.unknown
 
 -- the skipped records that hold no samples
 abbrev pub other_page : Skipped → List ℕ
 other_page s = let name : List ℕ = codes "rwship_send_records_skipped_total" in
-    labelled name (codes "type") (codes "tombstones") s.tombstones
-    ++ labelled name (codes "type") (codes "exemplars") s.exemplars
-    ++ labelled name (codes "type") (codes "mmapmarkers") s.mmap_markers
-    ++ labelled name (codes "type") (codes "metadata") s.metadata
+    labelled_line name (codes "type") (codes "tombstones") s.tombstones
+    ++ labelled_line name (codes "type") (codes "exemplars") s.exemplars
+    ++ labelled_line name (codes "type") (codes "mmapmarkers") s.mmap_markers
+    ++ labelled_line name (codes "type") (codes "metadata") s.metadata
 
 -- the records that were skipped, by type
 unfoldable pub skipped_page : Skipped → List ℕ
@@ -75,12 +75,12 @@ skipped_page s =
 abbrev pub failures_page : Failures → List ℕ
 failures_page f = let name : List ℕ = codes "rwship_send_attempts_failed_total" in
     counters name (codes "Attempts to send a batch that failed, by cause.")
-    ++ labelled name (codes "cause") (codes "connect") f.connect
-    ++ labelled name (codes "cause") (codes "timeout") f.timeout
-    ++ labelled name (codes "cause") (codes "broken") f.broken
-    ++ labelled name (codes "cause") (codes "ended") f.ended
-    ++ labelled name (codes "cause") (codes "bad_reply") f.bad_reply
-    ++ labelled name (codes "cause") (codes "memory") f.memory
+    ++ labelled_line name (codes "cause") (codes "connect") f.connect
+    ++ labelled_line name (codes "cause") (codes "timeout") f.timeout
+    ++ labelled_line name (codes "cause") (codes "broken") f.broken
+    ++ labelled_line name (codes "cause") (codes "ended") f.ended
+    ++ labelled_line name (codes "cause") (codes "bad_reply") f.bad_reply
+    ++ labelled_line name (codes "cause") (codes "memory") f.memory
     ++ by_status name (codes "cause") (codes "status_") f.statuses.items
 
 abbrev pub attempts_page : SendNumbers → List ℕ

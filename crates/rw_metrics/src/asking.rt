@@ -1,7 +1,7 @@
 //! What a request asks for.
 
 ghost use Rattle.std.specs.Prelude.{◌≡◌};
-ghost use Rattle.rw_metrics.specs.Asking.{AsksForHtml, AsksForPage};
+ghost use Rattle.rw_metrics.specs.inner.Asking.{AsksForHtml, AsksForPage};
 ghost use Rattle.rw_metrics.specs.declared.asking.Asked.TheVariants as Asked;
 
 use httparse::Status;

@@ -1,7 +1,7 @@
 //! Metrics in the text format 0.0.4 of Prometheus.
 
 ghost use Rattle.std.specs.Prelude.{◌≡◌, ◌++◌, OnOk, codes, decimal};
-ghost use Rattle.rw_metrics.specs.Exposition.{about, by_status, counter, counters, gauge, labelled, status_sample};
+ghost use Rattle.rw_metrics.specs.Exposition.{about, by_status, counter, counters, gauge, labelled_line, status_sample};
 
 use rw_text::push_number;
 use std::alloc::AllocError;
@@ -76,7 +76,7 @@ pub(crate) fn push_counters(out: &mut Vec<u8>, name: &str, help: &str) -> Result
 }
 
 /// Adds a number under a label.
-#[tactic(auto, unfolding(crate::specs::Exposition::labelled))]
+#[tactic(auto, unfolding(crate::specs::Exposition::labelled_line))]
 pub(crate) fn push_labelled(
     out: &mut Vec<u8>,
     name: &str,
@@ -85,7 +85,7 @@ pub(crate) fn push_labelled(
     n: u64,
 ) -> Result<(), AllocError>
     ensures { OnOk result
-        (out.new.items ≡ out.old.items ++ labelled name.now label.now value.now n) }
+        (out.new.items ≡ out.old.items ++ labelled_line name.now label.now value.now n) }
 {
     push_text(out, name)?;
     push_text(out, "{")?;

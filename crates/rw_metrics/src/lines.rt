@@ -1,7 +1,7 @@
 //! Lines of progress.
 
 ghost use Rattle.std.specs.Prelude.{◌≡◌, ◌++◌, ◌<◌, IfOk, OnOk};
-ghost use Rattle.rw_metrics.specs.Lines.{cause_text, drops_line, lag, lag_told, last_told, lost_told, other_told, percent, percent_told, reading_line, receive_line, samples_line, send_line, skipped_line, status_told, statuses_told, told, told_some, work_line};
+ghost use Rattle.rw_metrics.specs.Lines.{cause_text, drops_line, lag, lag_text, last_failure_text, lost_count_text, other_count_text, percent, percent_text, reading_line, receive_line, samples_line, send_line, skipped_line, status_count_text, status_counts_text, word_and_count, word_and_count_if_any, work_line};
 
 use crate::cause::Cause;
 use crate::exposition::push_text;
@@ -11,9 +11,9 @@ use rw_text::push_number;
 use std::alloc::{AllocError, Global};
 
 /// Adds ` WORD N`.
-#[tactic(auto, unfolding(crate::specs::Lines::told))]
-fn push_told(out: &mut Vec<u8>, word: &str, n: u64) -> Result<(), AllocError>
-    ensures { OnOk result (out.new.items ≡ out.old.items ++ told word.now n) }
+#[tactic(auto, unfolding(crate::specs::Lines::word_and_count))]
+fn push_word_and_count(out: &mut Vec<u8>, word: &str, n: u64) -> Result<(), AllocError>
+    ensures { OnOk result (out.new.items ≡ out.old.items ++ word_and_count word.now n) }
 {
     push_text(out, " ")?;
     push_text(out, word)?;
@@ -22,20 +22,20 @@ fn push_told(out: &mut Vec<u8>, word: &str, n: u64) -> Result<(), AllocError>
 }
 
 /// Adds ` WORD N` if N is not 0.
-#[tactic(auto, unfolding(crate::specs::Lines::told_some))]
-fn push_told_some(out: &mut Vec<u8>, word: &str, n: u64) -> Result<(), AllocError>
-    ensures { OnOk result (out.new.items ≡ out.old.items ++ told_some word.now n) }
+#[tactic(auto, unfolding(crate::specs::Lines::word_and_count_if_any))]
+fn push_word_and_count_if_any(out: &mut Vec<u8>, word: &str, n: u64) -> Result<(), AllocError>
+    ensures { OnOk result (out.new.items ≡ out.old.items ++ word_and_count_if_any word.now n) }
 {
     if n == 0 {
         return Ok(());
     }
-    push_told(out, word, n)
+    push_word_and_count(out, word, n)
 }
 
 /// Adds ` status_NNN N`.
-#[tactic(auto, unfolding(crate::specs::Lines::status_told))]
-fn push_status_told(out: &mut Vec<u8>, count: &(u16, u64)) -> Result<(), AllocError>
-    ensures { OnOk result (out.new.items ≡ out.old.items ++ status_told count.now) }
+#[tactic(auto, unfolding(crate::specs::Lines::status_count_text))]
+fn push_status_count(out: &mut Vec<u8>, count: &(u16, u64)) -> Result<(), AllocError>
+    ensures { OnOk result (out.new.items ≡ out.old.items ++ status_count_text count.now) }
 {
     push_text(out, " status_")?;
     push_number(out, count.0 as u64)?;
@@ -44,11 +44,11 @@ fn push_status_told(out: &mut Vec<u8>, count: &(u16, u64)) -> Result<(), AllocEr
 }
 
 /// Adds ` status_NNN N` for each of these statuses.
-fn push_statuses_told(out: &mut Vec<u8>, counts: &[(u16, u64)]) -> Result<(), AllocError>
-    ensures { OnOk result (out.new.items ≡ out.old.items ++ statuses_told counts.now) }
+fn push_status_counts(out: &mut Vec<u8>, counts: &[(u16, u64)]) -> Result<(), AllocError>
+    ensures { OnOk result (out.new.items ≡ out.old.items ++ status_counts_text counts.now) }
 {
     for count in counts {
-        push_status_told(out, count)?;
+        push_status_count(out, count)?;
     }
     Ok(())
 }
@@ -72,9 +72,9 @@ pub(crate) fn push_cause(out: &mut Vec<u8>, cause: Cause) -> Result<(), AllocErr
 }
 
 /// Adds ` last CAUSE`, if an attempt has failed.
-#[tactic(auto, unfolding(crate::specs::Lines::last_told))]
-pub(crate) fn push_last_told(out: &mut Vec<u8>, last: Option<Cause>) -> Result<(), AllocError>
-    ensures { OnOk result (out.new.items ≡ out.old.items ++ last_told last) }
+#[tactic(auto, unfolding(crate::specs::Lines::last_failure_text))]
+pub(crate) fn push_last_failure(out: &mut Vec<u8>, last: Option<Cause>) -> Result<(), AllocError>
+    ensures { OnOk result (out.new.items ≡ out.old.items ++ last_failure_text last) }
 {
     match last {
         None => Ok(()),
@@ -94,14 +94,14 @@ pub(crate) fn percent(bytes: u64, all: u64) -> u64
 }
 
 /// Adds ` percent N` for a folder, if its bytes are known.
-#[tactic(auto, unfolding(crate::specs::Lines::percent_told))]
-fn push_percent_told(out: &mut Vec<u8>, bytes: u64, all: u64) -> Result<(), AllocError>
-    ensures { OnOk result (out.new.items ≡ out.old.items ++ percent_told bytes all) }
+#[tactic(auto, unfolding(crate::specs::Lines::percent_text))]
+fn push_percent(out: &mut Vec<u8>, bytes: u64, all: u64) -> Result<(), AllocError>
+    ensures { OnOk result (out.new.items ≡ out.old.items ++ percent_text bytes all) }
 {
     if all == 0 {
         return Ok(());
     }
-    push_told(out, "percent", percent(bytes, all))
+    push_word_and_count(out, "percent", percent(bytes, all))
 }
 
 /// Returns by how many seconds the newest acknowledged sample is older than the newest one that was
@@ -113,14 +113,14 @@ pub(crate) fn lag(read: u64, acknowledged: u64) -> u64
 }
 
 /// Adds ` lag N` if a sample was acknowledged.
-#[tactic(auto, unfolding(crate::specs::Lines::lag_told))]
-fn push_lag_told(out: &mut Vec<u8>, read: u64, acknowledged: u64) -> Result<(), AllocError>
-    ensures { OnOk result (out.new.items ≡ out.old.items ++ lag_told read acknowledged) }
+#[tactic(auto, unfolding(crate::specs::Lines::lag_text))]
+fn push_lag(out: &mut Vec<u8>, read: u64, acknowledged: u64) -> Result<(), AllocError>
+    ensures { OnOk result (out.new.items ≡ out.old.items ++ lag_text read acknowledged) }
 {
     if acknowledged == 0 {
         return Ok(());
     }
-    push_told(out, "lag", lag(read, acknowledged))
+    push_word_and_count(out, "lag", lag(read, acknowledged))
 }
 
 fn push_samples_line(out: &mut Vec<u8>, n: &SendNumbers) -> Result<(), AllocError>
@@ -128,32 +128,32 @@ fn push_samples_line(out: &mut Vec<u8>, n: &SendNumbers) -> Result<(), AllocErro
 {
     push_text(out, "entries ")?;
     push_number(out, n.entries)?;
-    push_told(out, "read", n.read)?;
-    push_told(out, "acknowledged", n.acknowledged)?;
-    push_told(out, "dropped", n.drops.all)?;
-    push_told(out, "filtered", n.filtered)?;
-    push_told(out, "in_flight", n.in_flight)?;
-    push_lag_told(out, n.newest_read, n.newest_acknowledged)?;
+    push_word_and_count(out, "read", n.read)?;
+    push_word_and_count(out, "acknowledged", n.acknowledged)?;
+    push_word_and_count(out, "dropped", n.drops.all)?;
+    push_word_and_count(out, "filtered", n.filtered)?;
+    push_word_and_count(out, "in_flight", n.in_flight)?;
+    push_lag(out, n.newest_read, n.newest_acknowledged)?;
     Ok(())
 }
 
 fn push_work_line(out: &mut Vec<u8>, n: &SendNumbers) -> Result<(), AllocError>
     ensures { OnOk result (out.new.items ≡ out.old.items ++ work_line n.now) }
 {
-    push_told(out, "shards", n.shards)?;
-    push_told(out, "attempts", n.attempts)?;
-    push_told(out, "failed", n.failures.all)?;
-    push_last_told(out, n.failures.last)?;
+    push_word_and_count(out, "shards", n.shards)?;
+    push_word_and_count(out, "attempts", n.attempts)?;
+    push_word_and_count(out, "failed", n.failures.all)?;
+    push_last_failure(out, n.failures.last)?;
     Ok(())
 }
 
 fn push_reading_line(out: &mut Vec<u8>, n: &SendNumbers) -> Result<(), AllocError>
     ensures { OnOk result (out.new.items ≡ out.old.items ++ reading_line n.now) }
 {
-    push_told(out, "segment", n.segment)?;
-    push_told(out, "bytes", n.segment_bytes)?;
-    push_told_some(out, "newest", n.newest_segment)?;
-    push_percent_told(out, n.bytes, n.folder_bytes)?;
+    push_word_and_count(out, "segment", n.segment)?;
+    push_word_and_count(out, "bytes", n.segment_bytes)?;
+    push_word_and_count_if_any(out, "newest", n.newest_segment)?;
+    push_percent(out, n.bytes, n.folder_bytes)?;
     Ok(())
 }
 
@@ -179,9 +179,9 @@ pub fn receive_line(alloc: Global, numbers: &ReceiveNumbers) -> Result<Vec<u8>, 
     let mut out = Vec::new(alloc);
     push_text(&mut out, "connections ")?;
     push_number(&mut out, numbers.connections)?;
-    push_told(&mut out, "accepted", numbers.accepted)?;
-    push_told(&mut out, "samples", numbers.samples)?;
-    push_statuses_told(&mut out, numbers.statuses.as_slice())?;
+    push_word_and_count(&mut out, "accepted", numbers.accepted)?;
+    push_word_and_count(&mut out, "samples", numbers.samples)?;
+    push_status_counts(&mut out, numbers.statuses.as_slice())?;
     Ok(out)
 }
 
@@ -193,37 +193,37 @@ pub fn drops_line(alloc: Global, drops: &Drops) -> Result<Vec<u8>, AllocError>
     let mut out = Vec::new(alloc);
     push_text(&mut out, "dropped ")?;
     push_number(&mut out, drops.all)?;
-    push_told(&mut out, "noseries", drops.no_series)?;
-    push_told(&mut out, "badlabels", drops.bad_labels)?;
-    push_told(&mut out, "notrising", drops.not_rising)?;
-    push_statuses_told(&mut out, drops.refused.as_slice())?;
+    push_word_and_count(&mut out, "noseries", drops.no_series)?;
+    push_word_and_count(&mut out, "badlabels", drops.bad_labels)?;
+    push_word_and_count(&mut out, "notrising", drops.not_rising)?;
+    push_status_counts(&mut out, drops.refused.as_slice())?;
     Ok(out)
 }
 
 /// Adds how many of the skipped records may hold samples, by what they hold.
-fn push_lost_told(out: &mut Vec<u8>, s: &Skipped) -> Result<(), AllocError>
-    ensures { OnOk result (out.new.items ≡ out.old.items ++ lost_told s.now) }
+fn push_lost_count(out: &mut Vec<u8>, s: &Skipped) -> Result<(), AllocError>
+    ensures { OnOk result (out.new.items ≡ out.old.items ++ lost_count_text s.now) }
 {
-    push_told_some(out, "histogram_samples", s.histograms)?;
-    push_told_some(out, "float_histogram_samples", s.float_histograms)?;
-    push_told_some(out, "custom_buckets_histogram_samples", s.custom_histograms)?;
-    push_told_some(
+    push_word_and_count_if_any(out, "histogram_samples", s.histograms)?;
+    push_word_and_count_if_any(out, "float_histogram_samples", s.float_histograms)?;
+    push_word_and_count_if_any(out, "custom_buckets_histogram_samples", s.custom_histograms)?;
+    push_word_and_count_if_any(
         out,
         "custom_buckets_float_histogram_samples",
         s.custom_float_histograms,
     )?;
-    push_told_some(out, "unknown", s.unknown)?;
+    push_word_and_count_if_any(out, "unknown", s.unknown)?;
     Ok(())
 }
 
 /// Adds how many of the skipped records hold no samples, by what they hold.
-fn push_other_told(out: &mut Vec<u8>, s: &Skipped) -> Result<(), AllocError>
-    ensures { OnOk result (out.new.items ≡ out.old.items ++ other_told s.now) }
+fn push_other_count(out: &mut Vec<u8>, s: &Skipped) -> Result<(), AllocError>
+    ensures { OnOk result (out.new.items ≡ out.old.items ++ other_count_text s.now) }
 {
-    push_told_some(out, "tombstones", s.tombstones)?;
-    push_told_some(out, "exemplars", s.exemplars)?;
-    push_told_some(out, "mmapmarkers", s.mmap_markers)?;
-    push_told_some(out, "metadata", s.metadata)?;
+    push_word_and_count_if_any(out, "tombstones", s.tombstones)?;
+    push_word_and_count_if_any(out, "exemplars", s.exemplars)?;
+    push_word_and_count_if_any(out, "mmapmarkers", s.mmap_markers)?;
+    push_word_and_count_if_any(out, "metadata", s.metadata)?;
     Ok(())
 }
 
@@ -234,7 +234,7 @@ pub fn skipped_line(alloc: Global, skipped: &Skipped) -> Result<Vec<u8>, AllocEr
 {
     let mut out = Vec::new(alloc);
     push_text(&mut out, "skipped")?;
-    push_lost_told(&mut out, skipped)?;
-    push_other_told(&mut out, skipped)?;
+    push_lost_count(&mut out, skipped)?;
+    push_other_count(&mut out, skipped)?;
     Ok(out)
 }

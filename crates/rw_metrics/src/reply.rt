@@ -1,7 +1,7 @@
 //! The replies to requests for pages.
 
 ghost use Rattle.std.specs.Prelude.{◌≡◌, IfOk};
-ghost use Rattle.rw_metrics.specs.Exposition.{reply};
+ghost use Rattle.rw_metrics.specs.inner.Exposition.{reply};
 
 use crate::asking::Asked;
 use crate::counters::Counters;

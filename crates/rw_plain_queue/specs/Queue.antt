@@ -16,8 +16,8 @@ abbrev pub put_in : Queue → List Item
 put_in q = q.taken ++ q.items
 
 -- why nothing can be put
-abbrev pub refusal : Queue → Option PutFault
-refusal q = if q.closed || q.killed then Some Closed else if nat_lt (length q.items) q.capacity then None else Some Full
+abbrev pub put_refusal : Queue → Option PutFault
+put_refusal q = if q.closed || q.killed then Some Closed else if nat_lt (length q.items) q.capacity then None else Some Full
 
 abbrev pub front : List Item → Option Item
 front [] = None

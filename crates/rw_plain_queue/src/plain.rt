@@ -2,7 +2,7 @@
 
 ghost use Rattle.std.specs.Prelude.{◌≡◌, ◌↔◌, ◌∷◌, [], ◌++◌, true, false, None, Some, length, ◌≤◌, IsTrue, IsOk, IfOk, IfErr, OnOk, OnErr};
 ghost use Rattle.std.specs.VecDeque.Iter.{deque_iter_rest};
-ghost use Rattle.rw_plain_queue.specs.Queue.{Queue, put_in, refusal, next_item, after_take};
+ghost use Rattle.rw_plain_queue.specs.Queue.{Queue, put_in, put_refusal, next_item, after_take};
 
 use crate::item::Item;
 use rw_history::History;
@@ -86,7 +86,7 @@ impl PlainQueue {
 
     /// Returns why an item cannot be put now, or `None` if it can.
     pub fn refusal(&self) -> Option<PutFault>
-        ensures { result ≡ refusal self.now }
+        ensures { result ≡ put_refusal self.now }
     {
         if self.closed || self.killed {
             return Some(PutFault::Closed);
@@ -99,11 +99,11 @@ impl PlainQueue {
 
     /// Puts an item at the back. A refused item comes back with the reason, and nothing changes.
     pub fn put(&mut self, item: Item) -> Result<(), (Item, PutFault)>
-        ensures fine { IsOk result ↔ (refusal self.old ≡ None) }
+        ensures fine { IsOk result ↔ (put_refusal self.old ≡ None) }
         ensures ok { OnOk result
             (self.new ≡ record self.old { items = self.old.items ++ item ∷ [] }) }
         ensures put { OnOk result (put_in self.new ≡ put_in self.old ++ item ∷ []) }
-        ensures fault { IfErr result (λ e. refusal self.old ≡ Some e.1) }
+        ensures fault { IfErr result (λ e. put_refusal self.old ≡ Some e.1) }
         ensures back { IfErr result (λ e. e.0 ≡ item) }
         ensures err { OnErr result (self.new ≡ self.old) }
     {

@@ -3,13 +3,15 @@ use Rattle.std.proofs.Common.{◌≡◌, ◌≢◌, ◌⊎◌, inl, inr, ℕ, ze
 use Rattle.std.specs.List.{AllByRecursion, IsDistinct, list_any}
 use Rattle.std.proofs.lemmas.Map.Keys.{IsDistinct-cons}
 use Rattle.std.proofs.lemmas.Map.Steps.{length-le_from_distinct_below}
+use Rattle.std.proofs.lemmas.Bool.{or_left, or_right, or_parts}
 use Rattle.rw_types.specs.Beginnings.{Begins}
+use Rattle.rw_types.proofs.shared.Booleans.{or_true}
 use Rattle.rw_head.specs.Store.{Store}
 use Rattle.rw_head.specs.Head.{State}
 use Rattle.rw_recv_head.specs.declared.question.Question.{Question}
 use Rattle.rw_recv_head.specs.declared.questions.Known.{Known}
 use Rattle.rw_recv_head.specs.Seats.{own, bodies_of, store_after, Seated, HasGathered}
-use Rattle.rw_recv_head.specs.Questions.{IsSeat}
+use Rattle.rw_recv_head.specs.inner.Questions.{IsSeat}
 
 -- ---- an element at the end
 module _ {A : Type 0} where
@@ -37,25 +39,9 @@ numbered_more seats s n len is h k t e = ⊎_elim (h k t)
     (at_push seats s t k e)
 
 -- ---- numbers that differ
-either_of : (a b : Bool) → (a || b) ≡ true → (a ≡ true) ⊎ (b ≡ true)
-either_of true b e = inl refl
-either_of false b e = inr e
-
-first_of : (a b : Bool) → a ≡ true → (a || b) ≡ true
-first_of true b e = refl
-first_of false b e = absurd (true≢false (sym e))
-
-later_of : (a b : Bool) → b ≡ true → (a || b) ≡ true
-later_of true b e = refl
-later_of false b e = e
-
-neither_of : (a b : Bool) → (a || b) ≡ false → (a ≡ false) × (b ≡ false)
-neither_of true b e = absurd (true≢false e)
-neither_of false b e = (refl, e)
-
 each_differs : (n : ℕ) (ns : List ℕ) → list_any (eqb n) ns ≡ false → AllByRecursion (λ m. eqb n m ≡ false) ns
 each_differs n [] e = tt
-each_differs n (m ∷ ns) e = let t = neither_of (eqb n m) (list_any (eqb n) ns) e in (t.0, each_differs n ns t.1)
+each_differs n (m ∷ ns) e = let t = or_parts (eqb n m) (list_any (eqb n) ns) e in (t.0, each_differs n ns t.1)
 
 -- as many different numbers below n as n are all of them
 all_there : (ns : List ℕ) (n : ℕ) → IsDistinct eqb ns → ((m : ℕ) → list_any (eqb m) ns ≡ true → m < n) → length ns ≡ n
@@ -63,7 +49,7 @@ all_there : (ns : List ℕ) (n : ℕ) → IsDistinct eqb ns → ((m : ℕ) → l
 all_there ns n distinct below count m less true e = refl
 all_there ns n distinct below count m less false e =
     let longer : suc (length ns) ≤ n = length-le_from_distinct_below (m ∷ ns) n (IsDistinct-cons eqb m ns (each_differs m ns e) distinct)
-    (λ q h. ⊎_elim (λ (t : eqb q m ≡ true). subst (λ k. k < n) (sym (eqb-true q m t)) less) (below q) (either_of (eqb q m) (list_any (eqb q) ns) h)) in
+    (λ q h. ⊎_elim (λ (t : eqb q m ≡ true). subst (λ k. k < n) (sym (eqb-true q m t)) less) (below q) (or_true (eqb q m) (list_any (eqb q) ns) h)) in
     absurd (omega (arith, longer, count))
 
 -- ---- the seats that are back
@@ -101,13 +87,13 @@ one_more_back known seats s h i =
           (λ (x : (k ≡ length seats) × (s ≡ t)). subst (λ (u : Seated). Begins u.asked known.asked × (own u.number known.asked ≡ own u.number u.asked)) x.1 (i.begins, i.alone))
           (at_push seats s t k e);
       noted = λ k t e. ⊎_elim
-          (λ (x : slice_get seats k ≡ Some t). later_of (eqb t.number s.number) (list_any (eqb t.number) known.back) (h.noted k t x))
-          (λ (x : (k ≡ length seats) × (s ≡ t)). first_of (eqb t.number s.number) (list_any (eqb t.number) known.back) (eq-eqb t.number s.number (ap (λ (u : Seated). u.number) (sym x.1))))
+          (λ (x : slice_get seats k ≡ Some t). or_right (eqb t.number s.number) (list_any (eqb t.number) known.back) (h.noted k t x))
+          (λ (x : (k ≡ length seats) × (s ≡ t)). or_left (eqb t.number s.number) (list_any (eqb t.number) known.back) (eq-eqb t.number s.number (ap (λ (u : Seated). u.number) (sym x.1))))
           (at_push seats s t k e);
       found = λ n e. ⊎_elim
           (λ (x : eqb n s.number ≡ true). (length seats, s, at_end seats s, sym (eqb-true n s.number x)))
           (λ (x : list_any (eqb n) known.back ≡ true). let f = h.found n x in (f.0, f.1, at_more seats (s ∷ []) f.1 f.0 f.2, f.3))
-          (either_of (eqb n s.number) (list_any (eqb n) known.back) e);
+          (or_true (eqb n s.number) (list_any (eqb n) known.back) e);
       apart = λ j k t u ej ek same. ⊎_elim
           (λ (x : slice_get seats j ≡ Some t). ⊎_elim
           (λ (y : slice_get seats k ≡ Some u). h.apart j k t u x y same)
@@ -122,7 +108,7 @@ one_more_back known seats s h i =
       below = λ n e. ⊎_elim
           (λ (x : eqb n s.number ≡ true). subst (λ m. m < known.given) (sym (eqb-true n s.number x)) i.given)
           (h.below n)
-          (either_of (eqb n s.number) (list_any (eqb n) known.back) e);
+          (or_true (eqb n s.number) (list_any (eqb n) known.back) e);
       count = omega (arith, h.count, length-append seats (s ∷ []));
     }
 

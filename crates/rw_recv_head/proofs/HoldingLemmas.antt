@@ -2,32 +2,29 @@
 use Rattle.std.proofs.Common.{◌≡◌, ℕ, zero, suc, List, [], ◌∷◌, ◌++◌, slice_get, Option, Some, None, is_some, Bool, true, false, ◌&&◌, ◌||◌, cond, eqb, eq-eqb, Result, Ok, Err, nat_lt, refl, sym, ◌∙◌, ap, subst, arith}
 use Rattle.std.proofs.lemmas.Bool.Decides.{Decides-int_eq}
 use Rattle.std.specs.Ordering.{int_eq}
+use Rattle.std.proofs.lemmas.Bool.{or_right}
 use Rattle.rw_types.specs.Beginnings.{Begins}
 use Rattle.rw_types.specs.Labels.{label_fault}
-use Rattle.rw_types.proofs.OrderLemmas.{equal_if_same}
+use Rattle.rw_types.proofs.shared.OrderLemmas.{equal_if_same}
 use Rattle.rw_write_request.specs.Message.{Sample, TimeSeries, WriteRequest}
 use Rattle.rw_write_request.specs.Read.{read}
 use Rattle.rw_head.specs.declared.verdict.Verdict.{Verdict}
 use Rattle.rw_head.specs.declared.verdict.Verdict.TheVariants.{BadLabels, OverLimit}
 use Rattle.rw_head.specs.Order.{Point, point_of, points, is_later, holds, accept_one, accept}
 use Rattle.rw_head.specs.Store.{Store, list_of, with_list, HasNoEmptyList}
-use Rattle.rw_head.specs.Verdicts.{LabelLimits, refusal, is_over, accepted, taken_unless, taken, taken_all, judged}
+use Rattle.rw_head.specs.Verdicts.{LabelLimits, refusal, is_over_limits, accepted, taken_unless, taken, taken_all, judged}
 use Rattle.rw_head.specs.Growth.{EachRises}
 use Rattle.rw_head.specs.Head.{State, status_of, judged_body, answer_to, answer}
-use Rattle.rw_head.proofs.OrderLemmas.{accept-none}
-use Rattle.rw_head.proofs.StoreLemmas.{list_of-with_list}
-use Rattle.rw_head.proofs.VerdictLemmas.{taken_all-err}
+use Rattle.rw_head.proofs.shared.OrderLemmas.{accept-none}
+use Rattle.rw_head.proofs.shared.StoreLemmas.{list_of-with_list}
+use Rattle.rw_head.proofs.shared.VerdictLemmas.{taken_all-err}
 use Rattle.rw_recv_head.specs.Seats.{store_after, head_after}
-use Rattle.rw_recv_head.proofs.StayingLemmas.{message_keeps, after_keeps, stays_stored}
+use Rattle.rw_recv_head.proofs.shared.StayingLemmas.{message_keeps, after_keeps, stays_stored}
 use Rattle.rw_recv_head.proofs.StoredLemmas.{store_after-push}
 
 or_more : (a b c : Bool) → (a || b) ≡ true → (b ≡ true → c ≡ true) → (a || c) ≡ true
 or_more true b c h k = refl
 or_more false b c h k = k h
-
-or_last : (a b : Bool) → b ≡ true → (a || b) ≡ true
-or_last true b h = refl
-or_last false b h = h
 
 holds_more : (p : Point) (xs ys : List Point) → holds p xs ≡ true → holds p (xs ++ ys) ≡ true
 holds_more p [] ys h = absurd cc
@@ -35,7 +32,7 @@ holds_more p (x ∷ xs) ys h = or_more (int_eq x.0 p.0 && eqb x.1 p.1) (holds p 
 
 holds_last : (p : Point) (xs : List Point) → holds p (xs ++ p ∷ []) ≡ true
 holds_last p [] = ap (λ b. (b && eqb p.1 p.1) || false) ((Decides-int_eq p.0 p.0).1 refl) ∙ ap (λ b. b || false) (eq-eqb p.1 p.1 refl)
-holds_last p (x ∷ xs) = or_last (int_eq x.0 p.0 && eqb x.1 p.1) (holds p (xs ++ p ∷ [])) (holds_last p xs)
+holds_last p (x ∷ xs) = or_right (int_eq x.0 p.0 && eqb x.1 p.1) (holds p (xs ++ p ∷ [])) (holds_last p xs)
 
 holds_begun : (p : Point) (xs ys : List Point) → Begins xs ys → holds p xs ≡ true → holds p ys ≡ true
 holds_begun p xs ys b h = subst (λ l. holds p l ≡ true) (sym b.1) (holds_more p xs b.0 h)
@@ -133,7 +130,7 @@ module _ (limits : LabelLimits) where
   all_refused : (m : WriteRequest) (r : Result Store Verdict) → IsRefused r → IsRefused (taken_all limits r m)
   all_refused [] r h = h
   all_refused (s ∷ ss) (Err v) h = all_refused ss (Err v) h
-  all_refused (s ∷ ss) (Ok store) h = all_refused ss (taken limits store s) (one_refused (is_over limits s.labels) (is_some (label_fault limits.names s.labels)) store s None)
+  all_refused (s ∷ ss) (Ok store) h = all_refused ss (taken limits store s) (one_refused (is_over_limits limits s.labels) (is_some (label_fault limits.names s.labels)) store s None)
 
 -- ---- an answer
 answer_held : (head : State) (m : WriteRequest) (r : Result Store Verdict) (i j : ℕ) (s : TimeSeries) (x : Sample) → EachRises head.store → HasNoEmptyList head.store

@@ -2,5 +2,5 @@ mod CapacityLemmas
 mod GatheringLemmas
 mod HoldingLemmas
 mod QuestionMoves
-mod StayingLemmas
 mod StoredLemmas
+pub mod shared

@@ -8,12 +8,12 @@ use prog.Atomic.{either}
 use Rattle.atomic_table.specs.Table.{Me, keeps, step, Allows, Splits, Joins}
 use Rattle.atomic_table.proofs.Lists.{at_set, set_again}
 use Rattle.rw_types.specs.Beginnings.{Begins}
-use Rattle.rw_types.proofs.BeginningLemmas.{begins_itself, begins_twice}
+use Rattle.rw_types.proofs.shared.BeginningLemmas.{begins_itself, begins_twice}
 use Rattle.rw_recv_head.specs.declared.question.Question.{Question}
 use Rattle.rw_recv_head.specs.declared.questions.Known.{Known}
 use Rattle.rw_recv_head.specs.declared.questions.View.{View}
 use Rattle.rw_recv_head.specs.Seats.{own}
-use Rattle.rw_recv_head.specs.Questions.{nothing_known, keeper, host, sitter, guest, with_seat, IsSeat, Fits, AreKept, Added, Returned}
+use Rattle.rw_recv_head.specs.inner.Questions.{nothing_known, keeper, host, sitter, guest, with_seat, IsSeat, Fits, AreKept, Added, Returned}
 
 off : false ≡ true → ⊥
 off e = true≢false (sym e)

@@ -7,11 +7,12 @@ use Rattle.rw_head.specs.declared.capacity.Capacity.{Capacity}
 use Rattle.rw_head.specs.Capacity.{exceeds}
 use Rattle.rw_head.specs.Head.{State, SpellsMessage, judged_body, answer_to, answer}
 use Rattle.rw_head.specs.Store.{total}
-use Rattle.rw_head.specs.Growth.{EachRises, HasTaken}
+use Rattle.rw_head.specs.Growth.{EachRises, HasStoredBody}
 use Rattle.rw_recv_head.specs.declared.question.Question.{Question}
 use Rattle.rw_recv_head.specs.declared.questions.Known.{Known}
-use Rattle.rw_recv_head.specs.Seats.{most, store_after, head_after, taken_of, bodies_of, Seated, HasAsked, FindsFull, IsKept}
-use Rattle.rw_recv_head.specs.Questions.{IsSeat}
+use Rattle.rw_recv_head.specs.Seats.{most, store_after, head_after, body_if_taken, bodies_of, Seated, HasAsked, FindsFull}
+use Rattle.rw_recv_head.specs.inner.Seats.{IsKept}
+use Rattle.rw_recv_head.specs.inner.Questions.{IsSeat}
 use Rattle.rw_recv_head.proofs.GatheringLemmas.{at_push}
 
 pub store_after-push : (head : State) (bodies : List (List ℕ)) (body : List ℕ)
@@ -19,10 +20,10 @@ pub store_after-push : (head : State) (bodies : List (List ℕ)) (body : List �
 store_after-push head [] body = refl
 store_after-push head (b ∷ bodies) body = store_after-push (record head { store = (judged_body head (read b)).store }) bodies body
 
-bodies-push : (qs : List Question) (q : Question) → bodies_of (qs ++ q ∷ []) ≡ bodies_of qs ++ taken_of q.status q.body
-bodies-push [] q = append-nil (taken_of q.status q.body)
+bodies-push : (qs : List Question) (q : Question) → bodies_of (qs ++ q ∷ []) ≡ bodies_of qs ++ body_if_taken q.status q.body
+bodies-push [] q = append-nil (body_if_taken q.status q.body)
 bodies-push (p ∷ qs) q =
-    ap (λ l. taken_of p.status p.body ++ l) (bodies-push qs q) ∙ sym (append_assoc (taken_of p.status p.body) (bodies_of qs) (taken_of q.status q.body))
+    ap (λ l. body_if_taken p.status p.body ++ l) (bodies-push qs q) ∙ sym (append_assoc (body_if_taken p.status p.body) (bodies_of qs) (body_if_taken q.status q.body))
 
 more_taken : (qs : List Question) (q : Question) → q.status ≡ 204 → bodies_of (qs ++ q ∷ []) ≡ bodies_of qs ++ q.body ∷ []
 more_taken qs q is = bodies-push qs q ∙ ap (λ (b : Bool). bodies_of qs ++ (if b then q.body ∷ [] else [])) (eq-eqb q.status 204 is)
@@ -153,7 +154,7 @@ module _ (opening head new : State) (body : List ℕ) (status : ℕ) (known now 
 
   pub asked : (all parts rest before after : ℕ) (old later : Seated) → IsKept opening all (record { head = head; questions = known }) parts rest
       → IsSeat known old.number old.asked → old.number ≡ seat
-      → (status ≡ 503 → SpellsMessage body) → (status ≡ 204 → HasTaken body head.store new.store) → total head.store ≤ total new.store
+      → (status ≡ 503 → SpellsMessage body) → (status ≡ 204 → HasStoredBody body head.store new.store) → total head.store ≤ total new.store
       → before ≡ total head.store → after ≡ total new.store → later.number ≡ old.number → later.asked ≡ now.asked → later.stored ≡ old.stored + (after - before)
       → HasAsked opening old body status later
   asked all parts rest before after old later k knew is_seat readable taken more b a same sees stores =

@@ -1,14 +1,13 @@
 pub use Rattle.rw_head.specs.Added
 pub use Rattle.rw_head.specs.Blocks
 pub use Rattle.rw_head.specs.Capacity
-pub use Rattle.rw_head.specs.Finds
 pub use Rattle.rw_head.specs.Growth
 pub use Rattle.rw_head.specs.Head
 pub use Rattle.rw_head.specs.Lists
-pub use Rattle.rw_head.specs.Names
 pub use Rattle.rw_head.specs.Order
 pub use Rattle.rw_head.specs.Staged
 pub use Rattle.rw_head.specs.Store
 pub use Rattle.rw_head.specs.Verdicts
 pub mod Seats
 pub mod Questions
+pub mod inner

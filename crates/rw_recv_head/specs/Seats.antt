@@ -1,6 +1,6 @@
 -- What a request through a seat does: to what the head holds, and to what the seat has stored and
 -- seen.
-use Rattle.std.specs.Prelude.{◌≡◌, ◌≢◌, ℕ, ◌+◌, ◌^◌, ◌-◌, ◌<◌, ◌≤◌, ◌==◌, if◌then◌else◌, List, [], ◌∷◌, ◌++◌, filter, Some, slice_get, Ok, true}
+use Rattle.std.specs.Prelude.{◌≡◌, ◌≢◌, ℕ, ◌+◌, ◌^◌, ◌-◌, ◌≤◌, ◌==◌, if◌then◌else◌, List, [], ◌∷◌, ◌++◌, filter, Some, slice_get, Ok, true}
 use Rattle.atomic_table.specs.Seated.{TableId}
 use Rattle.rw_types.specs.Beginnings.{Begins}
 use Rattle.rw_write_request.specs.Message.{WriteRequest}
@@ -11,7 +11,6 @@ use Rattle.rw_head.specs.Head.{State, SpellsMessage, judged_body, answer}
 use Rattle.rw_head.specs.Store.{Store, total}
 use Rattle.rw_head.specs.Growth.{EachRises, sample_count}
 use Rattle.rw_recv_head.specs.declared.question.Question.{Question}
-use Rattle.rw_recv_head.specs.declared.questions.Known.{Known}
 
 -- what a head holds that has taken these bodies, one after the other
 abbrev pub store_after : State → List (List ℕ) → Store
@@ -23,13 +22,13 @@ abbrev pub head_after : State → List (List ℕ) → ℕ → State
 head_after head bodies busy = record head { store = store_after head bodies; busy = busy }
 
 -- the body, if the head takes it: if it answers 204
-abbrev pub taken_of : ℕ → List ℕ → List (List ℕ)
-taken_of status body = if status == 204 then body ∷ [] else []
+abbrev pub body_if_taken : ℕ → List ℕ → List (List ℕ)
+body_if_taken status body = if status == 204 then body ∷ [] else []
 
 -- the bodies that the head takes of these questions
 abbrev pub bodies_of : List Question → List (List ℕ)
 bodies_of [] = []
-bodies_of (q ∷ later) = taken_of q.status q.body ++ bodies_of later
+bodies_of (q ∷ later) = body_if_taken q.status q.body ++ bodies_of later
 
 -- those that came from one seat
 abbrev pub own : ℕ → List Question → List Question
@@ -103,22 +102,3 @@ pub record Unused : Type 0 where
   pub name : ℕ
   pub parts : ℕ
   pub table : HeadTable
-
--- what is under the lock
-pub record Held : Type 0 where
-  pub head : State
-  pub questions : Known
-
--- What the lock keeps: the head has taken what it takes of these questions, each of which is of a
--- seat that was given; the timestamps of each of its lists rise; and the ledger has `all` parts,
--- one for each seat and one here, with what could still be stored.
-pub record IsKept (opening : State) (all : ℕ) (held : Held) (parts rest : ℕ) : Type 0 where
-  pub rises : EachRises held.head.store
-  pub holds : held.head.store ≡ store_after opening (bodies_of held.questions.asked)
-  pub limits : held.head.limits ≡ opening.limits
-  pub less_busy : held.head.busy ≤ opening.busy
-  pub each : (n : ℕ) (q : Question) → slice_get held.questions.asked n ≡ Some q → q.seat < held.questions.given
-  pub all_given : all ≡ held.questions.given + 1
-  pub none_back : held.questions.back ≡ []
-  pub one_part : parts ≡ 1
-  pub adds_up : total held.head.store + rest ≡ most

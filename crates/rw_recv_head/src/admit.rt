@@ -2,8 +2,8 @@
 
 ghost use Rattle.std.specs.Prelude.{◌≡◌, ◌≢◌, ◌≤◌, true};
 ghost use Rattle.rw_head.specs.declared.capacity.Admission.TheVariants.{Full};
-ghost use Rattle.rw_head.specs.Capacity.{exceeds, told, unlimited, StaysWithin};
-ghost use Rattle.rw_head.specs.Growth.{EachRises, HasTaken};
+ghost use Rattle.rw_head.specs.Capacity.{exceeds, status_of_admission, unlimited, StaysWithin};
+ghost use Rattle.rw_head.specs.Growth.{EachRises, HasStoredBody};
 ghost use Rattle.rw_head.specs.Head.{State, answer, IsStatus, SpellsMessage};
 ghost use Rattle.rw_head.specs.Store.{total};
 
@@ -17,17 +17,18 @@ pub trait Admit {
 
     /// Answers the body of a request, as `Head::admit` does.
     fn admit(&mut self, body: &[u8], capacity: &Capacity) -> Admission
-        ensures status { told result ≢ 503
-            → told result ≡ (answer (state self.old) body.now).status }
-        ensures head { told result ≢ 503
+        ensures status { status_of_admission result ≢ 503
+            → status_of_admission result ≡ (answer (state self.old) body.now).status }
+        ensures head { status_of_admission result ≢ 503
             → state self.new ≡ (answer (state self.old) body.now).head }
-        ensures unavailable { told result ≡ 503
+        ensures unavailable { status_of_admission result ≡ 503
             → (state self.new ≡ state self.old) × ((state self.old).busy ≡ 0) }
-        ensures readable { told result ≡ 503 → SpellsMessage body.now }
-        ensures statuses { IsStatus (told result) }
-        ensures refused { told result ≢ 204 → (state self.new).store ≡ (state self.old).store }
-        ensures taken { told result ≡ 204
-            → HasTaken body.now (state self.old).store (state self.new).store }
+        ensures readable { status_of_admission result ≡ 503 → SpellsMessage body.now }
+        ensures statuses { IsStatus (status_of_admission result) }
+        ensures refused { status_of_admission result ≢ 204
+            → (state self.new).store ≡ (state self.old).store }
+        ensures taken { status_of_admission result ≡ 204
+            → HasStoredBody body.now (state self.old).store (state self.new).store }
         ensures more { total (state self.old).store ≤ total (state self.new).store }
         ensures rises { EachRises (state self.new).store }
         ensures within { StaysWithin capacity.now (state self.old).store (state self.new).store }

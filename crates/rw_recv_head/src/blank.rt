@@ -2,7 +2,7 @@
 
 ghost use Rattle.std.specs.Prelude.{◌≡◌, IfOk};
 ghost use Rattle.rw_head.specs.Capacity.{unlimited};
-ghost use Rattle.rw_recv_head.specs.Questions.{nothing_known};
+ghost use Rattle.rw_recv_head.specs.inner.Questions.{nothing_known};
 
 use crate::naming::Naming;
 use crate::questions::{Questions, Unnamed};

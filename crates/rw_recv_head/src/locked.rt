@@ -2,7 +2,7 @@
 
 ghost use Rattle.std.specs.Prelude.{◌≡◌, ◌≢◌, ℕ, ◌+◌, ◌<◌, ◌≤◌, [], Some, length, slice_get};
 ghost use Rattle.rw_head.specs.declared.capacity.Admission.TheVariants.{Full};
-ghost use Rattle.rw_head.specs.Capacity.{told, unlimited, StaysWithin};
+ghost use Rattle.rw_head.specs.Capacity.{status_of_admission, unlimited, StaysWithin};
 ghost use Rattle.rw_head.specs.Head.{answer, IsStatus};
 ghost use Rattle.rw_head.specs.Store.{total, label_sets};
 ghost use Rattle.rw_head.specs.Growth.{EachRises};
@@ -32,7 +32,7 @@ impl<L: Naming, H: Admit> Model for Locked<L, H> {
     ghost use Rattle.std.specs.FinMap as map;
     ghost use Rattle.std.specs.Prelude.{◌≡◌};
     ghost use Rattle.rw_head.specs.Capacity.{StaysWithin};
-    ghost use Rattle.rw_recv_head.specs.Seats.{Held, IsKept};
+    ghost use Rattle.rw_recv_head.specs.inner.Seats.{Held, IsKept};
 
     ghost Value = { Held };
 
@@ -77,7 +77,8 @@ impl<L: Naming, H: Admit> Locked<L, H> {
     pub(crate) fn into_parts(self) -> (H, Questions<L>, Share<L>)
         ensures head { H.state result.0 ≡ self.head }
         ensures questions { result.1 ≡ self.questions }
-        ensures holds { (H.state result.0).store ≡ store_after L.opening (bodies_of result.1.asked) }
+        ensures holds { (H.state result.0).store
+            ≡ store_after L.opening (bodies_of result.1.asked) }
         ensures limits { (H.state result.0).limits ≡ L.opening.limits }
         ensures each { (n : ℕ) (q : Question) → slice_get result.1.asked n ≡ Some q
             → q.seat < result.1.given }
@@ -95,14 +96,14 @@ impl<L: Naming, H: Admit> Locked<L, H> {
     /// rest to the seat, which then has seen all questions.
     pub(crate) fn answer(&mut self, all: &Total<L>, seat: &mut Seat<L>, body: &[u8]) -> Admission
         requires fits { all.now.amount ≤ most }
-        ensures status { told result ≢ 503
-            → told result ≡ (answer self.old.head body.now).status }
-        ensures head { told result ≢ 503
+        ensures status { status_of_admission result ≢ 503
+            → status_of_admission result ≡ (answer self.old.head body.now).status }
+        ensures head { status_of_admission result ≢ 503
             → self.new.head ≡ (answer self.old.head body.now).head }
-        ensures no_memory { told result ≡ 503
+        ensures no_memory { status_of_admission result ≡ 503
             → (self.new.head ≡ self.old.head) × (self.old.head.busy ≡ 0) }
-        ensures statuses { IsStatus (told result) }
-        ensures asked { HasAsked L.opening seat.old body.now (told result) seat.new }
+        ensures statuses { IsStatus (status_of_admission result) }
+        ensures asked { HasAsked L.opening seat.old body.now (status_of_admission result) seat.new }
         ensures seen { seat.new.asked ≡ self.new.questions.asked }
         ensures full { result ≡ Full
             → FindsFull L.table.capacity L.opening seat.new.asked body.now }

@@ -2,7 +2,7 @@
 //! question is kept.
 
 ghost use Rattle.std.specs.Prelude.{◌≡◌, ◌+◌, ◌++◌, [], ◌∷◌};
-ghost use Rattle.rw_recv_head.specs.Questions.{nothing_known, IsSeat};
+ghost use Rattle.rw_recv_head.specs.inner.Questions.{nothing_known, IsSeat};
 
 use crate::naming::Naming;
 use crate::question::Question;
@@ -38,7 +38,7 @@ pub struct View {
 pub struct Law;
 
 impl TableRule<Question, View, ()> for Law {
-    ghost use Rattle.rw_recv_head.specs.Questions.{AreKept, keeper, nothing_known};
+    ghost use Rattle.rw_recv_head.specs.inner.Questions.{AreKept, keeper, nothing_known};
 
     ghost holds = { λ key s. AreKept s };
 
@@ -49,7 +49,7 @@ impl TableRule<Question, View, ()> for Law {
 struct Adds;
 
 impl Play<Question, View> for Adds {
-    ghost use Rattle.rw_recv_head.specs.Questions.{Added};
+    ghost use Rattle.rw_recv_head.specs.inner.Questions.{Added};
 
     ghost then = { Added };
 }
@@ -58,7 +58,7 @@ impl Play<Question, View> for Adds {
 struct Returns;
 
 impl Play<Question, View> for Returns {
-    ghost use Rattle.rw_recv_head.specs.Questions.{Returned};
+    ghost use Rattle.rw_recv_head.specs.inner.Questions.{Returned};
 
     ghost then = { Returned };
 }
@@ -68,7 +68,7 @@ struct Gives;
 
 impl Split<View> for Gives {
     ghost use Rattle.std.specs.Prelude.{◌+◌};
-    ghost use Rattle.rw_recv_head.specs.Questions.{keeper, sitter};
+    ghost use Rattle.rw_recv_head.specs.inner.Questions.{keeper, sitter};
 
     ghost left = { λ v. keeper (record v.known { given = v.known.given + 1 }) };
 
@@ -79,7 +79,7 @@ impl Split<View> for Gives {
 struct Stands;
 
 impl Split<View> for Stands {
-    ghost use Rattle.rw_recv_head.specs.Questions.{guest};
+    ghost use Rattle.rw_recv_head.specs.inner.Questions.{guest};
 
     ghost left = { λ v. v };
 
@@ -90,7 +90,7 @@ impl Split<View> for Stands {
 struct Takes;
 
 impl Join<View> for Takes {
-    ghost use Rattle.rw_recv_head.specs.Questions.{with_seat, guest};
+    ghost use Rattle.rw_recv_head.specs.inner.Questions.{with_seat, guest};
 
     ghost both = { with_seat };
 
@@ -101,7 +101,7 @@ impl Join<View> for Takes {
 struct Leaves;
 
 impl Split<View> for Leaves {
-    ghost use Rattle.rw_recv_head.specs.Questions.{keeper, sitter};
+    ghost use Rattle.rw_recv_head.specs.inner.Questions.{keeper, sitter};
 
     ghost left = { λ v. keeper v.known };
 
@@ -118,7 +118,7 @@ pub(crate) struct Unnamed {
 impl Model for Unnamed {
     ghost use Rattle.std.specs.Prelude.{◌≡◌, ◌<◌, []};
     ghost use Rattle.atomic_table.specs.Seated.{TableId, table_id_coded};
-    ghost use Rattle.rw_recv_head.specs.Questions.{keeper, nothing_known};
+    ghost use Rattle.rw_recv_head.specs.inner.Questions.{keeper, nothing_known};
 
     ghost Value = { TableId };
 
@@ -164,7 +164,7 @@ pub(crate) struct Questions<L: Naming> {
 impl<L: Naming> Model for Questions<L> {
     ghost use Rattle.std.specs.Prelude.{◌≡◌, ◌<◌, []};
     ghost use Rattle.rw_recv_head.specs.declared.questions.Known.{Known};
-    ghost use Rattle.rw_recv_head.specs.Questions.{keeper};
+    ghost use Rattle.rw_recv_head.specs.inner.Questions.{keeper};
 
     ghost Value = { Known };
 
@@ -187,7 +187,7 @@ pub(crate) struct Seen<L: Naming> {
 
 impl<L: Naming> Model for Seen<L> {
     ghost use Rattle.std.specs.Prelude.{◌≡◌, []};
-    ghost use Rattle.rw_recv_head.specs.Questions.{Sight, sitter};
+    ghost use Rattle.rw_recv_head.specs.inner.Questions.{Sight, sitter};
 
     ghost Value = { Sight };
 

@@ -4,7 +4,7 @@ ghost use Rattle.std.specs.Prelude.{◌≡◌, ◌≢◌, ◌+◌, ◌≤◌, �
 ghost use Rattle.rw_head.specs.Capacity.{unlimited, StaysWithin};
 ghost use Rattle.rw_head.specs.Head.{IsStatus};
 ghost use Rattle.rw_head.specs.Store.{total, label_sets};
-ghost use Rattle.rw_recv_head.specs.Questions.{IsSeat};
+ghost use Rattle.rw_recv_head.specs.inner.Questions.{IsSeat};
 ghost use Rattle.rw_recv_head.specs.Seats.{most, bodies_of, store_after, HasAsked, FindsFull};
 
 use crate::admit::Admit;

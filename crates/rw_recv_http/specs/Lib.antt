@@ -4,7 +4,6 @@ pub use Rattle.rw_endpoint.specs.Judgement
 pub use Rattle.rw_endpoint.specs.Reading
 pub use Rattle.rw_endpoint.specs.Replies
 pub use Rattle.rw_endpoint.specs.Serving
-pub use Rattle.rw_endpoint.specs.Steps
 pub use Rattle.rw_endpoint.specs.Alone
 pub use Rattle.rw_endpoint.specs.Determined
 pub use Rattle.rw_endpoint.specs.HeadAnswers

@@ -20,12 +20,12 @@ value_of [] name = []
 value_of (label ∷ labels) name = if bytes_eq label.0 name then label.1 else value_of labels name
 
 -- the values of the source labels, joined by the separator
-abbrev pub joined : RuleConfig → Labels → List ℕ
-joined rule labels = join_by (value_of labels) rule.separator rule.source_labels
+abbrev pub joined_values : RuleConfig → Labels → List ℕ
+joined_values rule labels = join_by (value_of labels) rule.separator rule.source_labels
 
 -- the pattern matches the whole joined text
 abbrev pub matches : RuleConfig → Labels → Bool
-matches rule labels = matches_whole rule.pattern (joined rule labels)
+matches rule labels = matches_whole rule.pattern (joined_values rule labels)
 
 -- what an action makes of a match
 abbrev pub acts : Action → Bool → Bool

@@ -1,3 +1,3 @@
-mod OpeningLemmas
 mod ReadingLemmas
 mod Runs
+pub mod shared

@@ -12,11 +12,12 @@ use Rattle.rw_wal_format.specs.Segments.{Stop, between, inside, at_fault, Readin
 use Rattle.rw_wal_format.specs.Pieces.{Piece, bytes, next_segment, entries, fault, fault_at, page_size, reading, reading_after, then_after}
 use Rattle.rw_wal_format.specs.declared.tail_fault.TailFault.{TailFault}
 use Rattle.rw_wal_format.specs.declared.tail_fault.TailFault.TheVariants.{OutOfMemory}
-use Rattle.rw_wal_tail.specs.Fed.{Fed, answered, next_of}
+use Rattle.rw_wal_tail.specs.Fed.{Fed, after_answer, next_of}
 use Rattle.rw_wal_tail.specs.Places.{stop_after, stop_offset, place_then, place_of, told_place, fault_place}
 use Rattle.rw_wal_tail.specs.declared.place.FaultPlace.{FaultPlace}
-use Rattle.rw_wal_tail.proofs.AnswerLemmas.{next_is, end_is, fault_is, has_some, answered_same}
-use Rattle.rw_reopen.specs.Reading.{greater, greatest_after, ended, Gives, Stops, ComesNext, TakesAll, HasFed, IsPlaced, IsFaultOf, ReadsSegment}
+use Rattle.rw_wal_tail.proofs.shared.AnswerLemmas.{next_is, end_is, fault_is, has_some, answered_same}
+use Rattle.rw_reopen.specs.Reading.{greater, greatest_after, ended}
+use Rattle.rw_reopen.specs.inner.Reading.{Gives, Stops, ComesNext, TakesAll, HasFed, IsPlaced, IsFaultOf, ReadsSegment}
 use Rattle.rw_reopen.specs.declared.reading.SegmentFault.{SegmentFault}
 use Rattle.rw_reopen.specs.declared.reading.Next.{Next}
 use Rattle.rw_reopen.specs.declared.reading.Next.TheVariants as next
@@ -25,10 +26,10 @@ use Rattle.rw_reopen.specs.declared.reading.Next.TheVariants as next
 abbrev pub Said : Type 0
 Said = Result (Option Entry) TailFault
 
-pub gives_entry : (t after : Fed) (e : Entry) (said : Said) → said ≡ Ok (Some e) → (said ≡ Err OutOfMemory) ⊎ (said ≡ next_of t.pieces t.given) → after ≡ answered t said → Gives e t after
-unfolding next_of answered
+pub gives_entry : (t after : Fed) (e : Entry) (said : Said) → said ≡ Ok (Some e) → (said ≡ Err OutOfMemory) ⊎ (said ≡ next_of t.pieces t.given) → after ≡ after_answer t said → Gives e t after
+unfolding next_of after_answer
 gives_entry t after e said is answer m =
-    let now : after ≡ answered t (Ok (Some e)) = m ∙ ap (answered t) is in
+    let now : after ≡ after_answer t (Ok (Some e)) = m ∙ ap (after_answer t) is in
     record {
       fed = ap (λ (x : Fed). x.pieces) now;
       count = ap (λ (x : Fed). x.given) now;
@@ -39,10 +40,10 @@ gives_entry t after e said is answer m =
 none_is_some : (f : TailFault) → None ≡ Some f → ⊥
 none_is_some f e = cc
 
-pub stops_sound : (t after : Fed) (said : Said) → said ≡ Ok None → (said ≡ Err OutOfMemory) ⊎ (said ≡ next_of t.pieces t.given) → after ≡ answered t said → Stops None t after
-unfolding next_of answered
+pub stops_sound : (t after : Fed) (said : Said) → said ≡ Ok None → (said ≡ Err OutOfMemory) ⊎ (said ≡ next_of t.pieces t.given) → after ≡ after_answer t said → Stops None t after
+unfolding next_of after_answer
 stops_sound t after said is answer m =
-    let now : after ≡ answered t (Ok None) = m ∙ ap (answered t) is in
+    let now : after ≡ after_answer t (Ok None) = m ∙ ap (after_answer t) is in
     ⊎_elim (λ (r : said ≡ Err OutOfMemory). absurd (cc))
     (λ (r : said ≡ next_of t.pieces t.given).
     let e = end_is (nat_lt t.given (length (entries t.pieces))) (slice_get (entries t.pieces) t.given) (fault t.pieces) (sym is ∙ r) (λ h. has_some (entries t.pieces) t.given (grind (arith, nat_tests))) in
@@ -57,15 +58,15 @@ stops_sound t after said is answer m =
     out)
     answer
 
-told_is : (t : Fed) (f : TailFault) → (f ≡ OutOfMemory → ⊥) → (answered t (Err f)).fault ≡ Some f
-unfolding answered
+told_is : (t : Fed) (f : TailFault) → (f ≡ OutOfMemory → ⊥) → (after_answer t (Err f)).fault ≡ Some f
+unfolding after_answer
 told_is t OutOfMemory other = absurd (other refl)
 told_is t f other = refl
 
-pub stops_at_fault : (t after : Fed) (said : Said) (f : TailFault) → said ≡ Err f → (f ≡ OutOfMemory → ⊥) → (said ≡ Err OutOfMemory) ⊎ (said ≡ next_of t.pieces t.given) → after ≡ answered t said → Stops (Some f) t after
+pub stops_at_fault : (t after : Fed) (said : Said) (f : TailFault) → said ≡ Err f → (f ≡ OutOfMemory → ⊥) → (said ≡ Err OutOfMemory) ⊎ (said ≡ next_of t.pieces t.given) → after ≡ after_answer t said → Stops (Some f) t after
 unfolding next_of
 stops_at_fault t after said f is other answer m =
-    let now : after ≡ answered t (Err f) = m ∙ ap (answered t) is in
+    let now : after ≡ after_answer t (Err f) = m ∙ ap (after_answer t) is in
     let same = answered_same t f in
     ⊎_elim (λ (r : said ≡ Err OutOfMemory). let it : f ≡ OutOfMemory = cc in absurd (other it))
     (λ (r : said ≡ next_of t.pieces t.given).

@@ -1,7 +1,7 @@
 -- A journal that is only read, and calls after that.
 use Rattle.std.proofs.Common.{◌≡◌, inr, ⊎_elim, ℕ, ◌≤◌, refl, sym, ◌∙◌, ap, arith}
 use Rattle.rw_journal.specs.Journal.{Segments, Only, NoMore, Elapses, LeavesOnly}
-use Rattle.rw_journal.proofs.Moments.{started, goes_on, weaker}
+use Rattle.rw_journal.proofs.shared.Moments.{started, goes_on, weaker}
 use Rattle.rw_reopen.specs.Reopening.{IsOnlyRead}
 
 -- one run, and then another

@@ -1,3 +1,4 @@
 pub mod Errors
 pub mod Reading
 pub mod Reopening
+pub mod inner

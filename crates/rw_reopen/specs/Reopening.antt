@@ -1,10 +1,8 @@
 -- How a log is opened after a crash.
-use Rattle.std.specs.Prelude.{◌≡◌, ℕ, ◌<◌, ◌≤◌, List, [], ◌++◌, length, drop, get_or}
-use Rattle.rw_types.specs.declared.entry.Entry.{Entry}
+use Rattle.std.specs.Prelude.{◌≡◌, ℕ, ◌<◌, ◌≤◌, List, [], length, drop, get_or}
 use Rattle.rw_journal.specs.Journal.{Segments, Only, LeavesOnly}
-use Rattle.rw_journal.specs.Torn.{page_end}
+use Rattle.rw_journal.specs.Torn.{end_of_page}
 use Rattle.rw_wal_format.specs.Pieces.{page_size}
-use Rattle.rw_wal_format.specs.Segments.{segment}
 use Rattle.rw_wal_tail.specs.Places.{stop_offset}
 use Rattle.rw_journal.specs.Logs.{entries_of, IsCleanCut}
 use Rattle.rw_journal.specs.TornLogs.{last_of}
@@ -16,9 +14,9 @@ use Rattle.rw_reopen.specs.declared.opening.LogEnd.{LogEnd}
 
 -- A segment is cut there: it keeps all its entries, and ends between two records. It is cut before
 -- its end only if it ends within the page in which reading stops.
-pub record IsCut (text : List ℕ) (at : ℕ) : Type 0 where
+pub record IsSegmentCut (text : List ℕ) (at : ℕ) : Type 0 where
   pub clean : IsCleanCut page_size text at
-  pub in_page : at < length text → length text ≤ page_end page_size (stop_offset page_size text)
+  pub in_page : at < length text → length text ≤ end_of_page page_size (stop_offset page_size text)
 
 -- a segment of the log has this fault, there
 pub record IsDamage (segments : Segments) (d : Damage) : Type 0 where
@@ -31,12 +29,6 @@ HasDamage segments OutOfMemory = Unit {0}
 HasDamage segments Failed = Unit {0}
 HasDamage segments (Damaged d) = IsDamage segments d
 
--- a segment of this number is said to be damaged only if it has that fault
-abbrev pub IsRefusal : List ℕ → ℕ → ReopenError → Type 0
-IsRefusal text n OutOfMemory = Unit {0}
-IsRefusal text n Failed = ⊥
-IsRefusal text n (Damaged d) = (d.place.segment ≡ n) × HasFault text d.fault d.place.offset
-
 abbrev pub IsDamaged : ReopenError → Type 0
 IsDamaged OutOfMemory = ⊥
 IsDamaged Failed = ⊥
@@ -44,16 +36,9 @@ IsDamaged (Damaged d) = Unit {0}
 
 -- how a log ends: where its last segment is cut, what is cut off, and its greatest reference
 pub record IsEnd (segments : Segments) (end : LogEnd) : Type 0 where
-  pub cut : IsCut (last_of segments) end.whole
+  pub cut : IsSegmentCut (last_of segments) end.whole
   pub torn : end.torn.items ≡ drop end.whole (last_of segments)
   pub greatest : end.greatest ≡ greatest_after 0 (entries_of page_size segments)
-
--- the last segment was read, and its entries were taken
-pub record IsLast (text : List ℕ) (at : ℕ) (torn : List ℕ) (before after : List Entry) (low high : ℕ) : Type 0 where
-  pub cut : IsCut text at
-  pub torn_is : torn ≡ drop at text
-  pub taken : after ≡ before ++ (segment page_size text).entries
-  pub greatest : high ≡ greatest_after low (segment page_size text).entries
 
 -- A journal was read, and not changed: all of it is synced, and a crash at any moment leaves it as
 -- it was.

@@ -1,11 +1,12 @@
 //! Finds the place at which the last segment is cut.
 
 ghost use Rattle.std.specs.Prelude.{◌≡◌, ◌≤◌, length, true, IfOk, IfErr};
-ghost use Rattle.rw_journal.specs.Torn.{page_end};
+ghost use Rattle.rw_journal.specs.Torn.{end_of_page};
 ghost use Rattle.rw_wal_format.specs.Pieces.{page_size};
 ghost use Rattle.rw_journal.specs.Logs.{IsCleanCut};
-ghost use Rattle.rw_reopen.specs.Reading.{IsReadOf, entry_count};
-ghost use Rattle.rw_reopen.specs.Reopening.{IsCut, IsRefusal};
+ghost use Rattle.rw_reopen.specs.inner.Reading.{IsReadOf, entry_count};
+ghost use Rattle.rw_reopen.specs.Reopening.{IsSegmentCut};
+ghost use Rattle.rw_reopen.specs.inner.Reopening.{IsRefusal};
 ghost use Rattle.rw_reopen.specs.declared.error.ReopenError.TheVariants.{Damaged};
 
 use crate::entry_sink::Discard;
@@ -20,7 +21,7 @@ use std::alloc::{AllocError, Global};
 
 /// Returns whether a text ends within the page of an offset.
 fn ends_in_page(len: usize, offset: u64) -> bool
-    ensures { result ≡ true → len ≤ page_end page_size offset }
+    ensures { result ≡ true → len ≤ end_of_page page_size offset }
 {
     let page = PAGE_BYTES as u64;
     (len as u64).saturating_sub(offset) <= page - offset % page
@@ -66,7 +67,7 @@ pub(crate) fn find_cut(
     segment: usize,
 ) -> Result<usize, ReopenError>
     requires { IsReadOf text.now read.now }
-    ensures cut { IfOk result (IsCut text.now) }
+    ensures cut { IfOk result (IsSegmentCut text.now) }
     ensures damaged { IfErr result (IsRefusal text.now segment) }
 {
     let Some(fault) = read.fault else {

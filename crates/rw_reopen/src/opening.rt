@@ -7,7 +7,8 @@ ghost use Rattle.rw_wal_format.specs.Pieces.{page_size};
 ghost use Rattle.rw_journal.specs.Logs.{entries_of, IsWhole};
 ghost use Rattle.rw_journal.specs.TornLogs.{last_of, AllBefore};
 ghost use Rattle.rw_reopen.specs.Reading.{greatest_after};
-ghost use Rattle.rw_reopen.specs.Reopening.{HasDamage, IsDamaged, IsEnd, IsLast, IsOnlyRead};
+ghost use Rattle.rw_reopen.specs.Reopening.{HasDamage, IsDamaged, IsEnd, IsOnlyRead};
+ghost use Rattle.rw_reopen.specs.inner.Reopening.{IsLast};
 
 use crate::cutting::{damage_error, find_cut};
 use crate::entry_sink::EntrySink;

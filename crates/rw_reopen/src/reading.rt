@@ -4,7 +4,8 @@ ghost use Rattle.std.specs.Prelude.{◌≡◌, ◌<◌, ◌≤◌, [], length, N
 ghost use Rattle.rw_wal_format.specs.Pieces.{entries, page_size};
 ghost use Rattle.rw_wal_format.specs.declared.tail_fault.TailFault.{TailFault};
 ghost use Rattle.rw_wal_tail.specs.Places.{stop_after};
-ghost use Rattle.rw_reopen.specs.Reading.{ComesNext, HasFed, IsPlaced, ReadsSegment, TakesAll, greater};
+ghost use Rattle.rw_reopen.specs.Reading.{greater};
+ghost use Rattle.rw_reopen.specs.inner.Reading.{ComesNext, HasFed, IsPlaced, ReadsSegment, TakesAll};
 
 use crate::entry_sink::EntrySink;
 use rw_types::Entry;

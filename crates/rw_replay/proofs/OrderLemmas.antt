@@ -9,11 +9,11 @@ use Rattle.std.proofs.lemmas.Str.{IsUtf8-from_ascii}
 use Rattle.std.proofs.lemmas.Str.Ascii.{IsAscii-from_all}
 use Rattle.rw_text.specs.HexText.{read_digits}
 use Rattle.rw_text.specs.Numbers.{IsNumber}
-use Rattle.rw_text.proofs.LineLemmas.{number_without_space}
-use Rattle.rw_text.proofs.OneLemmas.{number_one}
-use Rattle.rw_text.proofs.SplitLemmas.{split_unique, not_without}
+use Rattle.rw_text.proofs.shared.LineLemmas.{number_without_space}
+use Rattle.rw_text.proofs.shared.OneLemmas.{number_one}
+use Rattle.rw_text.proofs.shared.SplitLemmas.{split_unique, not_without}
 use Rattle.rw_text.specs.RecordLines.{IsRecordOf}
-use Rattle.rw_text.proofs.RecordLemmas.{record_one}
+use Rattle.rw_text.proofs.shared.RecordLemmas.{record_one}
 use Rattle.rw_machine.specs.declared.event.How.{How}
 use Rattle.rw_machine.specs.declared.event.How.TheVariants.{Plain, Busy, OutOfMemory}
 use Rattle.rw_replay.specs.declared.words.BareWord.{BareWord}

@@ -11,7 +11,8 @@ use Rattle.rw_replay.specs.declared.command.Command.{Command}
 use Rattle.rw_replay.specs.declared.command.Command.TheVariants as command
 use Rattle.rw_replay.specs.ScriptText.{Order, fed, order_of, order_of_event}
 use Rattle.rw_world.specs.Machine.{Machine}
-use Rattle.rw_replay.specs.Played.{Played, next_segment, settled_after, Feeds, Plays, Follows, IsWritable}
+use Rattle.rw_replay.specs.Played.{Played, next_segment, settled_after, FeedsOrders, Plays, Follows}
+use Rattle.rw_replay.specs.inner.Played.{IsWritable}
 
 -- the machine after one event
 abbrev pub HasHappened : Played → Event → Machine → Type 0
@@ -26,19 +27,19 @@ settled p m e rounds h ended = inr (refl, (rounds, e, ap (λ (n : Machine). repo
 
 -- bytes are fed
 pub bytes_fed : (p : Played) (m : Machine) (e : Event) (bytes : List ℕ) (offset : ℕ) → order_of_event e ≡ fed bytes → HasHappened p e m
-    → Feeds p (fed bytes ∷ []) offset (record { machine = m; offset = offset })
+    → FeedsOrders p (fed bytes ∷ []) offset (record { machine = m; offset = offset })
 bytes_fed p m e bytes offset is h = (e ∷ [], ap (λ (o : Order). o ∷ []) is, ap (λ (n : Machine). record { machine = n; offset = offset }) h)
 
 -- a next segment, and then the bytes
-pub segment_fed : (p : Played) (m : Machine) (orders : List Order) (offset : ℕ) (q : Played) → HasHappened p (event.Feed piece.NextSegment) m → Feeds (on_machine p m) orders offset q
-    → Feeds p (next_segment ∷ orders) offset q
+pub segment_fed : (p : Played) (m : Machine) (orders : List Order) (offset : ℕ) (q : Played) → HasHappened p (event.Feed piece.NextSegment) m → FeedsOrders (on_machine p m) orders offset q
+    → FeedsOrders p (next_segment ∷ orders) offset q
 segment_fed p m orders offset q h f =
-    let there : Feeds (on_machine p (record p.machine { world = happens p.machine.setup p.machine.world (event.Feed piece.NextSegment) })) orders offset q =
-    subst (λ (n : Machine). Feeds (on_machine p n) orders offset q) h f in
+    let there : FeedsOrders (on_machine p (record p.machine { world = happens p.machine.setup p.machine.world (event.Feed piece.NextSegment) })) orders offset q =
+    subst (λ (n : Machine). FeedsOrders (on_machine p n) orders offset q) h f in
     (event.Feed piece.NextSegment ∷ there.0, ap (λ (os : List Order). next_segment ∷ os) there.1, there.2)
 
-pub same_fed : (p q : Played) (bytes other : List ℕ) (offset end : ℕ) → bytes ≡ other → offset ≡ end → Feeds p (fed bytes ∷ []) offset q → Feeds p (fed other ∷ []) end q
-same_fed p q bytes other offset end e f h = subst (λ (n : ℕ). Feeds p (fed other ∷ []) n q) f (subst (λ (t : List ℕ). Feeds p (fed t ∷ []) offset q) e h)
+pub same_fed : (p q : Played) (bytes other : List ℕ) (offset end : ℕ) → bytes ≡ other → offset ≡ end → FeedsOrders p (fed bytes ∷ []) offset q → FeedsOrders p (fed other ∷ []) end q
+same_fed p q bytes other offset end e f h = subst (λ (n : ℕ). FeedsOrders p (fed other ∷ []) n q) f (subst (λ (t : List ℕ). FeedsOrders p (fed t ∷ []) offset q) e h)
 
 -- ---- line by line
 

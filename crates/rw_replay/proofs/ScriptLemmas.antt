@@ -4,8 +4,8 @@ use Rattle.std.specs.List.{AllByRecursion}
 use Rattle.rw_text.specs.RecordLines.{lines}
 use Rattle.rw_replay.specs.ScriptText.{Order, logged, fed, arrives, bare, numbered, IsOrder}
 use Rattle.rw_replay.specs.Scripts.{AreOrders, IsScript}
-use Rattle.rw_replay.specs.Played.{IsWritable}
-use Rattle.rw_log_commands.proofs.FillingLemmas.{record_some}
+use Rattle.rw_replay.specs.inner.Played.{IsWritable}
+use Rattle.rw_log_commands.proofs.shared.FillingLemmas.{record_some}
 
 order_writable : (line : List ℕ) (o : Order) → IsOrder line o → IsWritable o
 order_writable line (logged rec) (inl (is_bare, e)) = absurd is_bare

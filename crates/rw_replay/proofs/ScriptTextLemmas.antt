@@ -1,14 +1,14 @@
 -- A script is read line by line.
 use Rattle.std.proofs.Common.{◌≡◌, ◌<◌, ◌≤◌, ◌+◌, ◌&&◌, ◌||◌, ℕ, List, [], ◌∷◌, ◌++◌, length, map, Bool, true, false, refl, sym, ap, ap₂, ◌∙◌, subst, arith}
 use Rattle.std.specs.List.{list_any}
-use Rattle.std.proofs.lemmas.List.{length-append, append-nil}
+use Rattle.std.proofs.lemmas.List.{length-append, append-nil, map_push}
 use Rattle.rw_text.specs.RecordLines.{lines}
 use Rattle.rw_replay.specs.declared.ways.Ways.{Ways}
 use Rattle.rw_replay.specs.declared.command.Command.{Command}
 use Rattle.rw_replay.specs.ScriptText.{Order, IsOrder, order_of}
-use Rattle.rw_replay.specs.Scripts.{is_log, is_piece, is_mixed, AreOrders, IsScript, IsBadLine}
-use Rattle.rw_replay.specs.Ways.{AreWaysOf, are_both, with_order}
-use Rattle.rw_text.proofs.LineLemmas.{next_parts}
+use Rattle.rw_replay.specs.Scripts.{is_log, is_piece, is_mixed, AreOrders, IsScript, IsBadScriptLine}
+use Rattle.rw_replay.specs.inner.Ways.{AreWaysOf, are_both, with_order}
+use Rattle.rw_text.proofs.shared.LineLemmas.{next_parts}
 
 -- ---- ways
 
@@ -75,16 +75,12 @@ begun_more text rest line more number orders w o b e shorter h = record {
   bound = omega (arith, b.bound);
 }
 
-map-more : {A B : Type 0} (f : A → B) (xs : List A) (x : A) → map f (xs ++ x ∷ []) ≡ map f xs ++ f x ∷ []
-map-more f [] x = refl
-map-more f (y ∷ ys) x = ap (λ (t : List _). f y ∷ t) (map-more f ys x)
-
 pub begun_added : (text rest line more : List ℕ) (number : ℕ) (commands longer : List Command) (w later : Ways) (c : Command) → Begun text rest number (map order_of commands) w
     → lines rest ≡ line ∷ lines more → length more < length rest → (0 < length line) × IsOrder line (order_of c) × (are_both (with_order w (order_of c)) ≡ false)
     → later ≡ with_order w (order_of c) → longer ≡ commands ++ c ∷ [] → Begun text more (number + 1) (map order_of longer) later
 begun_added text rest line more number commands longer w later c b e shorter h f g =
     subst (λ (v : Ways). Begun text more (number + 1) (map order_of longer) v) (sym f)
-    (subst (λ (orders : List Order). Begun text more (number + 1) orders (with_order w (order_of c))) (sym (ap (map order_of) g ∙ map-more order_of commands c))
+    (subst (λ (orders : List Order). Begun text more (number + 1) orders (with_order w (order_of c))) (sym (ap (map order_of) g ∙ map_push order_of commands c))
     (begun_more text rest line more number (map order_of commands) w (order_of c) b e shorter h))
 
 pub begun_empty : (text rest line more : List ℕ) (number : ℕ) (orders : List Order) (w : Ways) → Begun text rest number orders w → lines rest ≡ line ∷ lines more → length more < length rest
@@ -100,7 +96,7 @@ begun_empty text rest line more number orders w b e shorter h = record {
 }
 
 pub begun_bad : (text rest line more : List ℕ) (number : ℕ) (orders : List Order) (w : Ways) → Begun text rest number orders w → lines rest ≡ line ∷ lines more
-    → (0 < length line) × ((o : Order) → IsOrder line o → are_both (with_order w o) ≡ true) → IsBadLine text (number + 1)
+    → (0 < length line) × ((o : Order) → IsOrder line o → are_both (with_order w o) ≡ true) → IsBadScriptLine text (number + 1)
 begun_bad text rest line more number orders w b e h = record {
   front = b.front;
   line = line;

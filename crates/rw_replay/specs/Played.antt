@@ -1,11 +1,11 @@
 -- What the lines of a script make of a sender, the network and a receiver.
-use Rattle.std.specs.Prelude.{◌≡◌, ◌⊎◌, ℕ, ◌+◌, ◌*◌, ◌<◌, ◌≤◌, List, [], ◌∷◌, length, map, Bool, Some, nat_lt, if◌then◌else◌}
+use Rattle.std.specs.Prelude.{◌≡◌, ◌⊎◌, ℕ, ◌+◌, List, [], ◌∷◌, length, map, Bool, Some, nat_lt, if◌then◌else◌}
 use Rattle.rw_wal_format.specs.Pieces.{page_size}
 use Rattle.rw_wal_format.specs.Writing.{log_bytes, room}
 use Rattle.rw_machine.specs.Worlds.{Setup, World, start, report}
 use Rattle.rw_shard_core.specs.Endings.{Ending}
 use Rattle.rw_machine.specs.Steps.{happens, run}
-use Rattle.rw_machine.specs.Settling.{settle}
+use Rattle.rw_machine.specs.Settling.{settle_world}
 use Rattle.rw_machine.specs.declared.event.Event.{Event}
 use Rattle.rw_machine.specs.declared.event.Event.TheVariants as event
 use Rattle.rw_wal_tail.specs.declared.piece.Piece.TheVariants as piece
@@ -39,8 +39,8 @@ feeds offset rec =
     else fed (log_bytes page_size offset rec) ∷ []
 
 -- how many bytes of a segment are written then
-abbrev pub end_of : ℕ → List ℕ → ℕ
-end_of offset rec =
+abbrev pub written_end : ℕ → List ℕ → ℕ
+written_end offset rec =
     if is_full offset rec then length (log_bytes page_size 0 rec)
     else offset + length (log_bytes page_size offset rec)
 
@@ -53,8 +53,8 @@ abbrev pub world_after : Played → List Event → World
 world_after p events = run p.machine.setup events p.machine.world
 
 -- events happened that carry out these orders, and this many bytes are written
-abbrev pub Feeds : Played → List Order → ℕ → Played → Type 0
-Feeds p orders offset q =
+abbrev pub FeedsOrders : Played → List Order → ℕ → Played → Type 0
+FeedsOrders p orders offset q =
     (events : List Event) × (map order_of_event events ≡ orders) × (q ≡ record (in_world p (world_after p events)) { offset = offset })
 
 -- the line's event happened
@@ -63,19 +63,19 @@ Happens p o q = (e : Event) × (order_of_event e ≡ o) × (q ≡ in_world p (ha
 
 -- the world after this many rounds of an orderly shutdown
 abbrev pub settled_after : Played → ℕ → World
-settled_after p rounds = settle p.machine.setup rounds p.machine.world
+settled_after p rounds = settle_world p.machine.setup rounds p.machine.world
 
--- the line is `settle`, and an orderly shutdown went on until there was a report; further rounds
--- change nothing
-abbrev pub Settles : Played → Order → Played → Type 0
-Settles p o q = (o ≡ order_of command.Settle)
+-- the line is `settle_world`, and an orderly shutdown went on until there was a report; further
+-- rounds change nothing
+abbrev pub PlaysSettle : Played → Order → Played → Type 0
+PlaysSettle p o q = (o ≡ order_of command.Settle)
     × ((rounds : ℕ) × (e : Ending) × (report (settled_after p rounds) ≡ Some e) × (q ≡ in_world p (settled_after p rounds)))
 
 -- a line was carried out: its record is fed to the log, its event happened, or it is an orderly
 -- shutdown
 abbrev pub Plays : Played → Order → Played → Type 0
-Plays p (logged rec) q = Feeds p (feeds p.offset rec) (end_of p.offset rec) q
-Plays p o q = Happens p o q ⊎ Settles p o q
+Plays p (logged rec) q = FeedsOrders p (feeds p.offset rec) (written_end p.offset rec) q
+Plays p o q = Happens p o q ⊎ PlaysSettle p o q
 
 -- lines were carried out, one after the other
 abbrev pub Follows : Played → List Order → Played → Type 0
@@ -87,12 +87,7 @@ abbrev pub beginning : Setup → Played
 beginning c = record { machine = record { setup = c; world = start c }; offset = 0 }
 
 -- the text of the state that the lines of a script lead to
-pub record IsPrinted (c : Setup) (orders : List Order) (text : List ℕ) : Type 0 where
+pub record IsPrintedState (c : Setup) (orders : List Order) (text : List ℕ) : Type 0 where
   pub last : Played
   pub follows : Follows (beginning c) orders last
   pub is : text ≡ state_text last.machine.world
-
--- a record that the writer of a segment takes: of 1 byte to 16 MiB
-abbrev pub IsWritable : Order → Type 0
-IsWritable (logged rec) = (0 < length rec) × (length rec ≤ 16 * 1024 * 1024)
-IsWritable _ = Unit {0}

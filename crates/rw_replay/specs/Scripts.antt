@@ -41,7 +41,7 @@ pub record IsScript (text : List ℕ) (orders : List Order) : Type 0 where
 
 -- The line of this number, counted from 1, is not empty, and no order that it may have goes with
 -- those before it, which go with one another.
-pub record IsBadLine (text : List ℕ) (number : ℕ) : Type 0 where
+pub record IsBadScriptLine (text : List ℕ) (number : ℕ) : Type 0 where
   pub front : List (List ℕ)
   pub line : List ℕ
   pub later : List (List ℕ)
@@ -56,4 +56,4 @@ pub record IsBadLine (text : List ℕ) (number : ℕ) : Type 0 where
 -- a fault is that of the first bad line; nothing is said about memory
 abbrev pub IsFaultOfScript : List ℕ → ScriptFault → Type 0
 IsFaultOfScript text fault.OutOfMemory = Unit {0}
-IsFaultOfScript text (fault.Line number) = IsBadLine text number
+IsFaultOfScript text (fault.Line number) = IsBadScriptLine text number

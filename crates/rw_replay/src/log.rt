@@ -3,7 +3,7 @@
 ghost use Rattle.std.specs.Prelude.{◌≡◌, ◌*◌, ◌<◌, ◌≤◌, length, true, IfOk, MatchOption};
 ghost use Rattle.rw_wal_write.specs.Segment.{IsPlace};
 ghost use Rattle.rw_replay.specs.Played.{segment_pages, is_full};
-ghost use Rattle.rw_replay.specs.Writing.{IsWritten};
+ghost use Rattle.rw_replay.specs.inner.Writing.{IsWritten};
 
 use crate::growing::Growing;
 use rw_wal_write::{LogFault, SegmentWriter};

@@ -9,7 +9,8 @@ ghost use Rattle.rw_replay.specs.ScriptText.{logged, fed, order_of, order_of_eve
 ghost use Rattle.rw_replay.specs.WorldText.{state_text};
 ghost use Rattle.rw_wal_write.specs.Segment.{IsPlace};
 ghost use Rattle.rw_world.specs.Machine.{setup_of};
-ghost use Rattle.rw_replay.specs.Played.{segment_pages, next_segment, beginning, Feeds, Plays, Follows, IsWritable};
+ghost use Rattle.rw_replay.specs.Played.{segment_pages, next_segment, beginning, FeedsOrders, Plays, Follows};
+ghost use Rattle.rw_replay.specs.inner.Played.{IsWritable};
 
 use crate::command::Command;
 use crate::log::{Written, write_behind};
@@ -63,7 +64,7 @@ impl Player {
     fn feed(&mut self, written: Written) -> Result<(), AllocError>
         requires { IsPlace segment_pages written.offset }
         ensures { OnOk result
-            (Feeds self.old (fed written.bytes.items ∷ []) written.offset self.new) }
+            (FeedsOrders self.old (fed written.bytes.items ∷ []) written.offset self.new) }
     {
         let Written { bytes, offset } = written;
         self.world.step(Event::Feed(Piece::Bytes(bytes)))?;
@@ -76,7 +77,7 @@ impl Player {
         requires some { 0 < length rec.now }
         requires short { length rec.now ≤ 16 * 1024 * 1024 }
         ensures { OnOk result
-            (Feeds self.old (next_segment ∷ fed (log_bytes page_size 0 rec.now) ∷ [])
+            (FeedsOrders self.old (next_segment ∷ fed (log_bytes page_size 0 rec.now) ∷ [])
             (length (log_bytes page_size 0 rec.now)) self.new) }
     {
         self.world.step(Event::Feed(Piece::NextSegment))?;

@@ -7,8 +7,10 @@ ghost use Rattle.rw_replay.specs.ScriptText.{order_of};
 ghost use Rattle.rw_replay.specs.Scripts.{IsScript};
 ghost use Rattle.rw_text.specs.declared.tool_fault.ToolFault.TheVariants.{OutOfMemory, Log, Line, SegmentFull, Device};
 ghost use Rattle.rw_world.specs.Machine.{setup_of};
-ghost use Rattle.rw_replay.specs.Played.{IsPrinted, IsWritable};
-ghost use Rattle.rw_replay.specs.Runs.{IsFaultOfText, ReadsScript, ReadsBadLine, StopsReading, WritesState, WritesStatePart};
+ghost use Rattle.rw_replay.specs.Played.{IsPrintedState};
+ghost use Rattle.rw_replay.specs.inner.Played.{IsWritable};
+ghost use Rattle.rw_replay.specs.Runs.{ReadsScript, ReadsBadLine, WritesState, WritesStatePart};
+ghost use Rattle.rw_replay.specs.inner.Runs.{IsFaultOfText, StopsReading};
 
 use crate::command::Command;
 use crate::fault::ScriptFault;
@@ -53,7 +55,7 @@ fn state_after(
 ) -> Result<Vec<u8>, AllocError>
     requires { AllByRecursion IsWritable (map order_of commands.items) }
     ensures { IfOk result
-        (λ text. IsPrinted (setup_of settings.config settings.limits)
+        (λ text. IsPrintedState (setup_of settings.config settings.limits)
         (map order_of commands.items) text.items) }
 {
     let mut player = Player::new(alloc, settings)?;

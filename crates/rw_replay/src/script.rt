@@ -3,7 +3,7 @@
 ghost use Rattle.std.specs.Prelude.{◌≡◌, ◌<◌, [], ◌∷◌, ◌++◌, map, length, true, false, Err, IfOk, OnOk, IfErr, MatchOption};
 ghost use Rattle.rw_replay.specs.ScriptText.{Order, IsOrder, order_of};
 ghost use Rattle.rw_replay.specs.Scripts.{IsScript, IsFaultOfScript};
-ghost use Rattle.rw_replay.specs.Ways.{are_both, with_order};
+ghost use Rattle.rw_replay.specs.inner.Ways.{are_both, with_order};
 
 use crate::command::Command;
 use crate::fault::ScriptFault;

@@ -13,7 +13,7 @@ pub(crate) struct Ways {
 impl Ways {
     ghost use Rattle.std.specs.Prelude.{◌≡◌};
     ghost use Rattle.rw_replay.specs.ScriptText.{order_of};
-    ghost use Rattle.rw_replay.specs.Ways.{are_both, with_order};
+    ghost use Rattle.rw_replay.specs.inner.Ways.{are_both, with_order};
 
     /// Returns the ways with that of this command.
     pub(crate) fn with(self, command: &Command) -> Ways

@@ -5,7 +5,7 @@ ghost use Rattle.std.specs.Borrow.{sem};
 ghost use Rattle.std.specs.List.{list_all};
 ghost use Rattle.rw_reshard.specs.Lends.{lends_shards};
 ghost use Rattle.rw_types.specs.Beginnings.{Begins};
-ghost use Rattle.rw_reshard.specs.Fleets.{Shards, AreNew, AreAllNew, GoesOn};
+ghost use Rattle.rw_reshard.specs.Fleets.{FleetShards, AreNew, AreAllNew, GoesOn};
 ghost use Rattle.rw_reshard.specs.declared.fleet.NextFault.TheVariants.{NotDrained};
 
 use crate::shard::{Make, Shard};
@@ -48,9 +48,9 @@ pub struct Fleet<S, G: Stage> {
 
 impl<S, G: Stage> Model for Fleet<S, G> {
     ghost use Rattle.std.specs.Prelude.{length};
-    ghost use Rattle.rw_reshard.specs.Fleets.{Shards};
+    ghost use Rattle.rw_reshard.specs.Fleets.{FleetShards};
 
-    ghost Value = { Shards S };
+    ghost Value = { FleetShards S };
 
     ghost view = { λ f. record {
       epoch = f.epoch;

@@ -1,1 +1,1 @@
-pub mod BackoffLemmas
+pub mod shared

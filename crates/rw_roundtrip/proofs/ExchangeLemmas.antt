@@ -1,22 +1,22 @@
 -- What is read of a connection with one request.
 use Rattle.std.proofs.Common.{◌≡◌, ◌||◌, ℕ, List, [], ◌++◌, Option, Some, true, IsTrue, subst, inl, inr}
 use Rattle.std.proofs.lemmas.Bool.{or_left, or_right}
-use Rattle.rw_shard_core.specs.Replies.{Reads}
+use Rattle.rw_shard_core.specs.Replies.{ReadsReply}
 use Rattle.rw_shard_core.specs.declared.replies.ReplyRead.{ReplyRead}
 use Rattle.rw_shard_core.specs.declared.replies.ReplyRead.TheVariants.{Status}
 use Rattle.rw_endpoint.specs.Alone.{IsServedAlone, IsTurnedAway}
 use Rattle.rw_endpoint.specs.Judgement.{is_refusal}
-use Rattle.rw_endpoint.specs.Replies.{reply, is_verdict}
+use Rattle.rw_endpoint.specs.Replies.{reply_bytes, is_verdict}
 use Rattle.rw_endpoint.specs.declared.serve_end.ServeEnd.{ServeEnd}
 use Rattle.rw_endpoint.specs.declared.serve_end.ServeEnd.TheVariants.{OutOfMemory}
 use Rattle.rw_roundtrip.proofs.ReplyLemmas.{reply_status}
 
 -- a reply alone
-read_of : (bytes : List ℕ) (status : ℕ) (read : ReplyRead) → Some bytes ≡ Some ([] ++ reply status true) → IsTrue (is_verdict status || is_refusal status) →
-    Reads 8192 bytes read → read ≡ Status status
+read_of : (bytes : List ℕ) (status : ℕ) (read : ReplyRead) → Some bytes ≡ Some ([] ++ reply_bytes status true) → IsTrue (is_verdict status || is_refusal status) →
+    ReadsReply 8192 bytes read → read ≡ Status status
 read_of bytes status read e h r =
-    let same : bytes ≡ reply status true = cc in
-    reply_status status read h (subst (λ (t : List ℕ). Reads 8192 t read) same r)
+    let same : bytes ≡ reply_bytes status true = cc in
+    reply_status status read h (subst (λ (t : List ℕ). ReadsReply 8192 t read) same r)
 
 -- the body's status is read
 pub record IsHeard {S : Type 0} (answers : S → List ℕ → ℕ → S → Type 0) (body : List ℕ) (old new : S) (read : ReplyRead) : Type 0 where
@@ -26,7 +26,7 @@ pub record IsHeard {S : Type 0} (answers : S → List ℕ → ℕ → S → Type
   pub verdict : IsTrue (is_verdict status)
 
 pub heard : {S : Type 0} (answers : S → List ℕ → ℕ → S → Type 0) (body : List ℕ) (old : S) (bytes : List ℕ) (new : S) (how : ServeEnd) (read : ReplyRead) →
-    IsServedAlone answers body old [] (Some bytes) new how → (how ≡ OutOfMemory → ⊥) → Reads 8192 bytes read → IsHeard answers body old new read
+    IsServedAlone answers body old [] (Some bytes) new how → (how ≡ OutOfMemory → ⊥) → ReadsReply 8192 bytes read → IsHeard answers body old new read
 heard answers body old bytes new how read (inl (closed, status, given, verdict, contents)) not r = record {
   status = status;
   is = read_of bytes status read contents (or_left (is_verdict status) (is_refusal status) verdict) r;
@@ -43,7 +43,7 @@ heard_status answers body old new read status h e =
 
 -- the status of a refusal is read
 pub turned : {S : Type 0} (status : ℕ) (old : S) (bytes : List ℕ) (new : S) (how : ServeEnd) (read : ReplyRead) →
-    IsTurnedAway status old [] (Some bytes) new how → Reads 8192 bytes read → (read ≡ Status status) × (new ≡ old)
+    IsTurnedAway status old [] (Some bytes) new how → ReadsReply 8192 bytes read → (read ≡ Status status) × (new ≡ old)
 turned status old bytes new how read (unasked, closed, refusal, contents) r =
     (read_of bytes status read contents (or_right (is_verdict status) (is_refusal status) refusal) r, unasked)
 

@@ -2,6 +2,6 @@ pub mod Heads
 pub mod ByteLemmas
 pub mod HeadLemmas
 pub mod FieldLemmas
-pub mod RequestLemmas
 pub mod ReplyLemmas
 pub mod ExchangeLemmas
+pub mod shared

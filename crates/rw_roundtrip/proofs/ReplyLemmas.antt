@@ -9,13 +9,13 @@ use Rattle.std.specs.List.{list_all}
 use Rattle.std.specs.Cmp.Lexicographic.{pointwise, same_text}
 use Rattle.httparse.specs.Grammar.{Field, IsField, is_token_byte, is_value_byte, crlf, ResponseHead, print_response, status_code}
 use Rattle.httparse.proofs.GrammarLemmas.{response_unique}
-use Rattle.rw_shard_core.specs.Replies.{BeginsWith, IsInformational, Reads}
+use Rattle.rw_shard_core.specs.Replies.{BeginsWith, IsInformational, ReadsReply}
 use Rattle.rw_shard_core.specs.declared.replies.ReplyRead.{ReplyRead}
 use Rattle.rw_shard_core.specs.declared.replies.ReplyRead.TheVariants.{Status, Partial, Bad}
 use Rattle.rw_endpoint.specs.Judgement.{is_refusal}
-use Rattle.rw_endpoint.specs.Replies.{reply, is_verdict, phrase, status_code as code_digits}
+use Rattle.rw_endpoint.specs.Replies.{reply_bytes, is_verdict, phrase, status_code as code_digits}
 use Rattle.rw_roundtrip.proofs.Heads.{field}
-use Rattle.rw_endpoint.proofs.ReplyLemmas.{statuses, status_passes}
+use Rattle.rw_endpoint.proofs.shared.ReplyLemmas.{statuses, status_passes}
 
 -- a text that is one head has its status, and nothing else is read
 record IsHeadOf (text : List ℕ) (status : ℕ) (head : ResponseHead) : Type 0 where
@@ -24,7 +24,7 @@ record IsHeadOf (text : List ℕ) (status : ℕ) (head : ResponseHead) : Type 0 
   low : 200 ≤ status
   high : status < 1000
 
-one_status : (text : List ℕ) (status : ℕ) (head : ResponseHead) → IsHeadOf text status head → (read : ReplyRead) → Reads 8192 text read → read ≡ Status status
+one_status : (text : List ℕ) (status : ℕ) (head : ResponseHead) → IsHeadOf text status head → (read : ReplyRead) → ReadsReply 8192 text read → read ≡ Status status
 one_status text status head is (Status s) ([], r) =
     let same : head ≡ r.0 = (response_unique text head r.0 [] r.1 is.begins.reads r.2.reads).0 in
     let code : s ≡ status_code head = rw same r.3 in
@@ -78,8 +78,8 @@ field_from f h =
     }
 
 -- the reply is this head
-is_reply : (s : ℕ) → IsTrue (is_verdict s || is_refusal s) → IsHeadOf (reply s true) s (reply_head s)
-unfolding reply print_response is_token_byte
+is_reply : (s : ℕ) → IsTrue (is_verdict s || is_refusal s) → IsHeadOf (reply_bytes s true) s (reply_head s)
+unfolding reply_bytes print_response is_token_byte
 is_reply s h =
     let passes = λ (test : ℕ → Bool) (all : list_all test statuses ≡ true). status_passes test s h all in record {
       begins = record {
@@ -90,7 +90,7 @@ is_reply s h =
             reason = AllPass-from_list_all is_value_byte (phrase s) (passes (λ n. list_all is_value_byte (phrase n)) refl);
             fields = All-weaker (λ (f : Field). is_field f ≡ true) IsField field_from (reply_fields s) (AllPass-from_list_all is_field (reply_fields s) (passes (λ n. list_all is_field (reply_fields n)) refl));
           },
-          same_text (reply s true) (print_response (reply_head s) ++ []) (sym (passes (λ n. pointwise nat_eq (reply n true) (print_response (reply_head n) ++ [])) refl)),
+          same_text (reply_bytes s true) (print_response (reply_head s) ++ []) (sym (passes (λ n. pointwise nat_eq (reply_bytes n true) (print_response (reply_head n) ++ [])) refl)),
         );
         short = leb-true (length (print_response (reply_head s))) 8192 (passes (λ n. nat_le (length (print_response (reply_head n))) 8192) refl);
         few = leb-true (length (reply_fields s)) 64 (passes (λ n. nat_le (length (reply_fields n)) 64) refl);
@@ -100,5 +100,5 @@ is_reply s h =
       high = ltb-true s 1000 (passes (λ n. nat_lt n 1000) refl);
     }
 
-pub reply_status : (status : ℕ) (read : ReplyRead) → IsTrue (is_verdict status || is_refusal status) → Reads 8192 (reply status true) read → read ≡ Status status
-reply_status status read h r = one_status (reply status true) status (reply_head status) (is_reply status h) read r
+pub reply_status : (status : ℕ) (read : ReplyRead) → IsTrue (is_verdict status || is_refusal status) → ReadsReply 8192 (reply_bytes status true) read → read ≡ Status status
+reply_status status read h r = one_status (reply_bytes status true) status (reply_head status) (is_reply status h) read r

@@ -10,11 +10,11 @@ abbrev pub IsRequest : List ℕ → ℕ → List ℕ → Type 0
 IsRequest path limit input = ((body : List ℕ) × IsOneRequest path limit input body) ⊎ ((status : ℕ) × IsOneRefusal path limit input status)
 
 -- the body was answered with this status; or memory ran out, and nothing was asked
-abbrev pub IsAnswered : {S : Type 0} → (S → List ℕ → ℕ → S → Type 0) → List ℕ → S → Result ℕ AllocError → S → Type 0
-IsAnswered answers body old (Ok status) new = answers old body status new × IsTrue (is_verdict status)
-IsAnswered answers body old (Err e) new = new ≡ old
+abbrev pub IsExchanged : {S : Type 0} → (S → List ℕ → ℕ → S → Type 0) → List ℕ → S → Result ℕ AllocError → S → Type 0
+IsExchanged answers body old (Ok status) new = answers old body status new × IsTrue (is_verdict status)
+IsExchanged answers body old (Err e) new = new ≡ old
 
 -- nothing was asked, and the status is this one, unless memory ran out
-abbrev pub IsRefused : {S : Type 0} → ℕ → S → Result ℕ AllocError → S → Type 0
-IsRefused status old (Ok read) new = (read ≡ status) × (new ≡ old)
-IsRefused status old (Err e) new = new ≡ old
+abbrev pub IsRefusedUnasked : {S : Type 0} → ℕ → S → Result ℕ AllocError → S → Type 0
+IsRefusedUnasked status old (Ok read) new = (read ≡ status) × (new ≡ old)
+IsRefusedUnasked status old (Err e) new = new ≡ old

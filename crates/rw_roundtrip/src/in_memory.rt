@@ -2,7 +2,7 @@
 
 ghost use Rattle.std.specs.Prelude.{ℕ, List};
 ghost use Rattle.rw_endpoint.specs.Alone.{IsOneRequest, IsOneRefusal};
-ghost use Rattle.rw_roundtrip.specs.Exchanges.{IsRequest, IsAnswered, IsRefused};
+ghost use Rattle.rw_roundtrip.specs.Exchanges.{IsRequest, IsExchanged, IsRefusedUnasked};
 
 use rw_endpoint::{Answer, ServeEnd, serve};
 use rw_head::Limits;
@@ -26,10 +26,10 @@ pub fn exchange<A: Answer>(
     requires { IsRequest limits.now.path limits.now.max_body_bytes request.now }
     ensures answered { (body : List ℕ)
         → IsOneRequest limits.now.path limits.now.max_body_bytes request.now body
-        → IsAnswered A.answers body answer.old result answer.new }
+        → IsExchanged A.answers body answer.old result answer.new }
     ensures refused { (status : ℕ)
         → IsOneRefusal limits.now.path limits.now.max_body_bytes request.now status
-        → IsRefused status answer.old result answer.new }
+        → IsRefusedUnasked status answer.old result answer.new }
 {
     let mut reader = request;
     let mut writer = Room::new(alloc, REPLY_ROOM)?;

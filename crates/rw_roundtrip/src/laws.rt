@@ -3,12 +3,12 @@
 ghost use Rattle.std.specs.Prelude.{◌≡◌, ◌<◌, ◌≤◌, ◌^◌, ◌||◌, ℕ, List, length, true, IsTrue};
 ghost use Rattle.rw_types.specs.Requests.{is_host_name, is_request_path};
 ghost use Rattle.rw_shard_core.specs.SentRequest.{request_of};
-ghost use Rattle.rw_shard_core.specs.Replies.{Reads};
+ghost use Rattle.rw_shard_core.specs.Replies.{ReadsReply};
 ghost use Rattle.rw_shard_core.specs.declared.replies.ReplyRead.{ReplyRead};
 ghost use Rattle.rw_shard_core.specs.declared.replies.ReplyRead.TheVariants.{Status};
 ghost use Rattle.rw_endpoint.specs.Alone.{IsOneRequest, IsOneRefusal};
 ghost use Rattle.rw_endpoint.specs.Judgement.{is_refusal};
-ghost use Rattle.rw_endpoint.specs.Replies.{reply, is_verdict};
+ghost use Rattle.rw_endpoint.specs.Replies.{reply_bytes, is_verdict};
 ghost use Rattle.rw_roundtrip.specs.Exchanges.{IsRequest};
 
 /// Law: the endpoint reads a request as the sender makes it, as one request with the body that it
@@ -30,5 +30,5 @@ pub fn requests_are_read()
 /// Law: the sender reads each reply of the endpoint that closes as its status.
 pub fn replies_are_read()
     ensures { (status : ℕ) (read : ReplyRead) → IsTrue (is_verdict status || is_refusal status)
-        → Reads 8192 (reply status true) read → read ≡ Status status }
+        → ReadsReply 8192 (reply_bytes status true) read → read ≡ Status status }
 {}

@@ -8,21 +8,23 @@ use Rattle.rw_fleet.specs.declared.running.Fault.{Fault}
 use Rattle.rw_fleet.specs.declared.joined.StoppedShard.{StoppedShard}
 use Rattle.rw_shard_core.specs.declared.outcome.Outcome.{Outcome}
 use Rattle.rw_shard_core.specs.declared.outcome.Outcome.TheVariants as outcome
-use Rattle.rw_sender.specs.Reports.{IsAbandoned, ListsCut, kind_of}
+use Rattle.rw_sender.specs.Reports.{IsAbandoned, ListsCut, end_kind}
 use Rattle.rw_sender.specs.declared.report.Report.{Report}
-use Rattle.rw_sender.specs.Shipping.{Shipping, Ends}
+use Rattle.rw_sender.specs.Shipping.{Shipping, HasEndedAs}
 use Rattle.rw_text.specs.declared.tool_fault.ToolFault.{ToolFault}
 use Rattle.rw_text.specs.declared.tool_fault.ToolFault.TheVariants as fault
 use Rattle.rw_send.specs.declared.feed_error.FeedError.{FeedError}
 use Rattle.rw_send.specs.declared.feed_error.FeedError.TheVariants as error
-use Rattle.rw_send.specs.FeedErrors.{HasDamage, IsHalted}
+use Rattle.rw_send.specs.FeedErrors.{IsHalted}
+use Rattle.rw_send.specs.inner.FeedErrors.{HasDamage}
 use Rattle.rw_send.specs.Segments.{AreSure, HasMoreBytes}
-use Rattle.rw_send.specs.Sending.{answer_to, hard_fault, Answers, EndsFor, IsCutFor, StopsAtOnce}
+use Rattle.rw_send.specs.Sending.{Answers, EndsFor, IsCutFor, StopsAtOnce}
+use Rattle.rw_send.specs.inner.Sending.{answer_to, hard_fault}
 
 some_is_not_none : {A B : Type 0} (found : Option A) (x : A) → found ≡ Some x → found ≡ None → B
 some_is_not_none found x some none = let no : ⊥ = cc in absurd no
 
-orderly : {T : Type 0} (s : Shipping T) (js : List (StoppedShard T)) (shipped : Result (Unit {0}) FeedError) (o : Outcome) → IfErr shipped (HasDamage s) → hard_fault shipped ≡ None → Ends s js o
+orderly : {T : Type 0} (s : Shipping T) (js : List (StoppedShard T)) (shipped : Result (Unit {0}) FeedError) (o : Outcome) → IfErr shipped (HasDamage s) → hard_fault shipped ≡ None → HasEndedAs s js o
     → Answers (IsOk shipped) (hard_fault shipped ≡ Some fault.Device) o (answer_to o)
 orderly s js (Ok u) (outcome.Complete end) h soft e = (tt, refl)
 orderly s js (Ok u) (outcome.Abandoned placed samples) h soft e = tt
@@ -45,7 +47,7 @@ goes_on s (Err (error.Missing n)) h live soft = some_is_not_none _ _ refl soft
 goes_on s (Err error.Aborted) h live soft = some_is_not_none _ _ refl soft
 
 pub answers_orderly : {T : Type 0} (s : Shipping T) (js : List (StoppedShard T)) (shipped : Result (Unit {0}) FeedError) (o : Outcome) (answer : Result (Unit {0}) ToolFault)
-    → IfErr shipped (HasDamage s) → hard_fault shipped ≡ None → Ends s js o → answer ≡ answer_to o → Answers (IsOk shipped) (hard_fault shipped ≡ Some fault.Device) o answer
+    → IfErr shipped (HasDamage s) → hard_fault shipped ≡ None → HasEndedAs s js o → answer ≡ answer_to o → Answers (IsOk shipped) (hard_fault shipped ≡ Some fault.Device) o answer
 answers_orderly s js shipped o answer h soft e same =
     subst (λ (a : Result (Unit {0}) ToolFault). Answers (IsOk shipped) (hard_fault shipped ≡ Some fault.Device) o a) (sym same) (orderly s js shipped o h soft e)
 
@@ -87,7 +89,7 @@ abbrev pub HasCause : (cause : Type 0) → Result (Unit {0}) FeedError → Type 
 HasCause cause shipped = IsSome (hard_fault shipped) → cause
 
 pub ends_for : {T : Type 0} (cause : Type 0) (s : Shipping T) (r : Report T) (shipped : Result (Unit {0}) FeedError)
-    → EndBy (kind_of (is_some (hard_fault shipped))) s.fleet r.workers.items → ((f : ToolFault) → hard_fault shipped ≡ Some f → IsAbandoned r.outcome) → HasCause (IsSome s.fault ⊎ cause) shipped → EndsFor cause s r
+    → EndBy (end_kind (is_some (hard_fault shipped))) s.fleet r.workers.items → ((f : ToolFault) → hard_fault shipped ≡ Some f → IsAbandoned r.outcome) → HasCause (IsSome s.fault ⊎ cause) shipped → EndsFor cause s r
 ends_for cause s r (Ok u) by hard why = inl by
 ends_for cause s r (Err (error.Damaged f)) by hard why = inl by
 ends_for cause s r (Err error.Failed) by hard why = inr (by, hard fault.OutOfMemory refl, why refl)
@@ -139,17 +141,13 @@ abbrev pub SendCause : List (Option (List ℕ)) → List Bool → List Piece →
 SendCause lefts sures pieces answer = StopsAtOnce (HasMoreBytes lefts pieces) (AreSure sures → ⊥) answer
 
 pub send_ends : {T : Type 0} (lefts : List (Option (List ℕ))) (sures : List Bool) (pieces : List Piece) (s : Shipping T) (r : Report T) (shipped : Result (Unit {0}) FeedError) (answer : Result (Unit {0}) ToolFault)
-    → IfErr shipped (IsHalted s) → EndBy (kind_of (is_some (hard_fault shipped))) s.fleet r.workers.items → ((f : ToolFault) → hard_fault shipped ≡ Some f → IsAbandoned r.outcome)
+    → IfErr shipped (IsHalted s) → EndBy (end_kind (is_some (hard_fault shipped))) s.fleet r.workers.items → ((f : ToolFault) → hard_fault shipped ≡ Some f → IsAbandoned r.outcome)
     → (hard_fault shipped ≡ None → IsAbandoned r.outcome → ListsCut r.workers.items) → ((f : ToolFault) → hard_fault shipped ≡ Some f → answer ≡ Err f)
     → (shipped ≡ Err error.Failed → IsSome s.fault ⊎ HasMoreBytes lefts pieces) → (AreSure sures → shipped ≡ Err error.Unreadable → ⊥)
     → EndsFor (SendCause lefts sures pieces answer) s r × IsCutFor (SendCause lefts sures pieces answer) s r
 send_ends lefts sures pieces s r shipped answer halted by hard soft is memory read =
     let why = cause_of s (IsSome s.fault) (HasMoreBytes lefts pieces) (AreSure sures → ⊥) shipped answer halted is memory (λ e. λ sure. read sure e) in
     (ends_for (SendCause lefts sures pieces answer) s r shipped by hard why, cut_for (SendCause lefts sures pieces answer) s r shipped soft why)
-
-pub failed_so : (found : Option Fault) (o : Outcome) → IfSome found (λ _. IsAbandoned o) → IsSome found → IsAbandoned o
-failed_so None o failed some = let no : ⊥ = cc in absurd no
-failed_so (Some f) o failed some = failed
 
 pub abandons_so : (found : Option Fault) (o : Outcome) → IsAbandoned o → IfSome found (λ _. IsAbandoned o)
 abandons_so None o h = tt

@@ -55,12 +55,6 @@ last_compared {T} old new done number placed log (inl same) =
 last_compared old new done number placed log (inr (all, by, inl none)) = last_closed old new done number placed log all none
 last_compared old new done number placed log (inr (all, by, inr (resolved, fresh))) = last_begun old new new.fleet.current refl done number placed log all resolved
 
-pub same_length : (ps qs : List ShardHistory) → AreSame ps qs → length qs ≡ length ps
-same_length [] [] same = refl
-same_length [] (q ∷ qs) same = absurd same
-same_length (p ∷ ps) [] same = absurd same
-same_length (p ∷ ps) (q ∷ qs) same = let rest = same_length ps qs same.2 in omega (arith, rest)
-
 -- if there are shards
 pub compared_resolved : {T : Type 0} (old new : Shipping T) → (new.fleet ≡ old.fleet) ⊎ HasCompared old.fleet new.fleet → 1 ≤ length new.fleet.current → AreResolved old.fleet.ended → AreResolved new.fleet.ended
 compared_resolved {T} old new (inl same) some done = subst (λ (f : Shards T). AreResolved f.ended) (sym same) done

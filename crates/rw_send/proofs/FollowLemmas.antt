@@ -7,8 +7,8 @@ use Rattle.std.specs.Io.KnownBytes.{Appends}
 use Rattle.std.specs.Result.{IsErrAnd}
 use Rattle.rw_wal_format.specs.Pieces.{Piece, bytes, next_segment}
 use Rattle.rw_follow.specs.Growth as growth
-use Rattle.rw_follow.specs.Growth.{HadAll, IsBeginning, IsGivenAt, Known, Meal, Moment, with_next, with_piece}
-use Rattle.rw_follow.specs.Turns.{IsWithin, Moves, given_by}
+use Rattle.rw_follow.specs.Growth.{HadAll, IsFedPrefix, IsGivenAt, Known, Meal, Moment, with_next, with_piece}
+use Rattle.rw_follow.specs.Turns.{FitsBuffer, Moves, given_by}
 use Rattle.rw_follow.specs.declared.follower.SegmentError.{SegmentError}
 use Rattle.rw_follow.specs.declared.follower.SegmentError.TheVariants as segment
 use Rattle.rw_follow.specs.declared.follower.Turn.{Turn}
@@ -31,10 +31,13 @@ use Rattle.rw_send.specs.declared.follow_fault.FollowFault.{FollowFault}
 use Rattle.rw_send.specs.declared.follow_fault.FollowFault.TheVariants as fault
 use Rattle.rw_send.specs.declared.feed_error.FeedError.{FeedError}
 use Rattle.rw_send.specs.declared.feed_error.FeedError.TheVariants as error
-use Rattle.rw_send.specs.Following.{FailsWith, FollowAnswers, FollowStopsAtOnce, HaltsAt, HaltsFor, HasGivenMore, HasRead, IsCut, IsFollowPrinted, IsFollowPrintedPart, IsFollowed, IsUnread, follow_result, left_undone, meal_after, meal_of, no_meal, as_follow_result}
-use Rattle.rw_send.specs.ReportText.{IsTextOf, WritesPart}
-use Rattle.rw_send.specs.FeedErrors.{HasDamage, IsHalted, feed_error_of, segment_error_of}
-use Rattle.rw_send.specs.Sending.{Answers, StopsAtOnce, hard_fault}
+use Rattle.rw_send.specs.Following.{FollowAnswers, FollowStopsAtOnce, HasGivenMore, HasFedAll, IsFollowPrinted, IsFollowPrintedPart, IsFollowed, IsUnread, meal_after, meal_of, no_meal}
+use Rattle.rw_send.specs.inner.Following.{FailsWith, HaltsAt, HaltsFor, IsCut, follow_result, left_undone, as_follow_result}
+use Rattle.rw_send.specs.ReportText.{IsTextOf, WritesReportPart}
+use Rattle.rw_send.specs.FeedErrors.{IsHalted, feed_error_of, segment_error_of}
+use Rattle.rw_send.specs.inner.FeedErrors.{HasDamage}
+use Rattle.rw_send.specs.Sending.{Answers, StopsAtOnce}
+use Rattle.rw_send.specs.inner.Sending.{hard_fault}
 use Rattle.rw_send.proofs.AnswerLemmas.{HasCause, answers_too}
 use Rattle.rw_sender.specs.Feeders.{Sorting}
 use Rattle.rw_send.proofs.FeedErrorLemmas.{failed_of, fails_so, halts}
@@ -72,12 +75,12 @@ pub unread : (o : Option Moment) (ps : List Piece) → ps ≡ [] → Known o IsU
 unread None ps e h = tt
 unread (Some m) ps e h = subst (λ (qs : List Piece). IsGivenAt (meal_of qs) m) (sym e) (record { whole = sym h.done; begun = sym h.given })
 
-pub begins : (o : Option Moment) (meal : Meal) → Known o (λ m. IsGivenAt meal m) → Known o (λ m. IsBeginning meal (growth.texts m))
+pub begins : (o : Option Moment) (meal : Meal) → Known o (λ m. IsGivenAt meal m) → Known o (λ m. IsFedPrefix meal (growth.texts m))
 begins None meal h = h
 begins (Some m) meal h = record { rest = m.rest; after = m.after; whole = rw (h.whole, h.begun) refl }
 
 -- before the piece that was returned last
-begins_piece : (o : Option Moment) (meal : Meal) (b : List ℕ) → Known o (λ m. IsGivenAt (with_piece meal b) m) → Known o (λ m. IsBeginning meal (growth.texts m))
+begins_piece : (o : Option Moment) (meal : Meal) (b : List ℕ) → Known o (λ m. IsGivenAt (with_piece meal b) m) → Known o (λ m. IsFedPrefix meal (growth.texts m))
 begins_piece None meal b h = h
 begins_piece (Some m) meal b h = record {
   rest = b ++ m.rest;
@@ -86,7 +89,7 @@ begins_piece (Some m) meal b h = record {
 }
 
 -- before the word that was given last
-begins_next : (o : Option Moment) (meal : Meal) → Known o (λ m. IsGivenAt (with_next meal) m) → Known o (λ m. IsBeginning meal (growth.texts m))
+begins_next : (o : Option Moment) (meal : Meal) → Known o (λ m. IsGivenAt (with_next meal) m) → Known o (λ m. IsFedPrefix meal (growth.texts m))
 begins_next None meal h = h
 begins_next (Some m) meal h = record {
   rest = [];
@@ -94,7 +97,7 @@ begins_next (Some m) meal h = record {
   whole = let w = h.whole in let v = h.begun in grind (arith, common_steps);
 }
 
-begins_before : (o : Option Moment) (t : Turn) (buf : List ℕ) (meal : Meal) → Known o (λ m. IsGivenAt (given_by t buf meal) m) → Known o (λ m. IsBeginning meal (growth.texts m))
+begins_before : (o : Option Moment) (t : Turn) (buf : List ℕ) (meal : Meal) → Known o (λ m. IsGivenAt (given_by t buf meal) m) → Known o (λ m. IsFedPrefix meal (growth.texts m))
 begins_before o (turn.Piece n) buf meal h = begins_piece o meal (take n buf) h
 begins_before o turn.Over buf meal h = begins_next o meal h
 begins_before o turn.Flush buf meal h = begins o meal h
@@ -104,9 +107,9 @@ begins_before o turn.Aborted buf meal h = begins o meal h
 
 -- what was returned at a turn, and fed or not
 pub begins_turn : (old new : Option Moment) (t : Turn) (buf : List ℕ) (meal fed : Meal) → Moves old new (given_by t buf) → Known old (λ m. IsGivenAt meal m) → (fed ≡ meal) ⊎ (fed ≡ given_by t buf meal)
-    → Known new (λ m. IsBeginning fed (growth.texts m))
-begins_turn old new t buf meal fed move h (inl e) = subst (λ (f : Meal). Known new (λ m. IsBeginning f (growth.texts m))) (sym e) (begins_before new t buf meal (move meal h))
-begins_turn old new t buf meal fed move h (inr e) = subst (λ (f : Meal). Known new (λ m. IsBeginning f (growth.texts m))) (sym e) (begins new (given_by t buf meal) (move meal h))
+    → Known new (λ m. IsFedPrefix fed (growth.texts m))
+begins_turn old new t buf meal fed move h (inl e) = subst (λ (f : Meal). Known new (λ m. IsFedPrefix f (growth.texts m))) (sym e) (begins_before new t buf meal (move meal h))
+begins_turn old new t buf meal fed move h (inr e) = subst (λ (f : Meal). Known new (λ m. IsFedPrefix f (growth.texts m))) (sym e) (begins new (given_by t buf meal) (move meal h))
 
 pub given_turn : (old new : Option Moment) (t : Turn) (buf : List ℕ) (meal fed : Meal) → Moves old new (given_by t buf) → Known old (λ m. IsGivenAt meal m) → fed ≡ given_by t buf meal
     → Known new (λ m. IsGivenAt fed m)
@@ -130,7 +133,7 @@ on_err P (Err y) h is = tt
 
 -- ---- how a following answers
 
-as_told : (now : Option Moment) (said : StopRequest) (fed : Meal) (o : Outcome) (answer : Result (Unit {0}) ToolFault) → Answers (HasRead now said fed) ⊤ o answer → FollowAnswers now said fed o (as_follow_result answer)
+as_told : (now : Option Moment) (said : StopRequest) (fed : Meal) (o : Outcome) (answer : Result (Unit {0}) ToolFault) → Answers (HasFedAll now said fed) ⊤ o answer → FollowAnswers now said fed o (as_follow_result answer)
 as_told now said fed o (Ok u) h = h
 as_told now said fed o (Err f) h = h
 
@@ -168,7 +171,7 @@ err_answers W V o tool.SegmentFull h = h
 said_answers : (now : Option Moment) (old new : StopRequest) (fed : Meal) (o : Outcome) (answer : Result (Unit {0}) FollowFault) → ((answer ≡ left_undone → ⊥) → new ≡ old)
     → FollowAnswers now old fed o answer → FollowAnswers now new fed o answer
 said_answers now old new fed o (Ok u) same h = let e = same (λ bad. cc) in subst (λ (w : StopRequest). FollowAnswers now w fed o (Ok u)) (sym e) h
-said_answers now old new fed o (Err (fault.Tool f)) same h = err_answers (HasRead now old fed) (HasRead now new fed) o f h
+said_answers now old new fed o (Err (fault.Tool f)) same h = err_answers (HasFedAll now old fed) (HasFedAll now new fed) o f h
 said_answers now old new fed o (Err (fault.Missing n)) same h = h
 said_answers now old new fed o (Err fault.Stopped) same h = let e = same (λ bad. cc) in subst (λ (w : StopRequest). FollowAnswers now w fed o (Err fault.Stopped)) (sym e) h
 
@@ -245,7 +248,7 @@ given_more old new buf n meal fed same some within move given =
     )
 
 pub halts_for : {T : Type 0} (s : Shipping T) (next : Shipping T) (old new : Option Moment) (t : Turn) (buf : List ℕ) (h : FeedError) → HaltsAt t s next h → Moves old new (given_by t buf)
-    → Known old (λ m. IsGivenAt (meal_of s.log.pieces) m) → IsWithin t (length buf) → ((n : ℕ) → t ≡ turn.Piece n → 0 < n) → HaltsFor next new h
+    → Known old (λ m. IsGivenAt (meal_of s.log.pieces) m) → FitsBuffer t (length buf) → ((n : ℕ) → t ≡ turn.Piece n → 0 < n) → HaltsFor next new h
 halts_for s next old new t buf (error.Damaged f) at move given within some = tt
 halts_for s next old new t buf error.Failed (inl f) move given within some = inl f
 halts_for s next old new (turn.Piece n) buf error.Failed (inr (is, same)) move given within some =
@@ -332,7 +335,7 @@ pub printed : {T : Type 0} {tells : T → Type 0} {seen : T → List Exchange} {
 printed {r = r} before after s p = record { report = r; followed = s; text = p.0; text_of = p.1; written = p.2 }
 
 pub printed_part : {T : Type 0} {tells : T → Type 0} {seen : T → List Exchange} {is_for : ℕ → ℕ → T → Type 0} {c : ConfigFields} {limit : Option ℕ} {is_sure : Bool} {now : Option Moment} {said : StopRequest} {r : Report T} {answer : Result (Unit {0}) FollowFault}
-    {before after : Option (List ℕ)} → IsFollowed tells seen is_for c limit is_sure now said r answer → WritesPart r before after → IsFollowPrintedPart tells seen is_for c limit is_sure now said before after
+    {before after : Option (List ℕ)} → IsFollowed tells seen is_for c limit is_sure now said r answer → WritesReportPart r before after → IsFollowPrintedPart tells seen is_for c limit is_sure now said before after
 printed_part {r = r} {answer = answer} s p = record { answer = answer; report = r; followed = s; part = p }
 
 pub printed_whole : {T : Type 0} {tells : T → Type 0} {seen : T → List Exchange} {is_for : ℕ → ℕ → T → Type 0} {c : ConfigFields} {limit : Option ℕ} {is_sure : Bool} {now : Option Moment} {said : StopRequest} {before after : Option (List ℕ)}

@@ -1,14 +1,15 @@
 -- A log that was fed in part.
 use Rattle.std.proofs.Common.{◌≡◌, ℕ, ◌<◌, Bool, true, false, List, [], ◌∷◌, ◌++◌, map, Option, None, Some, Err, inl, inr, ◌⊎◌, refl, sym, ap, ◌∙◌, subst, append_assoc, append-nil, length, arith}
 use Rattle.std.proofs.lemmas.List.{length-append}
-use Rattle.rw_types.proofs.KnownLemmas.{consumes_consumes}
 use Rattle.std.specs.Io.KnownBytes.{Consumes}
+use Rattle.std.proofs.KnownBytes.{Consumes-trans}
 use Rattle.rw_wal_format.specs.Pieces.{Piece, bytes, next_segment}
 use Rattle.rw_sender.specs.Feeders.{Sorting}
 use Rattle.rw_sender.specs.Shipping.{Joins}
 use Rattle.rw_sender.specs.declared.shipper.FeedFault.{FeedFault}
 use Rattle.rw_sender.specs.declared.shipper.FeedFault.TheVariants as feed
-use Rattle.rw_send.specs.Segments.{IsAllOf, IsLogOf, IsBeginningOf, OpensSegment, IsFed, IsFedLess, IsFedPart, IsFedMore, HasMoreBytes, IsSomeRead}
+use Rattle.rw_send.specs.Segments.{IsAllOf, IsLogOf, IsBeginningOf, OpensSegment, IsFed, IsFedPart, HasMoreBytes}
+use Rattle.rw_send.specs.inner.Segments.{IsFedLess, IsFedMore, IsSomeRead}
 use Rattle.rw_send.proofs.SegmentLemmas.{IsFeeding, IsGoing, more_none, more_bytes, feeding_more, going_more, going_to_end}
 
 -- ---- a segment
@@ -31,7 +32,7 @@ part_halted left now next old ps new f (inr m) = part_of left next old new (feed
 pub less_of : (left now next : Option (List ℕ)) (old ps new : List Piece) → IsFeeding left now old ps → (new ≡ ps) × IsSomeRead now next → IsFedLess left old new
 less_of left now next old ps new f h =
     let g = h.1 in
-    let rest = rest_of left next (f.text ++ g.0) (consumes_consumes left now next f.text g.0 f.consumed g.2) in
+    let rest = rest_of left next (f.text ++ g.0) (Consumes-trans left now next f.text g.0 f.consumed g.2) in
     let long : 0 < length (g.0 ++ rest.0) = omega (arith, length-append g.0 rest.0, g.1) in (
       record { text = f.text; rest = g.0 ++ rest.0; more = f.more; pieces = h.0 ∙ f.pieces; is_more = f.is_more; part = subst (IsAllOf left) (append_assoc f.text g.0 rest.0) rest.1 },
       long,

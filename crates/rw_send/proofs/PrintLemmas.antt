@@ -6,7 +6,7 @@ use Rattle.rw_shard_core.specs.declared.config.ConfigFields.{ConfigFields}
 use Rattle.rw_worker.specs.Transcript.{Exchange}
 use Rattle.rw_sender.specs.declared.report.Report.{Report}
 use Rattle.rw_text.specs.declared.tool_fault.ToolFault.{ToolFault}
-use Rattle.rw_send.specs.ReportText.{IsTextOf, WritesPart}
+use Rattle.rw_send.specs.ReportText.{IsTextOf, WritesReportPart}
 use Rattle.rw_send.specs.Sending.{IsSent, IsPrinted, IsPrintedPart}
 
 pub printed : {T : Type 0} {tells : T → Type 0} {seen : T → List Exchange} {is_for : ℕ → ℕ → T → Type 0} {c : ConfigFields} {limit : Option ℕ} {lefts : List (Option (List ℕ))} {sures : List Bool} {r : Report T} {answer : Result (Unit {0}) ToolFault}
@@ -14,7 +14,7 @@ pub printed : {T : Type 0} {tells : T → Type 0} {seen : T → List Exchange} {
 printed {r = r} before after s p = record { report = r; sent = s; text = p.0; text_of = p.1; written = p.2 }
 
 pub printed_part : {T : Type 0} {tells : T → Type 0} {seen : T → List Exchange} {is_for : ℕ → ℕ → T → Type 0} {c : ConfigFields} {limit : Option ℕ} {lefts : List (Option (List ℕ))} {sures : List Bool} {r : Report T} {answer : Result (Unit {0}) ToolFault}
-    {before after : Option (List ℕ)} → IsSent tells seen is_for c limit lefts sures r answer → WritesPart r before after → IsPrintedPart tells seen is_for c limit lefts sures before after
+    {before after : Option (List ℕ)} → IsSent tells seen is_for c limit lefts sures r answer → WritesReportPart r before after → IsPrintedPart tells seen is_for c limit lefts sures before after
 printed_part {r = r} {answer = answer} s p = record { answer = answer; report = r; sent = s; part = p }
 
 pub printed_whole : {T : Type 0} {tells : T → Type 0} {seen : T → List Exchange} {is_for : ℕ → ℕ → T → Type 0} {c : ConfigFields} {limit : Option ℕ} {lefts : List (Option (List ℕ))} {sures : List Bool} {before after : Option (List ℕ)}

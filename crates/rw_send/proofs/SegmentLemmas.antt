@@ -1,9 +1,10 @@
 -- The segments that pieces make.
 use Rattle.std.proofs.Common.{◌≡◌, ℕ, Bool, true, false, List, [], ◌∷◌, ◌++◌, map, Option, Some, None, refl, sym, ap, ◌∙◌, subst, append_assoc, append-nil}
 use Rattle.std.specs.Io.KnownBytes.{Consumes, IsAtEnd}
+use Rattle.std.proofs.KnownBytes.{Consumes-trans, Consumes-nil}
 use Rattle.rw_wal_format.specs.Pieces.{Piece, bytes, next_segment}
-use Rattle.rw_types.proofs.KnownLemmas.{consumes_consumes, consumes-none}
-use Rattle.rw_send.specs.Segments.{texts_after, texts, IsAllOf, AreAllOf, IsLogOf, OpensSegment, IsMore, IsFed, IsFedMore}
+use Rattle.rw_send.specs.Segments.{texts_after, segment_texts, IsAllOf, AreAllOf, IsLogOf, OpensSegment, IsMore, IsFed}
+use Rattle.rw_send.specs.inner.Segments.{IsFedMore}
 
 -- ---- one segment
 
@@ -26,13 +27,13 @@ pub record IsFeeding (left now : Option (List ℕ)) (old new : List Piece) : Typ
   pub is_more : IsMore text more
 
 pub feeding_none : (left : Option (List ℕ)) (ps : List Piece) → IsFeeding left left ps ps
-feeding_none left ps = record { text = []; more = []; consumed = consumes-none left; pieces = sym (append-nil ps); is_more = more_none }
+feeding_none left ps = record { text = []; more = []; consumed = Consumes-nil left; pieces = sym (append-nil ps); is_more = more_none }
 
 pub feeding_more : (left now next : Option (List ℕ)) (old new newer : List Piece) → IsFeeding left now old new → IsFedMore now next new newer → IsFeeding left next old newer
 feeding_more left now next old new newer f m = record {
   text = f.text ++ m.text;
   more = f.more ++ bytes m.text ∷ [];
-  consumed = consumes_consumes left now next f.text m.text f.consumed m.consumed;
+  consumed = Consumes-trans left now next f.text m.text f.consumed m.consumed;
   pieces = m.pieces ∙ ap (λ (ps : List Piece). ps ++ bytes m.text ∷ []) f.pieces ∙ append_assoc old f.more (bytes m.text ∷ []);
   is_more = more_bytes f.text m.text f.more f.is_more;
 }
@@ -48,7 +49,7 @@ fed_whole left now last old new newer f none end same = record {
   more = f.more;
   pieces = same ∙ f.pieces;
   is_more = subst (λ (t : List ℕ). IsMore t f.more) (sym (append-nil f.text)) f.is_more;
-  all = all_of left last (f.text ++ []) (consumes_consumes left now last f.text [] f.consumed none) end;
+  all = all_of left last (f.text ++ []) (Consumes-trans left now last f.text [] f.consumed none) end;
 }
 
 -- ---- one after the other
@@ -58,8 +59,8 @@ texts_next text [] qs = refl
 texts_next text (bytes b ∷ ps) qs = texts_next (text ++ b) ps qs
 texts_next text (next_segment ∷ ps) qs = ap (λ (ts : List (List ℕ)). text ∷ ts) (texts_next [] ps qs)
 
-texts_of_more : (text : List ℕ) (more : List Piece) → IsMore text more → texts more ≡ text ∷ []
-texts_of_more text more m = ap texts (sym (append-nil more)) ∙ m.spells [] []
+texts_of_more : (text : List ℕ) (more : List Piece) → IsMore text more → segment_texts more ≡ text ∷ []
+texts_of_more text more m = ap segment_texts (sym (append-nil more)) ∙ m.spells [] []
 
 all_and : (lefts : List (Option (List ℕ))) (ts : List (List ℕ)) (left : Option (List ℕ)) (t : List ℕ) → AreAllOf lefts ts → IsAllOf left t → AreAllOf (lefts ++ left ∷ []) (ts ++ t ∷ [])
 all_and [] [] left t h e = (e, tt)
@@ -68,15 +69,15 @@ all_and (l ∷ ls) [] left t h e = absurd h
 all_and (l ∷ ls) (u ∷ us) left t h e = (h.0, all_and ls us left t h.1 e)
 
 log_first : (left : Option (List ℕ)) (new : List Piece) → IsFed left [] new → IsLogOf (left ∷ []) new
-log_first left new f = subst (AreAllOf (left ∷ [])) (sym (ap texts f.pieces ∙ texts_of_more f.text f.more f.is_more)) (f.all, tt)
+log_first left new f = subst (AreAllOf (left ∷ [])) (sym (ap segment_texts f.pieces ∙ texts_of_more f.text f.more f.is_more)) (f.all, tt)
 
 log_more : (l : Option (List ℕ)) (ls : List (Option (List ℕ))) (left : Option (List ℕ)) (ps new : List Piece) → IsLogOf (l ∷ ls) ps → IsFed left (ps ++ next_segment ∷ []) new
     → IsLogOf ((l ∷ ls) ++ left ∷ []) new
 log_more l ls left ps new h f =
     let pieces : new ≡ ps ++ next_segment ∷ f.more = f.pieces ∙ append_assoc ps (next_segment ∷ []) f.more in
-    let there : texts new ≡ texts ps ++ f.text ∷ [] =
-    ap texts pieces ∙ texts_next [] ps f.more ∙ ap (λ (ts : List (List ℕ)). texts ps ++ ts) (texts_of_more f.text f.more f.is_more) in
-    subst (AreAllOf ((l ∷ ls) ++ left ∷ [])) (sym there) (all_and (l ∷ ls) (texts ps) left f.text h f.all)
+    let there : segment_texts new ≡ segment_texts ps ++ f.text ∷ [] =
+    ap segment_texts pieces ∙ texts_next [] ps f.more ∙ ap (λ (ts : List (List ℕ)). segment_texts ps ++ ts) (texts_of_more f.text f.more f.is_more) in
+    subst (AreAllOf ((l ∷ ls) ++ left ∷ [])) (sym there) (all_and (l ∷ ls) (segment_texts ps) left f.text h f.all)
 
 -- ---- segment by segment
 

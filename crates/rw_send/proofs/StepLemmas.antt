@@ -5,7 +5,7 @@ use Rattle.rw_wal_format.specs.Pieces.{Piece}
 use Rattle.rw_fleet.specs.Fleets.{Shards}
 use Rattle.rw_sender.specs.Shipping.{Shipping, HasCompared}
 use Rattle.rw_send.specs.Segments.{OpensSegment, IsAllOf, IsFed, IsFedPart}
-use Rattle.rw_send.specs.Steps.{AreShipped, AreShippedPart, HasHalted, HasPutAll, IsKept, IsSet, IsShipped, StaysOpen, is_some_more}
+use Rattle.rw_send.specs.Steps.{AreShipped, AreShippedPart, HasHalted, HasPutAll, KeepsSetup, IsSet, IsSegmentShipped, StaysOpen, is_some_more}
 use Rattle.rw_send.proofs.PartLemmas.{part_of}
 use Rattle.rw_send.proofs.SegmentLemmas.{feeding_none}
 
@@ -21,7 +21,7 @@ stays_on {T} old now new h more = record {
   marks = λ none. more.marks (h.limit ∙ none) ∙ h.marks none;
 }
 
-pub stays_kept : {T : Type 0} (old new : Shipping T) → StaysOpen old new → IsKept old new
+pub stays_kept : {T : Type 0} (old new : Shipping T) → StaysOpen old new → KeepsSetup old new
 stays_kept {T} old new h = (h.choice, ap (λ (f : Shards T). f.config) h.fleet)
 
 -- what holds between the same numbers
@@ -35,12 +35,12 @@ some_more f [] left e = ap (nat_lt 0) (sym e)
 some_more f (x ∷ xs) left e = sym (lt-ltb 0 left (omega (arith, e)))
 
 pub is_shipped : {T : Type 0} (fewest most : ℕ) (first : Bool) (left : Option (List ℕ)) (more : Bool) (begun : List Piece) (old fed new : Shipping T)
-    → OpensSegment first old.log.pieces begun → IsFed left begun fed.log.pieces → HasPutAll fed → StaysOpen old fed → IsSet more fewest most fed new → IsShipped fewest most first left more old new
+    → OpensSegment first old.log.pieces begun → IsFed left begun fed.log.pieces → HasPutAll fed → StaysOpen old fed → IsSet more fewest most fed new → IsSegmentShipped fewest most first left more old new
 is_shipped fewest most first left more begun old fed new begins is_fed put stays set =
     record { begun = begun; begins = begins; fed = fed; is_fed = is_fed; put = put; stays = stays; set = set }
 
 pub ships_first : {T S : Type 0} (remaining : S → Option (List ℕ)) (fewest most : ℕ) (items rest : List S) (x : S) (first : Bool) (old new last : Shipping T)
-    → items ≡ x ∷ rest → IsShipped fewest most first (remaining x) (is_some_more (map remaining rest)) old new → AreShipped fewest most false (map remaining rest) new last
+    → items ≡ x ∷ rest → IsSegmentShipped fewest most first (remaining x) (is_some_more (map remaining rest)) old new → AreShipped fewest most false (map remaining rest) new last
     → AreShipped fewest most first (map remaining items) old last
 ships_first {T} {S} remaining fewest most items rest x first old new last steps one later =
     subst (λ (xs : List S). AreShipped fewest most first (map remaining xs) old last) (sym steps) (new, one, later)
@@ -48,7 +48,7 @@ ships_first {T} {S} remaining fewest most items rest x first old new last steps 
 -- ---- as far as the reading came
 
 pub part_first : {T S : Type 0} (remaining : S → Option (List ℕ)) (fewest most : ℕ) (items rest : List S) (x : S) (first : Bool) (old new last : Shipping T)
-    → items ≡ x ∷ rest → IsShipped fewest most first (remaining x) (is_some_more (map remaining rest)) old new → AreShippedPart fewest most false (map remaining rest) new last
+    → items ≡ x ∷ rest → IsSegmentShipped fewest most first (remaining x) (is_some_more (map remaining rest)) old new → AreShippedPart fewest most false (map remaining rest) new last
     → AreShippedPart fewest most first (map remaining items) old last
 part_first {T} {S} remaining fewest most items rest x first old new last steps one later =
     subst (λ (xs : List S). AreShippedPart fewest most first (map remaining xs) old last) (sym steps) (inr (new, one, later))

@@ -22,15 +22,8 @@ segment_error_of (segment.Unreadable read.OutOfMemory) = error.Failed
 segment_error_of (segment.Unreadable read.Failed) = error.Unreadable
 segment_error_of (segment.Missing n) = error.Missing n
 
--- if reading ends at a damaged log, the log has that fault, and the shipper goes on
-abbrev pub HasDamage : {T : Type 0} → Shipping T → FeedError → Type 0
-HasDamage s (error.Damaged f) = HasRead s.log.pieces s.log.placed (Some f) × (s.fault ≡ None)
-HasDamage s error.Failed = ⊤
-HasDamage s error.Unreadable = ⊤
-HasDamage s (error.Missing n) = ⊤
-HasDamage s error.Aborted = ⊤
-
--- the same of a log whose segments are given, which lacks none, and which is not left at once
+-- If reading ends at a damaged log, the log has that fault, and the shipper goes on. This log has
+-- its segments given, lacks none, and is not left at once.
 abbrev pub IsHalted : {T : Type 0} → Shipping T → FeedError → Type 0
 IsHalted s (error.Damaged f) = HasRead s.log.pieces s.log.placed (Some f) × (s.fault ≡ None)
 IsHalted s error.Failed = ⊤

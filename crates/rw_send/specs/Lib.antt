@@ -4,3 +4,4 @@ pub mod Sending
 pub mod FeedErrors
 pub mod Segments
 pub mod Steps
+pub mod inner

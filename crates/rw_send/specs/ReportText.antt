@@ -12,8 +12,8 @@ use Rattle.rw_state_text.specs.StateText.{work_text}
 use Rattle.rw_sender.specs.declared.report.Report.{Report}
 
 -- the dropped samples of all parts
-abbrev pub names_in : List Named → List (ℕ × Reason)
-names_in parts = flat_map (λ (part : Named). entries part.names) parts
+abbrev pub names_in_parts : List Named → List (ℕ × Reason)
+names_in_parts parts = flat_map (λ (part : Named). entries part.names) parts
 
 -- the same dropped samples, by position
 abbrev pub AreByPosition : List (ℕ × Reason) → List (ℕ × Reason) → Type 0
@@ -29,13 +29,13 @@ IsEnding (outcome.Damaged fault) ending = ending ≡ Damaged fault
 -- the dropped samples by position, how many the rules have filtered, and the end
 pub record IsTextOf {T : Type 0} (r : Report T) (text : List ℕ) : Type 0 where
   pub names : List (ℕ × Reason)
-  pub by_position : AreByPosition (names_in r.parts.items) names
+  pub by_position : AreByPosition (names_in_parts r.parts.items) names
   pub ending : Ending
   pub ends : IsEnding r.outcome ending
   pub text_is : text ≡ work_text names r.filtered (Some ending)
 
 -- a prefix of the text was written
-pub record WritesPart {T : Type 0} (r : Report T) (before after : Option (List ℕ)) : Type 0 where
+pub record WritesReportPart {T : Type 0} (r : Report T) (before after : Option (List ℕ)) : Type 0 where
   pub text : List ℕ
   pub text_of : IsTextOf r text
   pub count : ℕ

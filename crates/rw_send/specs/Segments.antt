@@ -1,6 +1,5 @@
 -- The pieces of a log that is in several segments.
 use Rattle.std.specs.Prelude.{◌≡◌, ℕ, ◌<◌, ◌≤◌, Bool, true, false, List, [], ◌∷◌, ◌++◌, length, Option, Some, None, ⊤}
-use Rattle.std.specs.Io.KnownBytes.{Consumes}
 use Rattle.rw_wal_format.specs.Pieces.{Piece, bytes, next_segment}
 
 -- the text of each segment that pieces make: the bytes between two ends of segments, joined; here
@@ -10,17 +9,17 @@ texts_after text [] = text ∷ []
 texts_after text (bytes b ∷ pieces) = texts_after (text ++ b) pieces
 texts_after text (next_segment ∷ pieces) = text ∷ texts_after [] pieces
 
-abbrev pub texts : List Piece → List (List ℕ)
-texts pieces = texts_after [] pieces
+abbrev pub segment_texts : List Piece → List (List ℕ)
+segment_texts pieces = texts_after [] pieces
 
 -- a piece has at most 64 KiB
-abbrev pub IsShort : Piece → Type 0
-IsShort (bytes b) = length b ≤ 65536
-IsShort next_segment = ⊤
+abbrev pub IsShortPiece : Piece → Type 0
+IsShortPiece (bytes b) = length b ≤ 65536
+IsShortPiece next_segment = ⊤
 
-abbrev pub AreShort : List Piece → Type 0
-AreShort [] = ⊤
-AreShort (piece ∷ pieces) = IsShort piece × AreShort pieces
+abbrev pub AreShortPieces : List Piece → Type 0
+AreShortPieces [] = ⊤
+AreShortPieces (piece ∷ pieces) = IsShortPiece piece × AreShortPieces pieces
 
 -- a reader returned all that it had left, if that is known
 abbrev pub IsAllOf : Option (List ℕ) → List ℕ → Type 0
@@ -30,14 +29,14 @@ IsAllOf (Some left) text = text ≡ left
 -- each of these readers, in order
 abbrev pub AreAllOf : List (Option (List ℕ)) → List (List ℕ) → Type 0
 AreAllOf [] [] = ⊤
-AreAllOf [] (text ∷ texts) = ⊥
+AreAllOf [] (text ∷ segment_texts) = ⊥
 AreAllOf (left ∷ lefts) [] = ⊥
-AreAllOf (left ∷ lefts) (text ∷ texts) = IsAllOf left text × AreAllOf lefts texts
+AreAllOf (left ∷ lefts) (text ∷ segment_texts) = IsAllOf left text × AreAllOf lefts segment_texts
 
 -- one segment for each reader, in order, with all that it had left; without a reader no piece
 abbrev pub IsLogOf : List (Option (List ℕ)) → List Piece → Type 0
 IsLogOf [] pieces = pieces ≡ []
-IsLogOf (left ∷ lefts) pieces = AreAllOf (left ∷ lefts) (texts pieces)
+IsLogOf (left ∷ lefts) pieces = AreAllOf (left ∷ lefts) (segment_texts pieces)
 
 -- more may follow
 abbrev pub IsBeginningOf : List (Option (List ℕ)) → List Piece → Type 0
@@ -73,20 +72,6 @@ pub record IsFedPart (left : Option (List ℕ)) (old new : List Piece) : Type 0 
   pub pieces : new ≡ old ++ more
   pub is_more : IsMore text more
   pub part : IsAllOf left (text ++ rest)
-
--- a prefix of it was fed, and there is more
-abbrev pub IsFedLess : Option (List ℕ) → List Piece → List Piece → Type 0
-IsFedLess left old new = (part : IsFedPart left old new) × (0 < length part.rest)
-
--- a reader returned some bytes
-abbrev pub IsSomeRead : Option (List ℕ) → Option (List ℕ) → Type 0
-IsSomeRead before after = (text : List ℕ) × (0 < length text) × Consumes before after text
-
--- a reader returned some bytes more, and they were fed
-pub record IsFedMore (left_before left_after : Option (List ℕ)) (old new : List Piece) : Type 0 where
-  pub text : List ℕ
-  pub consumed : Consumes left_before left_after text
-  pub pieces : new ≡ old ++ bytes text ∷ []
 
 -- no read of these readers can fail
 abbrev pub AreSure : List Bool → Type 0

@@ -1,5 +1,5 @@
 -- What a run of the command `send` does.
-use Rattle.std.specs.Prelude.{◌≡◌, ◌⊎◌, ℕ, ◌≤◌, Bool, true, List, [], length, Option, None, Some, IsSome, Result, Ok, Err, ⊤}
+use Rattle.std.specs.Prelude.{◌≡◌, ◌⊎◌, ℕ, ◌≤◌, Bool, true, List, [], length, Option, None, IsSome, Result, Ok, Err, ⊤}
 use Rattle.std.specs.Io.KnownBytes.{Appends}
 use Rattle.rw_wal_format.specs.Pieces.{Piece, entries}
 use Rattle.rw_plain_queue.specs.declared.item.Kind.TheVariants.{Orderly, Hard}
@@ -15,10 +15,8 @@ use Rattle.rw_sender.specs.Shipping.{Shipping, PlacesAll, HasStopped}
 use Rattle.rw_sender.specs.declared.report.Report.{Report}
 use Rattle.rw_text.specs.declared.tool_fault.ToolFault.{ToolFault}
 use Rattle.rw_text.specs.declared.tool_fault.ToolFault.TheVariants as fault
-use Rattle.rw_send.specs.declared.feed_error.FeedError.{FeedError}
-use Rattle.rw_send.specs.declared.feed_error.FeedError.TheVariants as error
-use Rattle.rw_send.specs.ReportText.{IsTextOf, WritesPart}
-use Rattle.rw_send.specs.Segments.{AreShort, AreSure, HasMoreBytes, IsBeginningOf, IsLogOf}
+use Rattle.rw_send.specs.ReportText.{IsTextOf, WritesReportPart}
+use Rattle.rw_send.specs.Segments.{AreShortPieces, AreSure, HasMoreBytes, IsBeginningOf, IsLogOf}
 use Rattle.rw_send.specs.Steps.{AreShipped, AreShippedPart, HasLastEpoch, HasStarted}
 
 -- the shards were ended in order; or at once, since the shipper failed or for this cause, and then
@@ -58,12 +56,6 @@ IsComplete (outcome.Complete end) = ⊤
 IsComplete (outcome.Abandoned placed samples) = ⊥
 IsComplete (outcome.Damaged f) = ⊥
 
--- how a shipper's orderly stop is answered
-abbrev pub answer_to : Outcome → Result (Unit {0}) ToolFault
-answer_to (outcome.Complete end) = Ok tt
-answer_to (outcome.Abandoned placed samples) = Err fault.OutOfMemory
-answer_to (outcome.Damaged f) = Err (fault.Log f)
-
 -- How a run answers whose report has this outcome: all is well only if the log was fed whole and
 -- the outcome is complete, a fault of the log is that of the outcome, and otherwise the work is
 -- abandoned; for a device's fault only if one can fail.
@@ -89,7 +81,7 @@ StopsAtOnce refused unsure (Err fault.SegmentFull) = ⊥
 pub record IsSent {T : Type 0} (tells : T → Type 0) (seen : T → List Exchange) (is_for : ℕ → ℕ → T → Type 0) (c : ConfigFields) (limit : Option ℕ) (lefts : List (Option (List ℕ))) (sures : List Bool) (r : Report T) (answer : Result (Unit {0}) ToolFault) : Type 0 where
   pub pieces : List Piece
   pub begins : IsBeginningOf lefts pieces
-  pub short : AreShort pieces
+  pub short : AreShortPieces pieces
   pub report : IsReportOf tells seen is_for c limit
       (StopsAtOnce (HasMoreBytes lefts pieces) (AreSure sures → ⊥) answer) pieces r
   pub started : Shipping T
@@ -110,13 +102,4 @@ pub record IsPrintedPart {T : Type 0} (tells : T → Type 0) (seen : T → List 
   pub answer : Result (Unit {0}) ToolFault
   pub report : Report T
   pub sent : IsSent tells seen is_for c limit lefts sures report answer
-  pub part : WritesPart report before after
-
--- for this fault the work is stopped at once; a damaged log is shipped as far as it goes
-abbrev pub hard_fault : Result (Unit {0}) FeedError → Option ToolFault
-hard_fault (Ok u) = None
-hard_fault (Err (error.Damaged f)) = None
-hard_fault (Err error.Failed) = Some fault.OutOfMemory
-hard_fault (Err error.Unreadable) = Some fault.Device
-hard_fault (Err (error.Missing n)) = Some fault.Device
-hard_fault (Err error.Aborted) = Some fault.Device
+  pub part : WritesReportPart report before after

@@ -20,8 +20,8 @@ pub record StaysOpen {T : Type 0} (old new : Shipping T) : Type 0 where
   pub marks : old.limit ≡ None → map marks_of new.fleet.current ≡ map marks_of old.fleet.current
 
 -- which series are sent and the configuration stay
-abbrev pub IsKept : {T : Type 0} → Shipping T → Shipping T → Type 0
-IsKept old new = (new.log.choice ≡ old.log.choice) × (new.fleet.config ≡ old.fleet.config)
+abbrev pub KeepsSetup : {T : Type 0} → Shipping T → Shipping T → Type 0
+KeepsSetup old new = (new.log.choice ≡ old.log.choice) × (new.fleet.config ≡ old.fleet.config)
 
 -- how many shards are wanted if there are n, under this load
 abbrev pub wanted_under : (fewest most n : ℕ) → Load → ℕ
@@ -56,7 +56,7 @@ HasPutAll s = (s.log.placed ≡ entries s.log.pieces) × PlacesAll s.log s.fleet
 
 -- all that a reader had left was fed, after the end of the segment before unless it is the first,
 -- and then the number of shards was set, if more is to come
-pub record IsShipped {T : Type 0} (fewest most : ℕ) (first : Bool) (left : Option (List ℕ)) (more : Bool) (old new : Shipping T) : Type 0 where
+pub record IsSegmentShipped {T : Type 0} (fewest most : ℕ) (first : Bool) (left : Option (List ℕ)) (more : Bool) (old new : Shipping T) : Type 0 where
   pub begun : List Piece
   pub begins : OpensSegment first old.log.pieces begun
   pub fed : Shipping T
@@ -72,7 +72,7 @@ is_some_more (x ∷ xs) = true
 -- the same for the segments of these readers, in order
 abbrev pub AreShipped : {T : Type 0} → (fewest most : ℕ) → Bool → List (Option (List ℕ)) → Shipping T → Shipping T → Type 0
 AreShipped fewest most first [] old new = new ≡ old
-AreShipped {T} fewest most first (left ∷ lefts) old new = (next : Shipping T) × IsShipped fewest most first left (is_some_more lefts) old next × AreShipped fewest most false lefts next new
+AreShipped {T} fewest most first (left ∷ lefts) old new = (next : Shipping T) × IsSegmentShipped fewest most first left (is_some_more lefts) old next × AreShipped fewest most false lefts next new
 
 -- the reading halted before a segment or within it, or the number of shards could not be set after
 -- it
@@ -87,7 +87,7 @@ pub record HasHalted {T : Type 0} (first : Bool) (left : Option (List ℕ)) (old
 -- the same for the segments of these readers, in order, as far as the reading came
 abbrev pub AreShippedPart : {T : Type 0} → (fewest most : ℕ) → Bool → List (Option (List ℕ)) → Shipping T → Shipping T → Type 0
 AreShippedPart fewest most first [] old new = new ≡ old
-AreShippedPart {T} fewest most first (left ∷ lefts) old new = HasHalted first left old new ⊎ ((next : Shipping T) × IsShipped fewest most first left (is_some_more lefts) old next × AreShippedPart fewest most false lefts next new)
+AreShippedPart {T} fewest most first (left ∷ lefts) old new = HasHalted first left old new ⊎ ((next : Shipping T) × IsSegmentShipped fewest most first left (is_some_more lefts) old next × AreShippedPart fewest most false lefts next new)
 
 -- a shipper with as many shards as are configured and this limit in bytes, which was fed nothing
 pub record HasStarted {T : Type 0} (c : ConfigFields) (limit : Option ℕ) (s : Shipping T) : Type 0 where

@@ -5,7 +5,8 @@ ghost use Rattle.rw_wal_format.specs.declared.tail_fault.TailFault.{TailFault};
 ghost use Rattle.rw_follow.specs.Growth.{Known};
 ghost use Rattle.rw_follow.specs.declared.signal.StopRequest.TheVariants as StopRequest;
 ghost use Rattle.rw_text.specs.declared.tool_fault.ToolFault.TheVariants.{OutOfMemory, Log, Line, SegmentFull, Device};
-ghost use Rattle.rw_send.specs.Following.{IsFollowPrinted, IsFollowPrintedPart, IsFollowed, IsUnread, follow_result, left_undone, as_follow_result};
+ghost use Rattle.rw_send.specs.Following.{IsFollowPrinted, IsFollowPrintedPart, IsFollowed, IsUnread};
+ghost use Rattle.rw_send.specs.inner.Following.{follow_result, left_undone, as_follow_result};
 ghost use Rattle.rw_send.specs.declared.follow_fault.FollowFault.TheVariants.{Tool, Missing, Stopped};
 
 use crate::counters::{FeedContext, count_report, update_counters};

@@ -2,18 +2,19 @@
 
 ghost use Rattle.std.specs.Prelude.{◌≡◌, ◌<◌, ◌≤◌, ◌⊎◌, [], length, map, true, false, None, IfErr, IfOk, IsSome, OnOk, OnErr};
 ghost use Rattle.rw_follow.specs.Growth as growth;
-ghost use Rattle.rw_follow.specs.Growth.{HadAll, IsBeginning, Known, with_next, with_piece};
-ghost use Rattle.rw_follow.specs.Turns.{IsWithin, given_by};
+ghost use Rattle.rw_follow.specs.Growth.{HadAll, IsFedPrefix, Known, with_next, with_piece};
+ghost use Rattle.rw_follow.specs.Turns.{FitsBuffer, given_by};
 ghost use Rattle.rw_follow.specs.declared.signal.StopRequest.TheVariants as StopRequest;
 ghost use Rattle.rw_fleet.specs.ShardHistories.{marked, marks_of};
 ghost use Rattle.rw_fleet.specs.Work.{AreResolved};
 ghost use Rattle.rw_fleet.specs.Loads.{IsLoad};
 ghost use Rattle.rw_fleet.specs.declared.load.Load.{Load};
 ghost use Rattle.rw_sender.specs.Placement.{IsShardCount};
-ghost use Rattle.rw_send.specs.Following.{FailsWith, HaltsAt, IsCut, IsUnread, MarksBy, meal_of};
-ghost use Rattle.rw_send.specs.Segments.{AreShort};
+ghost use Rattle.rw_send.specs.Following.{IsUnread, meal_of};
+ghost use Rattle.rw_send.specs.inner.Following.{FailsWith, HaltsAt, IsCut, MarksBy};
+ghost use Rattle.rw_send.specs.Segments.{AreShortPieces};
 ghost use Rattle.rw_send.specs.FeedErrors.{IsHalted};
-ghost use Rattle.rw_send.specs.Steps.{HasLastEpoch, IsKept};
+ghost use Rattle.rw_send.specs.Steps.{HasLastEpoch, KeepsSetup};
 
 use crate::counters::{FeedContext, update_counters};
 use crate::feed_error::FeedError;
@@ -35,12 +36,12 @@ fn feed_bytes<R: Wait, C: Connect + Drop>(
 ) -> Result<(), FeedError>
     requires live { shipper.old.fault ≡ None }
     requires short { length piece.items ≤ 65_536 }
-    ensures kept { IsKept shipper.old shipper.new }
+    ensures kept { KeepsSetup shipper.old shipper.new }
     ensures limit { shipper.new.limit ≡ shipper.old.limit }
     ensures marks { shipper.old.limit ≡ None
         → map marks_of shipper.new.fleet.current ≡ map marks_of shipper.old.fleet.current }
     ensures shards { length shipper.new.fleet.current ≡ length shipper.old.fleet.current }
-    ensures short { AreShort shipper.old.log.pieces → AreShort shipper.new.log.pieces }
+    ensures short { AreShortPieces shipper.old.log.pieces → AreShortPieces shipper.new.log.pieces }
     ensures live { OnOk result (shipper.new.fault ≡ None) }
     ensures fed { OnOk result (meal_of shipper.new.log.pieces
         ≡ with_piece (meal_of shipper.old.log.pieces) piece.items) }
@@ -64,13 +65,13 @@ fn feed_next<R: Threads + Wait + Clock + Copy + Send + 'static, C: Connect + Dro
 ) -> Result<Sharding, FeedError>
     requires live { shipper.old.fault ≡ None }
     requires shards { length shipper.old.fleet.current ≡ sharding.shards }
-    ensures kept { IsKept shipper.old shipper.new }
+    ensures kept { KeepsSetup shipper.old shipper.new }
     ensures limit { shipper.new.limit ≡ shipper.old.limit }
     ensures shards { IfOk result (λ s. length shipper.new.fleet.current ≡ s.shards) }
     ensures number { shipper.new.fault ≡ None → IsShardCount (length shipper.new.fleet.current) }
     ensures start { IfOk result
         (λ s. (s.placed ≡ sharding.placed) × (s.resolved ≡ sharding.resolved)) }
-    ensures short { AreShort shipper.old.log.pieces → AreShort shipper.new.log.pieces }
+    ensures short { AreShortPieces shipper.old.log.pieces → AreShortPieces shipper.new.log.pieces }
     ensures live { OnOk result (shipper.new.fault ≡ None) }
     ensures fed { OnOk result
         (meal_of shipper.new.log.pieces ≡ with_next (meal_of shipper.old.log.pieces)) }
@@ -91,7 +92,7 @@ fn feed_next<R: Threads + Wait + Clock + Copy + Send + 'static, C: Connect + Dro
 /// Makes each shard send what waits for a full batch.
 fn flush<R: Wait, C: Connect + Drop>(rt: &R, shipper: &mut Shipper<C>) -> Result<(), FeedError>
     requires live { shipper.old.fault ≡ None }
-    ensures kept { IsKept shipper.old shipper.new }
+    ensures kept { KeepsSetup shipper.old shipper.new }
     ensures limit { shipper.new.fault ≡ None → shipper.new.limit ≡ shipper.old.limit }
     ensures marked { OnOk result
         (shipper.new.fleet.current ≡ map marked shipper.old.fleet.current) }
@@ -118,16 +119,16 @@ fn obey<R: Threads + Wait + Clock + Copy + Send + 'static, C: Connect + Drop>(
 ) -> Result<Sharding, FeedError>
     requires live { shipper.old.fault ≡ None }
     requires shards { length shipper.old.fleet.current ≡ sharding.shards }
-    requires within { IsWithin turn (length buf.now) }
+    requires within { FitsBuffer turn (length buf.now) }
     requires short { length buf.now ≤ 65_536 }
-    ensures kept { IsKept shipper.old shipper.new }
+    ensures kept { KeepsSetup shipper.old shipper.new }
     ensures limit { shipper.new.fault ≡ None → shipper.new.limit ≡ shipper.old.limit }
     ensures marks { OnOk result (MarksBy turn shipper.old shipper.new) }
     ensures shards { IfOk result (λ s. length shipper.new.fleet.current ≡ s.shards) }
     ensures number { shipper.new.fault ≡ None → IsShardCount (length shipper.new.fleet.current) }
     ensures start { IfOk result
         (λ s. (s.placed ≡ sharding.placed) × (s.resolved ≡ sharding.resolved)) }
-    ensures short { AreShort shipper.old.log.pieces → AreShort shipper.new.log.pieces }
+    ensures short { AreShortPieces shipper.old.log.pieces → AreShortPieces shipper.new.log.pieces }
     ensures live { OnOk result (shipper.new.fault ≡ None) }
     ensures fed { OnOk result (meal_of shipper.new.log.pieces
         ≡ given_by turn buf.now (meal_of shipper.old.log.pieces)) }
@@ -168,9 +169,9 @@ fn step<R: Threads + Wait + Clock + Copy + Send + 'static, C: Connect + Drop>(
 ) -> Result<Sharding, FeedError>
     requires live { shipper.old.fault ≡ None }
     requires shards { length shipper.old.fleet.current ≡ sharding.shards }
-    requires within { IsWithin turn (length buf.now) }
+    requires within { FitsBuffer turn (length buf.now) }
     requires short { length buf.now ≤ 65_536 }
-    ensures kept { IsKept shipper.old shipper.new }
+    ensures kept { KeepsSetup shipper.old shipper.new }
     ensures limit { shipper.new.fault ≡ None → shipper.new.limit ≡ shipper.old.limit }
     ensures asked { is_reshard_due ≡ true → IfOk result (λ s. (load : Load)
         × IsLoad shipper.old.fleet load × (s.placed ≡ load.placed)
@@ -179,7 +180,7 @@ fn step<R: Threads + Wait + Clock + Copy + Send + 'static, C: Connect + Drop>(
         (λ s. (s.placed ≡ sharding.placed) × (s.resolved ≡ sharding.resolved)) }
     ensures shards { IfOk result (λ s. length shipper.new.fleet.current ≡ s.shards) }
     ensures number { shipper.new.fault ≡ None → IsShardCount (length shipper.new.fleet.current) }
-    ensures short { AreShort shipper.old.log.pieces → AreShort shipper.new.log.pieces }
+    ensures short { AreShortPieces shipper.old.log.pieces → AreShortPieces shipper.new.log.pieces }
     ensures live { OnOk result (shipper.new.fault ≡ None) }
     ensures fed { OnOk result (meal_of shipper.new.log.pieces
         ≡ given_by turn buf.now (meal_of shipper.old.log.pieces)) }
@@ -232,13 +233,13 @@ pub(crate) fn ship_live<
     requires unread { Known (S.now segments.old) IsUnread }
     requires buffer { 0 < length buf.old }
     requires short { length buf.old ≤ 65_536 }
-    ensures kept { IsKept shipper.old shipper.new }
+    ensures kept { KeepsSetup shipper.old shipper.new }
     ensures limit { shipper.new.fault ≡ None → shipper.new.limit ≡ shipper.old.limit }
     ensures number { shipper.new.fault ≡ None → IsShardCount (length shipper.new.fleet.current) }
-    ensures short { AreShort shipper.new.log.pieces }
+    ensures short { AreShortPieces shipper.new.log.pieces }
     ensures live { OnOk result (shipper.new.fault ≡ None) }
     ensures begins { Known (S.now segments.new)
-        (λ m. IsBeginning (meal_of shipper.new.log.pieces) (growth.texts m)) }
+        (λ m. IsFedPrefix (meal_of shipper.new.log.pieces) (growth.texts m)) }
     ensures whole { OnOk result
         (Known (S.now segments.new) (HadAll (meal_of shipper.new.log.pieces))) }
     ensures signed { OnOk result (W.said watch.new ≡ StopRequest.Finish) }

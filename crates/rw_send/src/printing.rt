@@ -4,7 +4,7 @@ ghost use Rattle.std.specs.Prelude.{◌≡◌, ◌++◌, ◌⊎◌, ℕ, List, f
 ghost use Rattle.std.specs.Io.KnownBytes.{Appends};
 ghost use Rattle.rw_shard_core.specs.Endings.{ending_of};
 ghost use Rattle.rw_state_text.specs.StateText.{dropped_text};
-ghost use Rattle.rw_send.specs.ReportText.{AreByPosition, IsEnding, IsTextOf, WritesPart, names_in};
+ghost use Rattle.rw_send.specs.ReportText.{AreByPosition, IsEnding, IsTextOf, WritesReportPart, names_in_parts};
 ghost use Rattle.rw_text.specs.declared.tool_fault.ToolFault.TheVariants.{OutOfMemory, Device};
 
 use rw_ledger::{Ledger, Reason};
@@ -16,7 +16,7 @@ use std::alloc::{AllocError, Global};
 
 /// Returns the dropped samples of all parts.
 fn all_names(alloc: Global, parts: &[Ledger]) -> Result<Vec<(u64, Reason)>, AllocError>
-    ensures { IfOk result (λ names. names.items ≡ names_in parts.now) }
+    ensures { IfOk result (λ names. names.items ≡ names_in_parts parts.now) }
 {
     let mut names = Vec::new(alloc);
     for part in parts {
@@ -27,7 +27,7 @@ fn all_names(alloc: Global, parts: &[Ledger]) -> Result<Vec<(u64, Reason)>, Allo
 
 /// Returns the dropped samples of all parts, by position.
 fn names_by_position(alloc: Global, parts: &[Ledger]) -> Result<Vec<(u64, Reason)>, AllocError>
-    ensures { IfOk result (λ names. AreByPosition (names_in parts.now) names.items) }
+    ensures { IfOk result (λ names. AreByPosition (names_in_parts parts.now) names.items) }
 {
     let mut names = all_names(alloc, parts)?;
     names.sort_unstable_by_key(|name| name.0);
@@ -94,7 +94,7 @@ pub(crate) fn print_report<T: Drop, W: Sink>(
     ensures faults { IfErr result (λ e. (e ≡ OutOfMemory) ⊎ (e ≡ Device)) }
     ensures memory { result ≡ Err OutOfMemory → writer.new ≡ writer.old }
     ensures device { result ≡ Err Device → (W.has_failed writer.new ≡ true)
-        × WritesPart report (W.contents writer.old) (W.contents writer.new) }
+        × WritesReportPart report (W.contents writer.old) (W.contents writer.new) }
 {
     let text = text_of(alloc, report)?;
     write_all(writer, &text)?;

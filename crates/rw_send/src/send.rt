@@ -3,12 +3,13 @@
 ghost use Rattle.std.specs.Prelude.{◌≡◌, ◌⊎◌, ℕ, None, Some, map, Ok, Err, true, false, IfOk, IfErr, IfSome, IsOk, OnOk, is_some};
 ghost use Rattle.rw_wal_format.specs.declared.tail_fault.TailFault.{TailFault};
 ghost use Rattle.rw_fleet.specs.Fleets.{EndBy};
-ghost use Rattle.rw_sender.specs.Reports.{IsAbandoned, ListsCut, kind_of};
+ghost use Rattle.rw_sender.specs.Reports.{IsAbandoned, ListsCut, end_kind};
 ghost use Rattle.rw_sender.specs.Shipping.{HasStopped};
 ghost use Rattle.rw_text.specs.declared.tool_fault.ToolFault.{ToolFault};
 ghost use Rattle.rw_text.specs.declared.tool_fault.ToolFault.TheVariants.{OutOfMemory, Log, Line, SegmentFull, Device};
-ghost use Rattle.rw_send.specs.FeedErrors.{HasDamage};
-ghost use Rattle.rw_send.specs.Sending.{answer_to, hard_fault, Answers, IsPrinted, IsPrintedPart, IsSent};
+ghost use Rattle.rw_send.specs.inner.FeedErrors.{HasDamage};
+ghost use Rattle.rw_send.specs.Sending.{Answers, IsPrinted, IsPrintedPart, IsSent};
+ghost use Rattle.rw_send.specs.inner.Sending.{answer_to, hard_fault};
 
 use crate::counters::{FeedContext, count_report, update_counters};
 use crate::feed_error::FeedError;
@@ -66,7 +67,7 @@ pub(crate) fn stop_shipper<R: Threads + Wait, C: Connect + Drop>(
     requires halted { IfErr shipped (HasDamage shipper) }
     requires live { OnOk shipped (shipper.fault ≡ None) }
     ensures stopped { HasStopped C.T.tells C.T.seen C.T.is_for shipper result.report }
-    ensures ended { EndBy (kind_of (is_some (hard_fault shipped))) shipper.fleet
+    ensures ended { EndBy (end_kind (is_some (hard_fault shipped))) shipper.fleet
         result.report.workers.items }
     ensures cut { hard_fault shipped ≡ None → IsAbandoned result.report.outcome
         → ListsCut result.report.workers.items }

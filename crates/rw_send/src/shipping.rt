@@ -4,9 +4,10 @@ ghost use Rattle.std.specs.Prelude.{◌≡◌, ◌<◌, ◌≤◌, ◌⊎◌, []
 ghost use Rattle.std.specs.Io.KnownBytes.{Consumes, IsAtEnd};
 ghost use Rattle.rw_fleet.specs.Work.{AreResolved};
 ghost use Rattle.rw_sender.specs.Placement.{IsShardCount};
-ghost use Rattle.rw_send.specs.Segments.{AreShort, AreSure, HasMoreBytes, OpensSegment, IsBeginningOf, IsFed, IsFedLess, IsFedMore, IsFedPart, IsLogOf, IsSomeRead};
+ghost use Rattle.rw_send.specs.Segments.{AreShortPieces, AreSure, HasMoreBytes, OpensSegment, IsBeginningOf, IsFed, IsFedPart, IsLogOf};
+ghost use Rattle.rw_send.specs.inner.Segments.{IsFedLess, IsFedMore, IsSomeRead};
 ghost use Rattle.rw_send.specs.FeedErrors.{IsHalted};
-ghost use Rattle.rw_send.specs.Steps.{AreShipped, AreShippedPart, HasLastEpoch, IsKept, StaysOpen};
+ghost use Rattle.rw_send.specs.Steps.{AreShipped, AreShippedPart, HasLastEpoch, KeepsSetup, StaysOpen};
 ghost use Rattle.rw_send.specs.declared.feed_error.FeedError.TheVariants.{Unreadable};
 
 use crate::counters::{FeedContext, update_counters};
@@ -74,7 +75,7 @@ fn ship_piece<R: Wait, S: Source, C: Connect + Drop>(
     requires small { length buf.old ≤ PIECE_BYTES }
     ensures room { length buf.new ≡ length buf.old }
     ensures stays { StaysOpen shipper.old shipper.new }
-    ensures short { AreShort shipper.old.log.pieces → AreShort shipper.new.log.pieces }
+    ensures short { AreShortPieces shipper.old.log.pieces → AreShortPieces shipper.new.log.pieces }
     ensures sound { OnOk result (shipper.new.fault ≡ None) }
     ensures more { result ≡ Ok true
         → IsFedMore (S.remaining segment.old)
@@ -118,7 +119,7 @@ fn ship_segment<R: Wait, S: Source + Drop, C: Connect + Drop>(
     requires small { length buf.old ≤ PIECE_BYTES }
     ensures room { length buf.new ≡ length buf.old }
     ensures stays { StaysOpen shipper.old shipper.new }
-    ensures short { AreShort shipper.old.log.pieces → AreShort shipper.new.log.pieces }
+    ensures short { AreShortPieces shipper.old.log.pieces → AreShortPieces shipper.new.log.pieces }
     ensures sound { OnOk result (shipper.new.fault ≡ None) }
     ensures whole { OnOk result
         (IsFed (S.remaining segment) shipper.old.log.pieces shipper.new.log.pieces) }
@@ -146,7 +147,7 @@ pub fn begin_segment<R: Wait, C: Connect + Drop>(
 ) -> Result<(), FeedError>
     requires { shipper.old.fault ≡ None }
     ensures stays { StaysOpen shipper.old shipper.new }
-    ensures short { AreShort shipper.old.log.pieces → AreShort shipper.new.log.pieces }
+    ensures short { AreShortPieces shipper.old.log.pieces → AreShortPieces shipper.new.log.pieces }
     ensures sound { OnOk result (shipper.new.fault ≡ None) }
     ensures begun { OnOk result (OpensSegment is_first shipper.old.log.pieces shipper.new.log.pieces) }
     ensures part { OnErr result ((shipper.new.log.pieces ≡ shipper.old.log.pieces)
@@ -181,9 +182,9 @@ pub fn ship_all<
     requires shards { length shipper.old.fleet.current ≡ sharding.shards }
     requires buffer { 0 < length buf.old }
     requires small { length buf.old ≤ PIECE_BYTES }
-    ensures kept { IsKept shipper.old shipper.new }
+    ensures kept { KeepsSetup shipper.old shipper.new }
     ensures limit { shipper.new.limit ≡ shipper.old.limit }
-    ensures short { AreShort shipper.new.log.pieces }
+    ensures short { AreShortPieces shipper.new.log.pieces }
     ensures live { OnOk result (shipper.new.fault ≡ None) }
     ensures whole { OnOk result (IsLogOf (map S.remaining segments.items) shipper.new.log.pieces) }
     ensures steps { OnOk result

@@ -6,41 +6,42 @@ use Rattle.std.proofs.lemmas.Option.{slice_get_within, same_Some}
 use Rattle.std.proofs.lemmas.Bool.Decides.{nat_tests}
 use Rattle.std.specs.Arc.{arc_value}
 use Rattle.rw_types.specs.declared.place.Place.{Place}
-use Rattle.rw_batch.specs.Kept.{Shared}
+use Rattle.rw_batch.specs.inner.Kept.{Shared}
 use Rattle.rw_plain_queue.specs.Items.{samples_in}
 use Rattle.rw_plain_queue.specs.declared.item.Item.{Item}
 use Rattle.rw_plain_queue.specs.declared.item.Item.TheVariants as item
-use Rattle.rw_sender.specs.Sizes.{bytes_of}
-use Rattle.rw_sender.specs.Marking.{item_bytes, bytes_after, open_bytes, AreSamples, is_over, behind_cut, counted_with, with_cuts}
-use Rattle.rw_sender.specs.Rooms.{Counting, AreFull, Counts}
+use Rattle.rw_sender.specs.Sizes.{size_of_sample}
+use Rattle.rw_sender.specs.Marking.{item_bytes, bytes_after, open_bytes, AreOnlySamples, is_over_mark, behind_cut, counted_with, with_cuts}
+use Rattle.rw_sender.specs.Rooms.{Counting, AreUncounted, Counts}
 use Rattle.rw_series_cache.specs.declared.sample.RoutedSample.{RoutedSample}
 use Rattle.rw_fleet.specs.ShardHistories.{ShardHistory, AreFresh, AreSame, IsPut, item_as, marked}
 use Rattle.rw_sender.specs.Placement.{AreKept}
-use Rattle.rw_sender.specs.Cutting.{IsCutBy, AreCutBy, AreCounted, GoesCut, IsCutAt, HasRoomMade}
-use Rattle.rw_sender.proofs.PlacementLemmas.{get_set}
+use Rattle.rw_sender.specs.Cutting.{IsCutBy, AreCutBy}
+use Rattle.rw_sender.specs.inner.Cutting.{AreCounted, GoesCut, IsCutAt, HasRoomMade}
+use Rattle.rw_sender.proofs.shared.PlacementLemmas.{get_set}
 
 bytes_append : (n : ℕ) (xs ys : List Item) → bytes_after n (xs ++ ys) ≡ bytes_after (bytes_after n xs) ys
 bytes_append n [] ys = refl
-bytes_append n (item.Sample p t w l ∷ xs) ys = bytes_append (n + bytes_of l.value (w, t)) xs ys
+bytes_append n (item.Sample p t w l ∷ xs) ys = bytes_append (n + size_of_sample l.value (w, t)) xs ys
 bytes_append n (item.Flush ∷ xs) ys = bytes_append 0 xs ys
 bytes_append n (item.End k ∷ xs) ys = bytes_append 0 xs ys
 
-samples_append : (xs ys : List Item) → AreSamples xs → AreSamples ys → AreSamples (xs ++ ys)
+samples_append : (xs ys : List Item) → AreOnlySamples xs → AreOnlySamples ys → AreOnlySamples (xs ++ ys)
 samples_append [] ys h g = g
 samples_append (item.Sample p t w l ∷ xs) ys h g = samples_append xs ys h g
 samples_append (item.Flush ∷ xs) ys h g = absurd h
 samples_append (item.End k ∷ xs) ys h g = absurd h
 
 -- a sample and its mark, and then others
-bytes_behind : (over : Bool) (n : ℕ) (p : Place) (t : ℤ) (w : ℕ) (l : Shared) (zs : List Item) → bytes_after n (behind_cut over (item.Sample p t w l) ++ zs) ≡ bytes_after (counted_with over n (bytes_of l.value (w, t))) zs
-bytes_behind true n p t w l zs = ap (λ m. bytes_after m zs) (zero-add (bytes_of l.value (w, t)))
+bytes_behind : (over : Bool) (n : ℕ) (p : Place) (t : ℤ) (w : ℕ) (l : Shared) (zs : List Item) → bytes_after n (behind_cut over (item.Sample p t w l) ++ zs) ≡ bytes_after (counted_with over n (size_of_sample l.value (w, t))) zs
+bytes_behind true n p t w l zs = ap (λ m. bytes_after m zs) (zero-add (size_of_sample l.value (w, t)))
 bytes_behind false n p t w l zs = refl
 
-cuts_append : (limit : Option ℕ) (n : ℕ) (xs ys : List Item) → AreSamples xs → with_cuts limit n (xs ++ ys) ≡ with_cuts limit n xs ++ with_cuts limit (bytes_after n (with_cuts limit n xs)) ys
+cuts_append : (limit : Option ℕ) (n : ℕ) (xs ys : List Item) → AreOnlySamples xs → with_cuts limit n (xs ++ ys) ≡ with_cuts limit n xs ++ with_cuts limit (bytes_after n (with_cuts limit n xs)) ys
 cuts_append limit n [] ys h = refl
 cuts_append limit n (item.Sample p t w l ∷ xs) ys h =
-    let b = bytes_of l.value (w, t) in
-    let over = is_over limit n b in
+    let b = size_of_sample l.value (w, t) in
+    let over = is_over_mark limit n b in
     let next = counted_with over n b in
     let first = behind_cut over (item.Sample p t w l) in
     let rest = with_cuts limit next xs in
@@ -125,12 +126,12 @@ put_cut false k s lane old mid new at cut put =
     }
 
 -- with one sample more
-cut_item : (limit : Option ℕ) (over : Bool) (b : ℕ) (p : Place) (t : ℤ) (w : ℕ) (l : Shared) (lane now : ShardHistory) → b ≡ bytes_of l.value (w, t) → over ≡ is_over limit (open_bytes lane.put) b → now.put ≡ lane.put ++ behind_cut over (item.Sample p t w l) → IsCutBy limit lane now
+cut_item : (limit : Option ℕ) (over : Bool) (b : ℕ) (p : Place) (t : ℤ) (w : ℕ) (l : Shared) (lane now : ShardHistory) → b ≡ size_of_sample l.value (w, t) → over ≡ is_over_mark limit (open_bytes lane.put) b → now.put ≡ lane.put ++ behind_cut over (item.Sample p t w l) → IsCutBy limit lane now
 cut_item limit over b p t w l lane now size is put =
     let x = item.Sample p t w l in
-    (x ∷ [], tt, put ∙ ap (λ o. lane.put ++ behind_cut o x) (is ∙ ap (is_over limit (open_bytes lane.put)) size) ∙ ap (λ zs. lane.put ++ zs) (sym (append-nil (behind_cut (is_over limit (open_bytes lane.put) (bytes_of l.value (w, t))) x))))
+    (x ∷ [], tt, put ∙ ap (λ o. lane.put ++ behind_cut o x) (is ∙ ap (is_over_mark limit (open_bytes lane.put)) size) ∙ ap (λ zs. lane.put ++ zs) (sym (append-nil (behind_cut (is_over_mark limit (open_bytes lane.put) (size_of_sample l.value (w, t))) x))))
 
-open_now : (over : Bool) (b : ℕ) (p : Place) (t : ℤ) (w : ℕ) (l : Shared) (lane now : ShardHistory) → b ≡ bytes_of l.value (w, t) → now.put ≡ lane.put ++ behind_cut over (item.Sample p t w l) → open_bytes now.put ≡ counted_with over (open_bytes lane.put) b
+open_now : (over : Bool) (b : ℕ) (p : Place) (t : ℤ) (w : ℕ) (l : Shared) (lane now : ShardHistory) → b ≡ size_of_sample l.value (w, t) → now.put ≡ lane.put ++ behind_cut over (item.Sample p t w l) → open_bytes now.put ≡ counted_with over (open_bytes lane.put) b
 open_now over b p t w l lane now size put =
     let x = item.Sample p t w l in
     ap open_bytes put ∙ bytes_append 0 lane.put (behind_cut over x) ∙ ap (bytes_after (open_bytes lane.put)) (sym (append-nil (behind_cut over x)))
@@ -144,7 +145,7 @@ room_else : (limit b : ℕ) (over : Bool) (old new : List ℕ) (k j : ℕ) → C
 room_else limit b true old new k j h ne = h.1.1 j ne
 room_else limit b false old new k j h ne = h.1.1 j ne
 
-counted_put : (limit : Option ℕ) (over : Bool) (k b : ℕ) (p : Place) (t : ℤ) (w : ℕ) (l : Shared) (lane : ShardHistory) (rooms after : List ℕ) (old new : List ShardHistory) → b ≡ bytes_of l.value (w, t) → slice_get old k ≡ Some lane → IsPutCut over k (item.Sample p t w l) lane old new
+counted_put : (limit : Option ℕ) (over : Bool) (k b : ℕ) (p : Place) (t : ℤ) (w : ℕ) (l : Shared) (lane : ShardHistory) (rooms after : List ℕ) (old new : List ShardHistory) → b ≡ size_of_sample l.value (w, t) → slice_get old k ≡ Some lane → IsPutCut over k (item.Sample p t w l) lane old new
     → Counts limit k b rooms after over → AreCounted limit rooms old → AreCounted limit after new
 counted_put None over k b p t w l lane rooms after old new size at put counts h = tt
 counted_put (Some limit) over k b p t w l lane rooms after old new size at put counts h = record {
@@ -157,7 +158,7 @@ counted_put (Some limit) over k b p t w l lane rooms after old new size at put c
   ];
 }
 
-pub goes_cut_put : (a b : Counting) (k : ℕ) (s : RoutedSample) (old mid new : List ShardHistory) → b.limit ≡ a.limit → AreCounted a.limit a.rooms old → HasRoomMade k (bytes_of (arc_value s.labels) (s.word, s.t)) a b old mid → IsPut k s mid new → GoesCut a b old new
+pub goes_cut_put : (a b : Counting) (k : ℕ) (s : RoutedSample) (old mid new : List ShardHistory) → b.limit ≡ a.limit → AreCounted a.limit a.rooms old → HasRoomMade k (size_of_sample (arc_value s.labels) (s.word, s.t)) a b old mid → IsPut k s mid new → GoesCut a b old new
 goes_cut_put a b k s old mid new same h room put =
     let cut = put_cut room.over k s room.lane old mid new room.at room.cut put in record {
       cut = subst (AreCutBy a.limit old) (sym cut.is) (cut_set a.limit old k room.lane cut.now room.at (cut_item a.limit room.over _ _ _ _ _ room.lane cut.now refl room.over_is cut.items));
@@ -165,13 +166,13 @@ goes_cut_put a b k s old mid new same h room put =
     }
 
 -- the sample does not fit if its room is too small
-over_so : (limit ob room b : ℕ) → room ≡ limit - ob → room < b → true ≡ is_over (Some limit) ob b
+over_so : (limit ob room b : ℕ) → room ≡ limit - ob → room < b → true ≡ is_over_mark (Some limit) ob b
 over_so limit ob room b is lt = let gt : limit - ob < b = omega arith in grind (arith, nat_tests)
 
-fits_so : (limit ob room b : ℕ) → room ≡ limit - ob → b ≤ room → false ≡ is_over (Some limit) ob b
+fits_so : (limit ob room b : ℕ) → room ≡ limit - ob → b ≤ room → false ≡ is_over_mark (Some limit) ob b
 fits_so limit ob room b is le = let gt : b ≤ limit - ob = omega arith in grind (arith, nat_tests)
 
-over_of : (limit : Option ℕ) (k b : ℕ) (rooms after : List ℕ) (over : Bool) (lane : ShardHistory) (lanes : List ShardHistory) → AreCounted limit rooms lanes → slice_get lanes k ≡ Some lane → Counts limit k b rooms after over → over ≡ is_over limit (open_bytes lane.put) b
+over_of : (limit : Option ℕ) (k b : ℕ) (rooms after : List ℕ) (over : Bool) (lane : ShardHistory) (lanes : List ShardHistory) → AreCounted limit rooms lanes → slice_get lanes k ≡ Some lane → Counts limit k b rooms after over → over ≡ is_over_mark limit (open_bytes lane.put) b
 over_of None k b rooms after over lane lanes h at counts = counts
 over_of (Some limit) k b rooms after true lane lanes h at counts = over_so limit (open_bytes lane.put) (slice_index rooms k) b (h.rooms_are k lane at) counts.0
 over_of (Some limit) k b rooms after false lane lanes h at counts = fits_so limit (open_bytes lane.put) (slice_index rooms k) b (h.rooms_are k lane at) counts.0
@@ -180,7 +181,7 @@ pub room_made : (a b : Counting) (k n : ℕ) (over : Bool) (lane : ShardHistory)
 room_made a b k n over lane was now h at counts cut = record { lane = lane; at = at; over = over; over_is = over_of a.limit k n a.rooms b.rooms over lane was h at counts; cut = cut; counts = counts }
 
 -- nothing is counted of fresh shards, nor after a mark in each
-pub counted_fresh : (limit : Option ℕ) (rooms : List ℕ) (epoch n : ℕ) (ls : List ShardHistory) → AreFull limit rooms → length ls ≡ n → n ≤ 1000 → AreFresh epoch ls → AreCounted limit rooms ls
+pub counted_fresh : (limit : Option ℕ) (rooms : List ℕ) (epoch n : ℕ) (ls : List ShardHistory) → AreUncounted limit rooms → length ls ≡ n → n ≤ 1000 → AreFresh epoch ls → AreCounted limit rooms ls
 counted_fresh None rooms epoch n ls full len few fresh = tt
 counted_fresh (Some limit) rooms epoch n ls full len few fresh = record {
   few = omega arith;
@@ -196,7 +197,7 @@ get_marked [] k l at = absurd (let none : None ≡ Some l = at in cc)
 get_marked (p ∷ ps) zero l at = (p, sym (same_Some (marked p) l at))
 get_marked (p ∷ ps) (suc k) l at = get_marked ps k l at
 
-pub counted_marked : (limit : Option ℕ) (rooms after : List ℕ) (ls now : List ShardHistory) → AreCounted limit rooms ls → AreFull limit after → now ≡ map marked ls → AreCounted limit after now
+pub counted_marked : (limit : Option ℕ) (rooms after : List ℕ) (ls now : List ShardHistory) → AreCounted limit rooms ls → AreUncounted limit after → now ≡ map marked ls → AreCounted limit after now
 counted_marked None rooms after ls now h full is = tt
 counted_marked (Some limit) rooms after ls now h full is =
     let few : length now ≤ 1000 = let len = ap length is ∙ length-map ls marked in let was = h.few in omega arith in record {

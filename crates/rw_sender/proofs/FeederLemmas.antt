@@ -20,10 +20,11 @@ use Rattle.rw_wal_format.specs.declared.tail_fault.TailFault.TheVariants.{OutOfM
 use Rattle.rw_wal_tail.specs.Fed.{Fed, size_of, is_out_of_memory}
 use Rattle.rw_wal_tail.specs.Taking.{HasTaken, HasRead, HasTakenAll, TakesNext}
 use Rattle.rw_sender.specs.Logs.{Sent, kept_sample, sent_by_fate, sent_of, with_name, named, dropped, dropped_by_fate, dropped_of, filtered, filtered_by_fate, filtered_of}
-use Rattle.rw_sender.specs.Feeders.{Sorting, IsFeeder, sent_by}
-use Rattle.rw_types.proofs.GatherLemmas.{gather-push}
+use Rattle.rw_sender.specs.Feeders.{Sorting, sent_by}
+use Rattle.rw_sender.specs.inner.Feeders.{IsFeeder}
+use Rattle.rw_types.proofs.shared.GatherLemmas.{gather-push}
 use Rattle.rw_sender.proofs.HeldLemmas.{held_more, held_placed}
-use Rattle.rw_types.proofs.TimeLemmas.{nat_cmp-apart}
+use Rattle.rw_types.proofs.shared.TimeLemmas.{nat_cmp-apart}
 
 -- the entry in hand was placed
 placed_next : (tail : Fed) (router after : Routing) (names now : FinMap nat_cmp Reason) (n m : ℕ) (ps hand : List Entry) (e : Entry) → IsFeeder tail router names n ps hand → hand ≡ e ∷ [] → m ≡ tail.given → after.cache.choice ≡ router.cache.choice

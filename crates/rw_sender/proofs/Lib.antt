@@ -1,11 +1,8 @@
-pub mod PlacementLemmas
 pub mod BelowLemmas
 pub mod CutLemmas
-pub mod ShippingLemmas
-pub mod ListingLemmas
-pub mod SpreadLemmas
 pub mod WithinLemmas
 pub mod HeldLemmas
 pub mod FeederLemmas
 pub mod SizeLemmas
 pub mod MarkingLemmas
+pub mod shared

@@ -11,9 +11,9 @@ use Rattle.rw_write_request.specs.Message.{Sample, TimeSeries, WriteRequest}
 use Rattle.rw_types.specs.LabelFields.{label_fields}
 use Rattle.rw_write_request.specs.Canon.{canon, sample_field, sample_fields, series, series_field}
 use Rattle.rw_batch.specs.Grouping.{LabelledSample, message, distinct, with_sample}
-use Rattle.rw_sender.specs.Sizes.{bytes_of, bytes_alone}
-use Rattle.rw_codes.proofs.Digits.{groups_some}
-use Rattle.rw_write_request.proofs.Spelled.{series-field-length}
+use Rattle.rw_sender.specs.Sizes.{size_of_sample, bytes_alone}
+use Rattle.rw_codes.proofs.shared.Digits.{groups_some}
+use Rattle.rw_write_request.proofs.shared.Spelled.{series-field-length}
 
 abbrev one_series : Labels → List Sample → TimeSeries
 one_series l ss = record { labels = l; samples = ss }
@@ -58,13 +58,13 @@ series_push_len l ss s =
     let now = length-append (label_fields l) (sample_fields (ss ++ s ∷ [])) in
     omega arith
 
-pub bytes_some : (l : Labels) (s : Sample) → 1 ≤ bytes_of l s
-unfolding bytes_of
+pub bytes_some : (l : Labels) (s : Sample) → 1 ≤ size_of_sample l s
+unfolding size_of_sample
 bytes_some l s = let len = series-field-length (one_series l (s ∷ [])) in omega arith
 
 -- more than the field of the sample
-bytes_hold : (l : Labels) (s : Sample) → length (sample_field s) + 2 ≤ bytes_of l s
-unfolding bytes_of series
+bytes_hold : (l : Labels) (s : Sample) → length (sample_field s) + 2 ≤ size_of_sample l s
+unfolding size_of_sample series
 bytes_hold l s =
     let len = series-field-length (one_series l (s ∷ [])) in
     let some = groups_some 9 (length (series (one_series l (s ∷ [])))) in
@@ -73,7 +73,7 @@ bytes_hold l s =
     omega arith
 
 -- one sample more in a series
-series_grows : (l m : Labels) (ss : List Sample) (s : Sample) → length (sample_field s) ≤ 22 → length (series_field (one_series l (ss ++ s ∷ []))) ≤ length (series_field (one_series l ss)) + bytes_of m s
+series_grows : (l m : Labels) (ss : List Sample) (s : Sample) → length (sample_field s) ≤ 22 → length (series_field (one_series l (ss ++ s ∷ []))) ≤ length (series_field (one_series l ss)) + size_of_sample m s
 series_grows l m ss s short =
     let was = series-field-length (one_series l ss) in
     let now = series-field-length (one_series l (ss ++ s ∷ [])) in
@@ -83,12 +83,12 @@ series_grows l m ss s short =
     omega arith
 
 -- one sample more in a message
-canon_grows : (l : Labels) (s : Sample) (gs : WriteRequest) → length (sample_field s) ≤ 22 → length (canon (with_sample l s gs)) ≤ length (canon gs) + bytes_of l s
-unfolding with_sample bytes_of
+canon_grows : (l : Labels) (s : Sample) (gs : WriteRequest) → length (sample_field s) ≤ 22 → length (canon (with_sample l s gs)) ≤ length (canon gs) + size_of_sample l s
+unfolding with_sample size_of_sample
 canon_grows l s [] short = let alone = ap length (append-nil (series_field (one_series l (s ∷ [])))) in omega arith
 canon_grows l s (g ∷ gs) short = by_labels (canon_grows l s gs short) (labels_eq l g.labels)
   where
-    by_labels : length (canon (with_sample l s gs)) ≤ length (canon gs) + bytes_of l s → (b : Bool) → length (canon (cond b (one_series g.labels (g.samples ++ s ∷ []) ∷ gs) (g ∷ with_sample l s gs))) ≤ length (canon (g ∷ gs)) + bytes_of l s
+    by_labels : length (canon (with_sample l s gs)) ≤ length (canon gs) + size_of_sample l s → (b : Bool) → length (canon (cond b (one_series g.labels (g.samples ++ s ∷ []) ∷ gs) (g ∷ with_sample l s gs))) ≤ length (canon (g ∷ gs)) + size_of_sample l s
     by_labels rest true =
         let one = series_grows g.labels l g.samples s short in
         let was = length-append (series_field g) (canon gs) in

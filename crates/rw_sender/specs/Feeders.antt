@@ -1,19 +1,16 @@
 -- How far a log is sorted.
-use Rattle.std.specs.Prelude.{◌≡◌, ℕ, ◌≤◌, ℤ, List, [], ◌∷◌, ◌++◌, length, Option, Some, None}
+use Rattle.std.specs.Prelude.{◌≡◌, ℕ, ℤ, List, [], ◌∷◌, ◌++◌, Option, Some, None}
 use Rattle.std.specs.Arc.{arc_value}
-use Rattle.std.specs.Ordering.{nat_cmp}
-use Rattle.std.specs.FinMap.{FinMap, get}
 use Rattle.rw_types.specs.declared.entry.Entry.{Entry}
 use Rattle.rw_types.specs.declared.entry.Entry.TheVariants.{Sample}
 use Rattle.rw_wal_format.specs.Pieces.{Piece}
 use Rattle.rw_ledger.specs.declared.ledger.Reason.{Reason}
 use Rattle.rw_relabel.specs.declared.choice.Choice.{Choice}
 use Rattle.rw_series_cache.specs.Fates.{Drops, fate}
-use Rattle.rw_series_cache.specs.Routing.{Routing, Knows, IsSentNext}
+use Rattle.rw_series_cache.specs.Routing.{IsSentNext}
 use Rattle.rw_series_cache.specs.declared.sample.RoutedSample.{RoutedSample}
-use Rattle.rw_wal_tail.specs.Fed.{Fed}
-pub use Rattle.rw_wal_tail.specs.Taking.{HasTaken, HasRead}
-use Rattle.rw_sender.specs.Logs.{Sent, sent_of, named, dropped, filtered}
+pub use Rattle.rw_wal_tail.specs.Taking.{HasRead}
+use Rattle.rw_sender.specs.Logs.{Sent, sent_of}
 use Rattle.rw_sender.specs.declared.feeder.Next.{Next}
 use Rattle.rw_sender.specs.declared.feeder.Next.TheVariants as next
 
@@ -24,16 +21,6 @@ pub record Sorting : Type 0 where
   pub pieces : List Piece
   pub placed : List Entry
   pub hand : List Entry
-
--- what a feeder keeps
-pub record IsFeeder (tail : Fed) (router : Routing) (names : FinMap nat_cmp Reason) (count : ℕ) (placed hand : List Entry) : Type 0 where
-  pub taken : HasTaken tail (placed ++ hand)
-  pub counted : count ≡ length placed
-  pub knows : Knows placed router.cache
-  pub names_are : names ≡ named (dropped router.cache.choice placed)
-  pub below : (p : ℕ) → count ≤ p → get names p ≡ None
-  pub filter_counted : router.filtered ≡ length (filtered router.cache.choice placed)
-  pub filter_within : router.filtered ≤ count
 
 -- what was in hand is placed
 abbrev pub HasPlaced : Sorting → Sorting → Type 0
@@ -61,10 +48,10 @@ abbrev pub sent_by : RoutedSample → Sent
 sent_by l = record { pos = l.pos; series = l.series; t = l.t; word = l.word; labels = arc_value l.labels }
 
 -- an entry is in hand, or the log has been read to its end, or to a fault
-abbrev pub Reads : Sorting → Sorting → Next → Type 0
-Reads old new (next.Entry e) = new ≡ record old { hand = e ∷ [] }
-Reads old new next.End = (new ≡ old) × HasRead old.pieces old.placed None
-Reads old new (next.Damaged f) = (new ≡ old) × HasRead old.pieces old.placed (Some f)
+abbrev pub ReadsNext : Sorting → Sorting → Next → Type 0
+ReadsNext old new (next.Entry e) = new ≡ record old { hand = e ∷ [] }
+ReadsNext old new next.End = (new ≡ old) × HasRead old.pieces old.placed None
+ReadsNext old new (next.Damaged f) = (new ≡ old) × HasRead old.pieces old.placed (Some f)
 
 -- an entry was placed that is not to be sent, or gives a sample that is
 abbrev pub Judges : Sorting → Sorting → Entry → Option RoutedSample → Type 0

@@ -8,7 +8,6 @@ pub use Rattle.rw_worker.specs.Steps
 pub use Rattle.rw_worker.specs.Pauses
 pub use Rattle.rw_worker.specs.Setups
 pub use Rattle.rw_worker.specs.Report
-pub use Rattle.rw_fleet.specs.Positions
 pub use Rattle.rw_fleet.specs.ShardHistories
 pub use Rattle.rw_fleet.specs.Work
 pub use Rattle.rw_fleet.specs.Fleets
@@ -23,3 +22,4 @@ pub mod Feeders
 pub mod Sizes
 pub mod Marking
 pub mod Rooms
+pub mod inner

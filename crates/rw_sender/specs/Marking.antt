@@ -2,17 +2,17 @@
 use Rattle.std.specs.Prelude.{◌≡◌, ◌⊎◌, ℕ, ◌+◌, ◌-◌, ◌≤◌, List, [], ◌∷◌, ◌++◌, Option, Some, None, Bool, true, false, not, nat_le, ⊤}
 use Rattle.rw_plain_queue.specs.declared.item.Item.{Item}
 use Rattle.rw_plain_queue.specs.declared.item.Item.TheVariants.{Sample, Flush, End}
-use Rattle.rw_sender.specs.Sizes.{bytes_of}
+use Rattle.rw_sender.specs.Sizes.{size_of_sample}
 
 abbrev pub item_bytes : Item → ℕ
-item_bytes (Sample place t word labels) = bytes_of labels.value (word, t)
+item_bytes (Sample place t word labels) = size_of_sample labels.value (word, t)
 item_bytes Flush = 0
 item_bytes (End kind) = 0
 
 -- what the samples after the last mark count, if this much was counted before these items
 abbrev pub bytes_after : ℕ → List Item → ℕ
 bytes_after n [] = n
-bytes_after n (Sample place t word labels ∷ xs) = bytes_after (n + bytes_of labels.value (word, t)) xs
+bytes_after n (Sample place t word labels ∷ xs) = bytes_after (n + size_of_sample labels.value (word, t)) xs
 bytes_after n (Flush ∷ xs) = bytes_after 0 xs
 bytes_after n (End kind ∷ xs) = bytes_after 0 xs
 
@@ -20,21 +20,17 @@ bytes_after n (End kind ∷ xs) = bytes_after 0 xs
 abbrev pub open_bytes : List Item → ℕ
 open_bytes items = bytes_after 0 items
 
--- what a queue may still be put before a mark
-abbrev pub room_in : ℕ → List Item → ℕ
-room_in limit items = limit - open_bytes items
-
-abbrev pub AreSamples : List Item → Type 0
-AreSamples [] = ⊤
-AreSamples (Sample place t word labels ∷ xs) = AreSamples xs
-AreSamples (Flush ∷ xs) = ⊥
-AreSamples (End kind ∷ xs) = ⊥
+abbrev pub AreOnlySamples : List Item → Type 0
+AreOnlySamples [] = ⊤
+AreOnlySamples (Sample place t word labels ∷ xs) = AreOnlySamples xs
+AreOnlySamples (Flush ∷ xs) = ⊥
+AreOnlySamples (End kind ∷ xs) = ⊥
 
 -- a sample that counts this much does not fit into what is left of the limit after those counted;
 -- without a limit each one fits
-abbrev pub is_over : Option ℕ → ℕ → ℕ → Bool
-is_over None counted bytes = false
-is_over (Some limit) counted bytes = not (nat_le bytes (limit - counted))
+abbrev pub is_over_mark : Option ℕ → ℕ → ℕ → Bool
+is_over_mark None counted bytes = false
+is_over_mark (Some limit) counted bytes = not (nat_le bytes (limit - counted))
 
 -- an item, after a Flush if that is asked for
 abbrev pub behind_cut : Bool → Item → List Item
@@ -51,16 +47,16 @@ counted_with false counted bytes = counted + bytes
 abbrev pub with_cuts : Option ℕ → ℕ → List Item → List Item
 with_cuts limit counted [] = []
 with_cuts limit counted (x ∷ xs) =
-    let over = is_over limit counted (item_bytes x) in
+    let over = is_over_mark limit counted (item_bytes x) in
     behind_cut over x ++ with_cuts limit (counted_with over counted (item_bytes x)) xs
 
 -- each sample is the first one after a mark, or what is counted with it is within the limit
 abbrev pub WithinFrom : ℕ → ℕ → List Item → Type 0
 WithinFrom limit n [] = ⊤
 WithinFrom limit n (Sample place t word labels ∷ xs) =
-    ((n ≡ 0) ⊎ (n + bytes_of labels.value (word, t) ≤ limit)) × WithinFrom limit (n + bytes_of labels.value (word, t)) xs
+    ((n ≡ 0) ⊎ (n + size_of_sample labels.value (word, t) ≤ limit)) × WithinFrom limit (n + size_of_sample labels.value (word, t)) xs
 WithinFrom limit n (Flush ∷ xs) = WithinFrom limit 0 xs
 WithinFrom limit n (End kind ∷ xs) = WithinFrom limit 0 xs
 
-abbrev pub IsWithin : ℕ → List Item → Type 0
-IsWithin limit items = WithinFrom limit 0 items
+abbrev pub StaysWithinLimit : ℕ → List Item → Type 0
+StaysWithinLimit limit items = WithinFrom limit 0 items

@@ -12,19 +12,19 @@ abbrev pub as_sent : Placed → Sent
 as_sent p = record { pos = p.place.pos; series = p.place.series; t = p.t; word = p.word; labels = p.labels }
 
 -- the samples that a shard was put
-abbrev pub put_in : ShardHistory → List Sent
-put_in lane = map as_sent (samples_in lane.put)
+abbrev pub samples_put : ShardHistory → List Sent
+samples_put lane = map as_sent (samples_in lane.put)
 
 -- the same shard with the samples that it had, and maybe more after them
-abbrev pub IsKept : ShardHistory → ShardHistory → Type 0
-IsKept old new = (new.setup ≡ old.setup) × (more : List Placed) × (samples_in new.put ≡ samples_in old.put ++ more)
+abbrev pub IsExtended : ShardHistory → ShardHistory → Type 0
+IsExtended old new = (new.setup ≡ old.setup) × (more : List Placed) × (samples_in new.put ≡ samples_in old.put ++ more)
 
 -- the same for each of the shards: what was put is not taken back
 abbrev pub AreKept : List ShardHistory → List ShardHistory → Type 0
 AreKept [] [] = ⊤
 AreKept [] (q ∷ qs) = ⊥
 AreKept (p ∷ ps) [] = ⊥
-AreKept (p ∷ ps) (q ∷ qs) = IsKept p q × AreKept ps qs
+AreKept (p ∷ ps) (q ∷ qs) = IsExtended p q × AreKept ps qs
 
 -- the shard of a series, among this many
 abbrev pub shard_of : ℕ → ℕ → ℕ
@@ -35,7 +35,7 @@ of_shard shards k samples = filter (λ s. shard_of shards s.series == k) samples
 
 -- the shards of one epoch were put these samples: each shard those of its series, in this order
 pub record IsDealt (epoch : ℕ) (lanes : List ShardHistory) (samples : List Sent) : Type 0 where
-  pub each : (k : ℕ) (l : ShardHistory) → slice_get lanes k ≡ Some l → (l.setup.queue.epoch ≡ epoch) × (l.setup.queue.shard ≡ k) × (put_in l ≡ of_shard (length lanes) k samples)
+  pub each : (k : ℕ) (l : ShardHistory) → slice_get lanes k ≡ Some l → (l.setup.queue.epoch ≡ epoch) × (l.setup.queue.shard ≡ k) × (samples_put l ≡ of_shard (length lanes) k samples)
   pub none : lanes ≡ [] → samples ≡ []
 
 -- the shards of these epochs were put these samples, one epoch after the other
@@ -43,9 +43,9 @@ abbrev pub Places : ℕ → List (List ShardHistory) → List Sent → Type 0
 Places epoch [] samples = samples ≡ []
 Places epoch (lanes ∷ later) samples = (first : List Sent) × (rest : List Sent) × (samples ≡ first ++ rest) × IsDealt epoch lanes first × Places (suc epoch) later rest
 
-abbrev pub joined : List (List ShardHistory) → List ShardHistory
-joined [] = []
-joined (lanes ∷ later) = lanes ++ joined later
+abbrev pub joined_epochs : List (List ShardHistory) → List ShardHistory
+joined_epochs [] = []
+joined_epochs (lanes ∷ later) = lanes ++ joined_epochs later
 
 -- an epoch has 1 to 1000 shards
 abbrev pub IsShardCount : ℕ → Type 0
@@ -59,7 +59,7 @@ AreTurned (lanes ∷ later) = IsShardCount (length lanes) × AreEndedBy Reshard 
 -- the shards that ended and those of this epoch were put these samples
 pub record IsPlacing (epoch : ℕ) (ended : List ShardHistory) (current : List ShardHistory) (samples : List Sent) : Type 0 where
   pub epochs : List (List ShardHistory)
-  pub ended_is : ended ≡ joined epochs
+  pub ended_is : ended ≡ joined_epochs epochs
   pub numbered : epoch ≡ length epochs
   pub turned : AreTurned epochs
   pub before : List Sent
@@ -70,4 +70,4 @@ pub record IsPlacing (epoch : ℕ) (ended : List ShardHistory) (current : List S
 
 -- the shards of all epochs were put these samples
 abbrev pub ArePlaced : List ShardHistory → List Sent → Type 0
-ArePlaced lanes samples = (epochs : List (List ShardHistory)) × (lanes ≡ joined epochs) × Places 0 epochs samples
+ArePlaced lanes samples = (epochs : List (List ShardHistory)) × (lanes ≡ joined_epochs epochs) × Places 0 epochs samples

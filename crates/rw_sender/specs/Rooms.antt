@@ -1,19 +1,15 @@
 -- How many bytes each shard may still be put before a mark.
-use Rattle.std.specs.Prelude.{◌≡◌, ◌≢◌, ℕ, ◌-◌, ◌<◌, ◌≤◌, List, length, slice_index, Option, Some, None, Bool, true, false, ⊤}
+use Rattle.std.specs.Prelude.{◌≡◌, ◌≢◌, ℕ, ◌-◌, ◌<◌, ◌≤◌, List, slice_index, Option, Some, None, Bool, true, false, ⊤}
 
 -- the limit, and the room of each number that a shard can have
 pub record Counting : Type 0 where
   pub limit : Option ℕ
   pub rooms : List ℕ
 
-abbrev pub HasRooms : Option ℕ → List ℕ → Type 0
-HasRooms None rooms = ⊤
-HasRooms (Some limit) rooms = length rooms ≡ 1000
-
 -- nothing is counted
-abbrev pub AreFull : Option ℕ → List ℕ → Type 0
-AreFull None rooms = ⊤
-AreFull (Some limit) rooms = (k : ℕ) → k < 1000 → slice_index rooms k ≡ limit
+abbrev pub AreUncounted : Option ℕ → List ℕ → Type 0
+AreUncounted None rooms = ⊤
+AreUncounted (Some limit) rooms = (k : ℕ) → k < 1000 → slice_index rooms k ≡ limit
 
 -- this shard has this room now, and the others have what they had
 abbrev pub IsRoomNow : List ℕ → List ℕ → ℕ → ℕ → Type 0

@@ -1,28 +1,21 @@
 -- What contracts see of a shipper.
-use Rattle.std.specs.Prelude.{◌≡◌, ◌⊎◌, List, [], ◌∷◌, ◌++◌, length, map, Option, Some, None, Result, Ok, Err, ⊤, ℕ}
+use Rattle.std.specs.Prelude.{◌≡◌, ◌⊎◌, List, [], ◌∷◌, ◌++◌, length, map, Option, Some, None, Result, Ok, Err, ℕ}
 use Rattle.rw_worker.specs.Transcript.{Exchange}
-use Rattle.rw_fleet.specs.ShardHistories.{AreFresh, AreSetUp, marks_of}
+use Rattle.rw_fleet.specs.ShardHistories.{AreFresh, AreSetUp}
 use Rattle.rw_plain_queue.specs.declared.item.Kind.TheVariants.{Reshard}
 use Rattle.rw_fleet.specs.Work.{lane_of, finished_of, AreResolved, AreWorked}
 use Rattle.rw_fleet.specs.Fleets.{Shards, AreAll, EndBy}
 use Rattle.rw_fleet.specs.declared.running.Fault.{Fault}
 use Rattle.rw_fleet.specs.declared.running.Fault.TheVariants as queue_fault
-use Rattle.rw_types.specs.declared.entry.Entry.{Entry}
 use Rattle.rw_types.specs.Beginnings.{Begins}
 use Rattle.rw_wal_format.specs.Pieces.{Piece, entries}
-use Rattle.rw_wal_format.specs.declared.tail_fault.TailFault.{TailFault}
 use Rattle.rw_ledger.specs.Names.{Named}
 use Rattle.rw_shard_core.specs.declared.outcome.Outcome.{Outcome}
 use Rattle.rw_shard_core.specs.declared.outcome.Outcome.TheVariants as outcome
 use Rattle.rw_fleet.specs.declared.joined.StoppedShard.{StoppedShard}
 use Rattle.rw_sender.specs.Feeders.{Sorting, HasRead}
 use Rattle.rw_sender.specs.Logs.{sent, named, dropped, filtered}
-use Rattle.rw_sender.specs.Rooms.{Counting}
-use Rattle.rw_sender.specs.Cutting.{AreCounted}
-use Rattle.rw_sender.specs.Placement.{IsShardCount, IsPlacing, ArePlaced, AreKept}
-use Rattle.rw_sender.specs.declared.place.Progress.{Progress}
-use Rattle.rw_sender.specs.declared.place.Progress.TheVariants.{Placed, End}
-use Rattle.rw_sender.specs.declared.place.Progress.TheVariants as progress
+use Rattle.rw_sender.specs.Placement.{IsPlacing, ArePlaced}
 use Rattle.rw_sender.specs.declared.report.Report.{Report}
 use Rattle.rw_sender.specs.Reports.{part_of, abandoned_in}
 use Rattle.rw_sender.specs.declared.shipper.FeedFault.{FeedFault}
@@ -40,52 +33,19 @@ pub record Shipping (T : Type 0) : Type 0 where
 abbrev pub PlacesAll : {T : Type 0} → Sorting → Shards T → Type 0
 PlacesAll log fleet = IsPlacing fleet.epoch (map lane_of fleet.ended) fleet.current (sent log.choice log.placed)
 
--- while it has not failed no entry waits, and there are shards
-abbrev pub IsReady : {T : Type 0} → Sorting → Shards T → Option Fault → Type 0
-IsReady log fleet None = (log.hand ≡ []) × IsShardCount (length fleet.current)
-IsReady log fleet (Some f) = ⊤
-
--- while it has not failed what the queues were put since their last marks is counted
-abbrev pub IsReckoned : {T : Type 0} → Counting → Shards T → Option Fault → Type 0
-IsReckoned cuts fleet None = AreCounted cuts.limit cuts.rooms fleet.current
-IsReckoned cuts fleet (Some f) = ⊤
-
--- while it has not failed all entries were placed, and this is the fault after them
-abbrev pub IsRead : Sorting → Option Fault → Option TailFault → Type 0
-IsRead log None damage = HasRead log.pieces log.placed damage
-IsRead log (Some f) damage = ⊤
-
 -- Each shard of the epoch has ended, by an End that asks for all. The next epoch has a queue only
 -- if all that was put is resolved, and nothing was put into those that it has.
 abbrev pub HasCompared : {T : Type 0} → Shards T → Shards T → Type 0
 HasCompared old new = AreAll old new.ended × EndBy Reshard old (map finished_of new.ended) × ((new.current ≡ []) ⊎ (AreResolved new.ended × AreFresh new.epoch new.current))
 
--- more entries may have been placed, and their samples put: the rest is as it was, and without a
--- limit no mark was put
-pub record GoesOn {T : Type 0} (limit : Option ℕ) (old new : Sorting) (was now : Shards T) : Type 0 where
-  pub choice : new.choice ≡ old.choice
-  pub pieces : new.pieces ≡ old.pieces
-  pub more : List Entry
-  pub grown : new.placed ≡ old.placed ++ more
-  pub fleet : now ≡ record was { current = now.current }
-  pub len : length now.current ≡ length was.current
-  pub kept : AreKept was.current now.current
-  pub marks : limit ≡ None → map marks_of now.current ≡ map marks_of was.current
-
--- what one step of the feeder resulted in
-abbrev pub Steps : Sorting → Progress → Type 0
-Steps log Placed = log.hand ≡ []
-Steps log End = (log.hand ≡ []) × HasRead log.pieces log.placed None
-Steps log (progress.Damaged f) = (log.hand ≡ []) × HasRead log.pieces log.placed (Some f)
-
-abbrev pub answer_to : Fault → FeedFault
-answer_to queue_fault.OutOfMemory = OutOfMemory
-answer_to queue_fault.Gone = Gone
+abbrev pub feed_fault_of : Fault → FeedFault
+feed_fault_of queue_fault.OutOfMemory = OutOfMemory
+feed_fault_of queue_fault.Gone = Gone
 
 -- it has failed, if the answer says so
 abbrev pub FailsBy : Option Fault → FeedFault → Type 0
 FailsBy None e = ⊥
-FailsBy (Some f) e = e ≡ answer_to f
+FailsBy (Some f) e = e ≡ feed_fault_of f
 
 -- what a feed that met no earlier fault answers
 abbrev pub Feeds : {T : Type 0} → Shipping T → Result (Unit {0}) FeedFault → Type 0
@@ -102,10 +62,10 @@ Joins old new piece (Err Gone) = new.pieces ≡ old.pieces ++ piece ∷ []
 Joins old new piece (Err OutOfMemory) = (new.pieces ≡ old.pieces) ⊎ (new.pieces ≡ old.pieces ++ piece ∷ [])
 
 -- how the work has ended: all is resolved, or these samples are not
-abbrev pub Ends : {T : Type 0} → Shipping T → List (StoppedShard T) → Outcome → Type 0
-Ends s js (outcome.Complete end) = (end ≡ length s.log.placed) × HasRead s.log.pieces s.log.placed None × AreResolved js
-Ends s js (outcome.Damaged f) = HasRead s.log.pieces s.log.placed (Some f) × AreResolved js
-Ends s js (outcome.Abandoned placed samples) = (placed ≡ length s.log.placed) × (samples.items ≡ abandoned_in js)
+abbrev pub HasEndedAs : {T : Type 0} → Shipping T → List (StoppedShard T) → Outcome → Type 0
+HasEndedAs s js (outcome.Complete end) = (end ≡ length s.log.placed) × HasRead s.log.pieces s.log.placed None × AreResolved js
+HasEndedAs s js (outcome.Damaged f) = HasRead s.log.pieces s.log.placed (Some f) × AreResolved js
+HasEndedAs s js (outcome.Abandoned placed samples) = (placed ≡ length s.log.placed) × (samples.items ≡ abandoned_in js)
 
 -- The entries placed are the first ones of those fed. The shards of all epochs were put their
 -- samples, and did what their workers report; the other samples are named, or counted.
@@ -121,4 +81,4 @@ pub record HasStopped {T : Type 0} (tells : T → Type 0) (seen : T → List Exc
   pub names : own.names ≡ named (dropped s.log.choice s.log.placed)
   pub filter_count : r.filtered ≡ length (filtered s.log.choice s.log.placed)
   pub read : Begins s.log.placed (entries s.log.pieces)
-  pub ends : Ends s joined r.outcome
+  pub ends : HasEndedAs s joined r.outcome

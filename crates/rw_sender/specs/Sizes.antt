@@ -6,8 +6,8 @@ use Rattle.rw_write_request.specs.Message.{Sample}
 use Rattle.rw_batch.specs.Grouping.{LabelledSample}
 
 -- a sample counts as many bytes as a message of it alone takes
-unfoldable pub bytes_of : Labels → Sample → ℕ
-bytes_of labels sample = length (series_field (record { labels = labels; samples = sample ∷ [] }))
+unfoldable pub size_of_sample : Labels → Sample → ℕ
+size_of_sample labels sample = length (series_field (record { labels = labels; samples = sample ∷ [] }))
 
 abbrev pub bytes_alone : LabelledSample → ℕ
-bytes_alone x = bytes_of x.labels x.sample
+bytes_alone x = size_of_sample x.labels x.sample

@@ -6,11 +6,11 @@ use Rattle.std.specs.List.{Contains}
 use Rattle.rw_types.specs.Rising.{Rises}
 use Rattle.rw_fleet.specs.ShardHistories.{ShardHistory}
 use Rattle.rw_sender.specs.Logs.{Sent}
-use Rattle.rw_sender.specs.Placement.{put_in, shard_of}
+use Rattle.rw_sender.specs.Placement.{samples_put, shard_of}
 
 -- the first has the lower position
-abbrev pub StandsBefore : Sent → Sent → Type 0
-StandsBefore x y = x.pos < y.pos
+abbrev pub IsSentBefore : Sent → Sent → Type 0
+IsSentBefore x y = x.pos < y.pos
 
 -- the shard numbered k of the epoch numbered e, which has these shards
 abbrev pub IsShard : List (List ShardHistory) → ℕ → ℕ → List ShardHistory → ShardHistory → Type 0
@@ -18,8 +18,8 @@ IsShard epochs e k lanes l = (slice_get epochs e ≡ Some lanes) × (slice_get l
 
 pub record IsSpread (epochs : List (List ShardHistory)) (samples : List Sent) : Type 0 where
   pub numbered : (e k : ℕ) (lanes : List ShardHistory) (l : ShardHistory) → IsShard epochs e k lanes l → (l.setup.queue.epoch ≡ e) × (l.setup.queue.shard ≡ k)
-  pub rises : (e k : ℕ) (lanes : List ShardHistory) (l : ShardHistory) → IsShard epochs e k lanes l → Rises StandsBefore (put_in l)
-  pub each : (x : Sent) → Contains samples x → (e : ℕ) × (k : ℕ) × (lanes : List ShardHistory) × (l : ShardHistory) × IsShard epochs e k lanes l × Contains (put_in l) x
-  pub no_other : (e k : ℕ) (lanes : List ShardHistory) (l : ShardHistory) (x : Sent) → IsShard epochs e k lanes l → Contains (put_in l) x → Contains samples x × (k ≡ shard_of (length lanes) x.series)
-  pub once : (e j k : ℕ) (lanes : List ShardHistory) (l m : ShardHistory) (x y : Sent) → IsShard epochs e j lanes l → IsShard epochs e k lanes m → Contains (put_in l) x → Contains (put_in m) y → x.pos ≡ y.pos → j ≡ k
-  pub later : (e f j k : ℕ) (lanes others : List ShardHistory) (l m : ShardHistory) (x y : Sent) → IsShard epochs e j lanes l → IsShard epochs f k others m → Contains (put_in l) x → Contains (put_in m) y → e < f → x.pos < y.pos
+  pub rises : (e k : ℕ) (lanes : List ShardHistory) (l : ShardHistory) → IsShard epochs e k lanes l → Rises IsSentBefore (samples_put l)
+  pub each : (x : Sent) → Contains samples x → (e : ℕ) × (k : ℕ) × (lanes : List ShardHistory) × (l : ShardHistory) × IsShard epochs e k lanes l × Contains (samples_put l) x
+  pub no_other : (e k : ℕ) (lanes : List ShardHistory) (l : ShardHistory) (x : Sent) → IsShard epochs e k lanes l → Contains (samples_put l) x → Contains samples x × (k ≡ shard_of (length lanes) x.series)
+  pub once : (e j k : ℕ) (lanes : List ShardHistory) (l m : ShardHistory) (x y : Sent) → IsShard epochs e j lanes l → IsShard epochs e k lanes m → Contains (samples_put l) x → Contains (samples_put m) y → x.pos ≡ y.pos → j ≡ k
+  pub later : (e f j k : ℕ) (lanes others : List ShardHistory) (l m : ShardHistory) (x y : Sent) → IsShard epochs e j lanes l → IsShard epochs f k others m → Contains (samples_put l) x → Contains (samples_put m) y → e < f → x.pos < y.pos

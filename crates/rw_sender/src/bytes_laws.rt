@@ -7,7 +7,7 @@ ghost use Rattle.rw_plain_queue.specs.declared.item.Item.TheVariants.{Flush};
 ghost use Rattle.rw_batch.specs.Grouping.{LabelledSample, message};
 ghost use Rattle.rw_write_request.specs.Canon.{canon};
 ghost use Rattle.rw_sender.specs.Sizes.{bytes_alone};
-ghost use Rattle.rw_sender.specs.Marking.{AreSamples, IsWithin, open_bytes, with_cuts};
+ghost use Rattle.rw_sender.specs.Marking.{AreOnlySamples, StaysWithinLimit, open_bytes, with_cuts};
 
 /// Law: the body of some samples is no longer than they count together.
 pub fn body_within_its_count()
@@ -20,12 +20,13 @@ pub fn body_within_its_count()
 /// Law: a queue whose stretches between marks are within a limit stays so with more samples that
 /// are cut by it.
 pub fn cuts_keep_within()
-    ensures { (limit : ℕ) (items more : List Item) → IsWithin limit items → AreSamples more
-        → IsWithin limit (items ++ with_cuts (Some limit) (open_bytes items) more) }
+    ensures { (limit : ℕ) (items more : List Item) → StaysWithinLimit limit items
+        → AreOnlySamples more
+        → StaysWithinLimit limit (items ++ with_cuts (Some limit) (open_bytes items) more) }
 {}
 
 /// Law: the same with one mark more.
 pub fn marks_keep_within()
-    ensures { (limit : ℕ) (items : List Item) → IsWithin limit items
-        → IsWithin limit (items ++ Flush ∷ []) }
+    ensures { (limit : ℕ) (items : List Item) → StaysWithinLimit limit items
+        → StaysWithinLimit limit (items ++ Flush ∷ []) }
 {}

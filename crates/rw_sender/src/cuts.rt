@@ -1,8 +1,8 @@
 //! The bytes that each shard may still be put before a mark.
 
 ghost use Rattle.std.specs.Prelude.{◌≡◌, ◌+◌, ◌-◌, ◌<◌, ◌≤◌, ◌^◌, IfOk, IfSome, IfNone, None, Some, slice_index, EachIndex};
-ghost use Rattle.rw_sender.specs.Sizes.{bytes_of};
-ghost use Rattle.rw_sender.specs.Rooms.{AreFull, Counts};
+ghost use Rattle.rw_sender.specs.Sizes.{size_of_sample};
+ghost use Rattle.rw_sender.specs.Rooms.{AreUncounted, Counts};
 
 use rw_types::{LabelSet, Word};
 use rw_write_request::series_field_len;
@@ -14,18 +14,18 @@ const MAX_SHARDS: usize = 1000;
 
 /// Returns how many bytes a message of a sample alone takes, or `None` if the number does not fit
 /// 64 bits.
-#[tactic(auto, unfolding(crate::specs::Sizes::bytes_of))]
+#[tactic(auto, unfolding(crate::specs::Sizes::size_of_sample))]
 fn len_alone(labels: &LabelSet, word: Word, t: i64) -> Option<usize>
-    ensures some { IfSome result (λ n. n ≡ bytes_of labels.now (word, t)) }
-    ensures none { IfNone result (2 ^ 64 ≤ bytes_of labels.now (word, t)) }
+    ensures some { IfSome result (λ n. n ≡ size_of_sample labels.now (word, t)) }
+    ensures none { IfNone result (2 ^ 64 ≤ size_of_sample labels.now (word, t)) }
 {
     series_field_len(labels.as_slice(), &[(word, t)])
 }
 
 /// Returns what is left of a room after a sample, or `None` if the sample does not fit.
 fn left_of(room: u64, labels: &LabelSet, word: Word, t: i64) -> Option<u64>
-    ensures fits { IfSome result (λ left. room ≡ bytes_of labels.now (word, t) + left) }
-    ensures over { IfNone result (room < bytes_of labels.now (word, t)) }
+    ensures fits { IfSome result (λ left. room ≡ size_of_sample labels.now (word, t) + left) }
+    ensures over { IfNone result (room < size_of_sample labels.now (word, t)) }
 {
     match len_alone(labels, word, t) {
         Some(bytes) => room.checked_sub(bytes as u64),
@@ -52,7 +52,8 @@ pub struct Cuts {
 }
 
 impl Model for Cuts {
-    ghost use Rattle.rw_sender.specs.Rooms.{Counting, HasRooms};
+    ghost use Rattle.rw_sender.specs.Rooms.{Counting};
+    ghost use Rattle.rw_sender.specs.inner.Rooms.{HasRooms};
 
     ghost Value = { Counting };
 
@@ -65,7 +66,7 @@ impl Cuts {
     /// Returns counts that are all 0. Without a limit this takes no memory.
     pub fn within(alloc: Global, limit: Option<u64>) -> Result<Cuts, AllocError>
         ensures limit { IfOk result (λ c. c.limit ≡ limit) }
-        ensures full { IfOk result (λ c. AreFull c.limit c.rooms) }
+        ensures full { IfOk result (λ c. AreUncounted c.limit c.rooms) }
     {
         let Some(most) = limit else {
             return Ok(Cuts {
@@ -81,7 +82,7 @@ impl Cuts {
     /// Counts nothing for any shard, as after a mark in each queue.
     pub fn reset(&mut self)
         ensures limit { self.new.limit ≡ self.old.limit }
-        ensures full { AreFull self.new.limit self.new.rooms }
+        ensures full { AreUncounted self.new.limit self.new.rooms }
     {
         if let Some(limit) = self.limit {
             fill(&mut self.rooms, limit);
@@ -93,7 +94,7 @@ impl Cuts {
     pub fn count(&mut self, shard: usize, labels: &LabelSet, word: Word, t: i64) -> bool
         requires { shard < MAX_SHARDS }
         ensures limit { self.new.limit ≡ self.old.limit }
-        ensures counts { Counts self.old.limit shard (bytes_of labels.now (word, t))
+        ensures counts { Counts self.old.limit shard (size_of_sample labels.now (word, t))
             self.old.rooms self.new.rooms result }
     {
         let Some(limit) = self.limit else {

@@ -7,7 +7,7 @@ ghost use Rattle.rw_wal_format.specs.Pieces.{entries};
 ghost use Rattle.rw_wal_tail.specs.Fed.{piece_of, size_of};
 ghost use Rattle.rw_series_cache.specs.Routing.{TakesMemory};
 ghost use Rattle.rw_sender.specs.Logs.{named, dropped, filtered};
-ghost use Rattle.rw_sender.specs.Feeders.{Reads, IsDropped, IsDroppedSample, IsToBeSent, Judges, HasPlaced};
+ghost use Rattle.rw_sender.specs.Feeders.{ReadsNext, IsDropped, IsDroppedSample, IsToBeSent, Judges, HasPlaced};
 
 use rw_history::History;
 use rw_ledger::{Ledger, Reason};
@@ -48,7 +48,8 @@ pub struct Feeder {
 
 impl Model for Feeder {
     ghost use Rattle.std.specs.Prelude.{take, drop};
-    ghost use Rattle.rw_sender.specs.Feeders.{Sorting, IsFeeder};
+    ghost use Rattle.rw_sender.specs.Feeders.{Sorting};
+    ghost use Rattle.rw_sender.specs.inner.Feeders.{IsFeeder};
 
     ghost Value = { Sorting };
 
@@ -90,7 +91,7 @@ impl Feeder {
     /// Returns the next entry.
     pub fn read(&mut self) -> Result<Next, AllocError>
         requires { self.old.hand ≡ [] }
-        ensures ok { IfOk result (λ next. Reads self.old self.new next) }
+        ensures ok { IfOk result (λ next. ReadsNext self.old self.new next) }
         ensures err { OnErr result (self.new ≡ self.old) }
         ensures certain { OnErr result ((length self.old.placed < length (entries self.old.pieces))
             ⊎ (2 ^ 60 ≤ size_of self.old.pieces)) }

@@ -3,13 +3,13 @@
 ghost use Rattle.std.specs.Prelude.{◌≡◌, ℕ, List, Some, map};
 ghost use Rattle.rw_plain_queue.specs.declared.item.Item.{Item};
 ghost use Rattle.rw_worker.specs.Cut.{cut};
-ghost use Rattle.rw_sender.specs.Marking.{IsWithin};
+ghost use Rattle.rw_sender.specs.Marking.{StaysWithinLimit};
 ghost use Rattle.rw_types.specs.declared.entry.Entry.{Entry};
 ghost use Rattle.rw_relabel.specs.declared.choice.Choice.{Choice};
 ghost use Rattle.rw_fleet.specs.ShardHistories.{ShardHistory, AreFresh, marked};
 ghost use Rattle.rw_sender.specs.Logs.{sent};
 ghost use Rattle.rw_sender.specs.Cutting.{AreCutBy, AreWithin, IsCutShort};
-ghost use Rattle.rw_sender.specs.Placement.{ArePlaced, joined};
+ghost use Rattle.rw_sender.specs.Placement.{ArePlaced, joined_epochs};
 ghost use Rattle.rw_sender.specs.Spread.{IsSpread};
 
 /// Law: each sample of a log that is to be sent went to one shard, that of its series in its epoch,
@@ -17,7 +17,7 @@ ghost use Rattle.rw_sender.specs.Spread.{IsSpread};
 pub fn samples_are_spread()
     ensures { (lanes : List ShardHistory) (choice : Choice) (entries : List Entry)
         → ArePlaced lanes (sent choice entries)
-        → (epochs : List (List ShardHistory)) × (lanes ≡ joined epochs)
+        → (epochs : List (List ShardHistory)) × (lanes ≡ joined_epochs epochs)
         × IsSpread epochs (sent choice entries) }
 {}
 
@@ -38,7 +38,7 @@ pub fn queues_stay_within()
 /// Law: each batch that a worker cuts out of such a queue, by number of samples and at marks, has a
 /// body within the limit, or one sample.
 pub fn batches_are_short()
-    ensures { (limit batch : ℕ) (items : List Item) → IsWithin limit items
+    ensures { (limit batch : ℕ) (items : List Item) → StaysWithinLimit limit items
         → IsCutShort limit (cut batch items) }
 {
     crate::body_within_its_count();

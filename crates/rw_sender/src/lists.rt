@@ -3,7 +3,7 @@
 ghost use Rattle.std.specs.Prelude.{◌≡◌, ◌+◌, ◌*◌, ◌≤◌, ℕ, List, ◌∷◌, [], length, IfOk, OnOk, OnErr};
 ghost use Rattle.rw_fleet.specs.ShardHistories.{AreFresh};
 ghost use Rattle.rw_fleet.specs.Work.{AreResolved};
-ghost use Rattle.rw_sender.specs.Reports.{HasListed, HasRoom, HasSpace, IsRoomFor, ListsAfter};
+ghost use Rattle.rw_sender.specs.inner.Reports.{HasListed, HasRoom, HasSpace, IsRoomFor, ListsAfter};
 
 use rw_fleet::{Connect, Finished, Resolution, ShardSet, StoppedShard};
 use rw_ledger::Ledger;

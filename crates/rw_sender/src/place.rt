@@ -2,11 +2,12 @@
 
 ghost use Rattle.std.specs.Prelude.{◌≡◌, ◌<◌, ◌∷◌, [], length, IfOk, OnOk, None};
 ghost use Rattle.rw_sender.specs.Feeders.{HasRead};
-ghost use Rattle.rw_sender.specs.Sizes.{bytes_of};
+ghost use Rattle.rw_sender.specs.Sizes.{size_of_sample};
 ghost use Rattle.std.specs.Arc.{arc_value};
 ghost use Rattle.rw_fleet.specs.ShardHistories.{AreSame};
-ghost use Rattle.rw_sender.specs.Cutting.{AreCounted, GoesCut, HasRoomMade};
-ghost use Rattle.rw_sender.specs.Shipping.{GoesOn, PlacesAll, Steps};
+ghost use Rattle.rw_sender.specs.inner.Cutting.{AreCounted, GoesCut, HasRoomMade};
+ghost use Rattle.rw_sender.specs.Shipping.{PlacesAll};
+ghost use Rattle.rw_sender.specs.inner.Shipping.{GoesOn, Steps};
 
 use crate::cuts::Cuts;
 use crate::feeder::{Feeder, Next};
@@ -44,7 +45,7 @@ fn make_room<C: Connect + Drop, R: Wait>(
     ensures len { length fleet.new.current ≡ length fleet.old.current }
     ensures none { cuts.old.limit ≡ None → fleet.new ≡ fleet.old }
     ensures ok { OnOk result (HasRoomMade shard
-        (bytes_of (arc_value sample.now.labels) (sample.now.word, sample.now.t))
+        (size_of_sample (arc_value sample.now.labels) (sample.now.word, sample.now.t))
         cuts.old cuts.new fleet.old.current fleet.new.current) }
 {
     if cuts.count(shard, &sample.labels, sample.word, sample.t) {

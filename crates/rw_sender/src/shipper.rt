@@ -12,8 +12,9 @@ ghost use Rattle.rw_sender.specs.Logs.{named, dropped, filtered};
 ghost use Rattle.rw_shard_core.specs.Configs.{choice_of};
 ghost use Rattle.rw_sender.specs.Cutting.{AreCutBy};
 ghost use Rattle.rw_sender.specs.Placement.{AreKept};
-ghost use Rattle.rw_sender.specs.Reports.{IsAbandoned, IsAbandonedAt, ListsCut, end_of, kind_of};
-ghost use Rattle.rw_sender.specs.Shipping.{answer_to, FailsBy, Feeds, Joins, HasCompared, HasStopped, PlacesAll};
+ghost use Rattle.rw_sender.specs.Reports.{IsAbandoned, ListsCut, end_kind};
+ghost use Rattle.rw_sender.specs.inner.Reports.{IsAbandonedAt, end_of};
+ghost use Rattle.rw_sender.specs.Shipping.{feed_fault_of, FailsBy, Feeds, Joins, HasCompared, HasStopped, PlacesAll};
 
 use crate::cuts::Cuts;
 use crate::feeder::Feeder;
@@ -59,7 +60,7 @@ impl fmt::Display for FeedFault {
 impl Error for FeedFault {}
 
 fn answer_to(fault: Fault) -> FeedFault
-    ensures { result ≡ answer_to fault }
+    ensures { result ≡ feed_fault_of fault }
 {
     match fault {
         Fault::OutOfMemory => FeedFault::OutOfMemory,
@@ -69,7 +70,7 @@ fn answer_to(fault: Fault) -> FeedFault
 
 /// Returns the kind of the End by which the shards are ended.
 fn kind_of(is_hard: bool) -> Kind
-    ensures { result ≡ kind_of is_hard }
+    ensures { result ≡ end_kind is_hard }
 {
     if is_hard { Kind::Hard } else { Kind::Orderly }
 }
@@ -155,8 +156,9 @@ pub struct Shipper<C: Connect + Drop> {
 impl<C: Connect + Drop> Model for Shipper<C> {
     ghost use Rattle.std.specs.Coded.{codes};
     ghost use Rattle.std.specs.FinMap as names;
-    ghost use Rattle.rw_sender.specs.Reports.{IsRoomFor};
-    ghost use Rattle.rw_sender.specs.Shipping.{Shipping, PlacesAll, IsReady, IsRead, IsReckoned};
+    ghost use Rattle.rw_sender.specs.inner.Reports.{IsRoomFor};
+    ghost use Rattle.rw_sender.specs.Shipping.{Shipping, PlacesAll};
+    ghost use Rattle.rw_sender.specs.inner.Shipping.{IsReady, IsRead, IsReckoned};
 
     ghost Value = { Shipping C.T };
 
@@ -244,7 +246,7 @@ impl<C: Connect + Drop> Shipper<C> {
     /// workers. It may wait for room in a queue.
     pub fn feed<R: Wait>(&mut self, rt: &R, piece: Piece) -> Result<(), FeedFault>
         ensures failed { IfSome self.old.fault
-            (λ f. (result ≡ Err (answer_to f)) × (self.new ≡ self.old)) }
+            (λ f. (result ≡ Err (feed_fault_of f)) × (self.new ≡ self.old)) }
         ensures fed { self.old.fault ≡ None → Feeds self.new result }
         ensures pieces { self.old.fault ≡ None
             → Joins self.old.log self.new.log (piece_of piece) result }
@@ -290,7 +292,7 @@ impl<C: Connect + Drop> Shipper<C> {
     /// Puts one Flush into each queue of the epoch. It may wait for room in a queue.
     pub fn flush<R: Wait>(&mut self, rt: &R) -> Result<(), FeedFault>
         ensures failed { IfSome self.old.fault
-            (λ f. (result ≡ Err (answer_to f)) × (self.new ≡ self.old)) }
+            (λ f. (result ≡ Err (feed_fault_of f)) × (self.new ≡ self.old)) }
         ensures marked { OnOk result (self.new
             ≡ record self.old {
               fleet = record self.old.fleet {
@@ -325,7 +327,7 @@ impl<C: Connect + Drop> Shipper<C> {
         requires some { 1 ≤ shards }
         requires most { shards ≤ 1000 }
         ensures failed { IfSome self.old.fault
-            (λ f. (result ≡ Err (answer_to f)) × (self.new ≡ self.old)) }
+            (λ f. (result ≡ Err (feed_fault_of f)) × (self.new ≡ self.old)) }
         ensures log { self.new.log ≡ self.old.log }
         ensures config { self.new.fleet.config ≡ self.old.fleet.config }
         ensures limit { self.new.limit ≡ self.old.limit }
@@ -411,7 +413,7 @@ impl<C: Connect + Drop> Shipper<C> {
         requires placed { placed ≡ length self.log.placed }
         requires ready { is_hard ≡ false → self.fault ≡ None }
         ensures stopped { HasStopped C.T.tells C.T.seen C.T.is_for self result }
-        ensures ended { EndBy (kind_of is_hard) self.fleet result.workers.items }
+        ensures ended { EndBy (end_kind is_hard) self.fleet result.workers.items }
         ensures hard { is_hard ≡ true → IsAbandoned result.outcome }
         ensures cut { is_hard ≡ false → IsAbandoned result.outcome → ListsCut result.workers.items }
     {
@@ -446,7 +448,7 @@ impl<C: Connect + Drop> Shipper<C> {
     pub fn stop_orderly<R: Threads + Wait>(self, rt: &R, end: u64) -> Report<C::T>
         requires { end ≡ length self.log.placed }
         ensures stopped { HasStopped C.T.tells C.T.seen C.T.is_for self result }
-        ensures ended { EndBy (kind_of (is_some self.fault)) self.fleet result.workers.items }
+        ensures ended { EndBy (end_kind (is_some self.fault)) self.fleet result.workers.items }
         ensures failed { IfSome self.fault (λ _. IsAbandoned result.outcome) }
         ensures cut { self.fault ≡ None → IsAbandoned result.outcome
             → ListsCut result.workers.items }

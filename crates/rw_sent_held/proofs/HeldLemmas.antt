@@ -14,7 +14,7 @@ use Rattle.rw_wal_tail.specs.declared.piece.Piece.{Piece}
 use Rattle.rw_wal_tail.specs.declared.piece.Piece.TheVariants as piece
 use Rattle.rw_relabel.specs.declared.choice.Choice.{Choice}
 use Rattle.rw_series_cache.specs.Points.{kept_points, kept_points_below}
-use Rattle.rw_series_cache.proofs.PointLemmas.{below_a_position}
+use Rattle.rw_series_cache.proofs.shared.PointLemmas.{below_a_position}
 use Rattle.rw_plain_queue.specs.declared.item.Kind.TheVariants.{Orderly}
 use Rattle.rw_shard_core.specs.Configs.{choice_of}
 use Rattle.rw_shard_core.specs.declared.config.ConfigFields.{ConfigFields}
@@ -34,18 +34,18 @@ use Rattle.rw_fleet.specs.declared.joined.StoppedShard.{StoppedShard}
 use Rattle.rw_fleet.specs.declared.running.Fault.{Fault}
 use Rattle.rw_sender.specs.Placement.{AreTurned, IsShardCount}
 use Rattle.rw_sender.specs.Reports.{IsAbandoned}
-use Rattle.rw_sender.specs.Shipping.{Shipping, Ends, PlacesAll}
+use Rattle.rw_sender.specs.Shipping.{Shipping, HasEndedAs, PlacesAll}
 use Rattle.rw_sender.specs.declared.report.Report.{Report}
 use Rattle.rw_simulation.specs.Arrivals.{Arrival, IsOneReceiver, Receives}
 use Rattle.rw_simulation.specs.Received.{IsHeld, ReceivesAbandoned, ReceivesInOrder}
 use Rattle.rw_simulation.specs.StoppedRuns.{IsMachineOf, first_number}
-use Rattle.rw_send.specs.Segments.{AreShort, IsShort}
+use Rattle.rw_send.specs.Segments.{AreShortPieces, IsShortPiece}
 use Rattle.rw_send.specs.Sending.{EndsFor, IsReportOf}
 use Rattle.rw_sent_held.specs.Held.{ComesToOne, Holds, HoldsAllOf, machine_of}
 
 -- ---- short pieces are such as a shipper is fed
 
-with_bytes : Global → (p : pieces.Piece) → IsShort p → (q : Piece) × (p ≡ piece_of q)
+with_bytes : Global → (p : pieces.Piece) → IsShortPiece p → (q : Piece) × (p ≡ piece_of q)
 with_bytes g (pieces.bytes b) short = (
   piece.Bytes (record {
     ptr = null_ptr;
@@ -60,7 +60,7 @@ with_bytes g (pieces.bytes b) short = (
 )
 with_bytes g pieces.next_segment short = (piece.NextSegment, refl)
 
-fed_as : Global → (ps : List pieces.Piece) → AreShort ps → (qs : List Piece) × (ps ≡ map piece_of qs)
+fed_as : Global → (ps : List pieces.Piece) → AreShortPieces ps → (qs : List Piece) × (ps ≡ map piece_of qs)
 fed_as g [] short = ([], refl)
 fed_as g (p ∷ ps) short =
     let first = with_bytes g p short.0 in
@@ -122,7 +122,7 @@ module _ {T : Type 0} (tells : T → Type 0) (seen : T → List Exchange) (is_fo
     (in_order : (s : Shipping T) (r : Report T) → ReceivesInOrder tells seen is_for s r)
     (abandoned : (s : Shipping T) (r : Report T) → ReceivesAbandoned tells seen is_for s r)
     (c : ConfigFields) (limit : Option ℕ) (cause : Type 0) (ps : List pieces.Piece) (r : Report T)
-    (report : IsReportOf tells seen is_for c limit cause ps r) (short : AreShort ps) (store : Store)
+    (report : IsReportOf tells seen is_for c limit cause ps r) (short : AreShortPieces ps) (store : Store)
     (comes : ComesToOne tells seen is_for c report.shipping r report.stopped store) where
   abbrev s : Shipping T
   s = report.shipping
@@ -193,8 +193,8 @@ module _ {T : Type 0} (tells : T → Type 0) (seen : T → List Exchange) (is_fo
       all : IsHeld s r store
       all = of_all left
 
-      ends : Ends s report.stopped.joined (Complete end)
-      ends = subst (Ends s report.stopped.joined) is report.stopped.ends
+      ends : HasEndedAs s report.stopped.joined (Complete end)
+      ends = subst (HasEndedAs s report.stopped.joined) is report.stopped.ends
 
   pub holds : Holds c report.shipping ps r store
   holds = record { placed = held r.outcome refl; complete = complete }

@@ -6,14 +6,14 @@ use Rattle.rw_types.specs.LabelOrder.{labels_eq}
 use Rattle.rw_types.specs.declared.entry.Entry.{Entry}
 use Rattle.rw_types.specs.declared.entry.Entry.TheVariants.{Def}
 use Rattle.rw_relabel.specs.declared.choice.Choice.{Choice}
-use Rattle.rw_series_cache.specs.Cached.{Judged, Judges, StandsFor, IsCache}
-use Rattle.rw_series_cache.specs.Found.{Answers, IsOfSeries}
+use Rattle.rw_series_cache.specs.inner.Cached.{Judged, Judges, StandsFor, IsCache}
+use Rattle.rw_series_cache.specs.Found.{IsLookedUp, IsOfSeries}
 use Rattle.rw_series_cache.specs.Known.{Standing, Unknown, Bad, Filtered, Kept, known, standing_of, definitions_of}
 use Rattle.rw_series_cache.specs.Numbers.{series_of, with_series}
 use Rattle.rw_series_cache.specs.declared.known.Known.{Known}
 use Rattle.rw_series_cache.specs.declared.verdict.Verdict.{Verdict}
 use Rattle.rw_series_cache.specs.declared.verdict.Verdict.TheVariants as verdict
-use Rattle.rw_series_cache.proofs.KnownLemmas.{known-none, known-definition, known-definitions_of, series_of-none, series_of-push, series_of-definitions_of}
+use Rattle.rw_series_cache.proofs.shared.KnownLemmas.{known-none, known-definition, known-definitions_of, series_of-none, series_of-push, series_of-definitions_of}
 use Rattle.rw_series_cache.proofs.NumberLemmas.{number_stays}
 
 -- before the first definition
@@ -70,7 +70,7 @@ one_defined old new definitions now verdict_of verdict_now reference l v cache j
     })
 
 -- what is known by the definitions is known after all entries
-pub answers_after : (choice : Choice) (definitions entries : List Entry) (r : ℕ) (answer : Known) → definitions_of entries ≡ definitions → Answers choice definitions r answer → Answers choice entries r answer
+pub answers_after : (choice : Choice) (definitions entries : List Entry) (r : ℕ) (answer : Known) → definitions_of entries ≡ definitions → IsLookedUp choice definitions r answer → IsLookedUp choice entries r answer
 answers_after choice definitions entries r answer e a = record {
   standing = a.standing ∙ ap (λ es. known choice es r) (sym e) ∙ known-definitions_of choice entries r;
   number = subst (λ sets. IsOfSeries sets answer) (ap (series_of choice) (sym e) ∙ series_of-definitions_of choice entries) a.number;

@@ -3,14 +3,15 @@ use Rattle.std.proofs.Common.{◌≡◌, ℕ, ◌+◌, List, [], ◌∷◌, ◌+
 use Rattle.std.specs.Arc.{arc_value}
 use Rattle.std.specs.List.{list_any, position, position_or_len}
 use Rattle.rw_types.specs.Labels.{Labels, IsLabelSet}
-use Rattle.rw_types.specs.LabelOrder.{labels_eq, same_if_equal}
+use Rattle.rw_types.specs.LabelOrder.{labels_eq}
+use Rattle.rw_types.specs.inner.LabelOrder.{same_if_equal}
 use Rattle.rw_relabel.specs.Rules.{keeps}
 use Rattle.rw_relabel.specs.declared.choice.Choice.{Choice}
-use Rattle.rw_series_cache.specs.Cached.{Shared, AllJudged, Judged, Judges, StandsFor}
+use Rattle.rw_series_cache.specs.inner.Cached.{Shared, AllJudged, Judged, Judges, StandsFor}
 use Rattle.rw_series_cache.specs.Known.{Standing, Kept, standing_of}
 use Rattle.rw_series_cache.specs.Numbers.{number_of, HasNumber, with_series}
 use Rattle.rw_series_cache.specs.declared.verdict.Verdict.TheVariants as verdict
-use Rattle.rw_series_cache.proofs.KnownLemmas.{kept_labels}
+use Rattle.rw_series_cache.proofs.shared.KnownLemmas.{kept_labels}
 use Rattle.rw_series_cache.proofs.NumberLemmas.{has_number, new_number}
 
 -- a test of a shared label set

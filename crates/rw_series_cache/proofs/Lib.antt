@@ -1,11 +1,6 @@
 pub mod CacheLemmas
 pub mod JudgedLemmas
-pub mod KnownLemmas
 pub mod NumberLemmas
-pub mod PointLemmas
-pub mod RisingLemmas
-pub mod SeriesLemmas
 pub mod TimestampLemmas
 pub mod VerdictLemmas
-pub mod KnowsLemmas
-pub mod RouteLemmas
+pub mod shared

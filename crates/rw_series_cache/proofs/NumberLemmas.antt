@@ -3,8 +3,9 @@ use Rattle.std.proofs.Common.{◌≡◌, ℕ, ◌+◌, ◌≤◌, zero, suc, Lis
 use Rattle.std.specs.List.{list_any}
 use Rattle.std.proofs.lemmas.Bool.{or_right, or_left}
 use Rattle.rw_types.specs.Labels.{Labels}
-use Rattle.rw_types.specs.LabelOrder.{labels_eq, same_if_equal}
-use Rattle.rw_types.proofs.OrderLemmas.{equal_if_same}
+use Rattle.rw_types.specs.LabelOrder.{labels_eq}
+use Rattle.rw_types.specs.inner.LabelOrder.{same_if_equal}
+use Rattle.rw_types.proofs.shared.OrderLemmas.{equal_if_same}
 use Rattle.rw_series_cache.specs.Known.{Standing, Unknown, Bad, Filtered, Kept}
 use Rattle.rw_series_cache.specs.Numbers.{number_of, HasNumber, with_series}
 

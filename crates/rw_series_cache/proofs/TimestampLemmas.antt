@@ -6,7 +6,7 @@ use Rattle.std.specs.Cmp.{unsigned_tied}
 use Rattle.std.specs.Ordering.{nat_cmp}
 use Rattle.std.specs.FinMap.{FinMap, get, insert, get-empty, get-insert, same_map, nat_cmp-IsAntisymmetric}
 use Rattle.std.proofs.lemmas.Bool.{ne_eqb}
-use Rattle.rw_series_cache.specs.Noted.{times_from}
+use Rattle.rw_series_cache.specs.inner.Noted.{times_from}
 
 pub get_inserted : (m : FinMap nat_cmp ℤ) (k : ℕ) (t : ℤ) (q : ℕ) → get (insert m k t) q ≡ cond (q == k) (Some t) (get m q)
 get_inserted m k t q = get-insert nat_cmp_total m k t q ∙ ap (λ b. cond b (Some t) (get m q)) (unsigned_tied q k)

@@ -3,7 +3,7 @@ use Rattle.std.proofs.Common.{◌≡◌, ℕ, zero, suc, ◌<◌, ◌≤◌, Lis
 use Rattle.std.proofs.Math.Dec.{eqb-zero-suc, eqb-suc-zero, eqb-suc-suc}
 use Rattle.std.proofs.lemmas.Bool.{eqb-true}
 use Rattle.std.proofs.lemmas.Option.{slice_get_past}
-use Rattle.rw_series_cache.specs.Verdicts.{first_of}
+use Rattle.rw_series_cache.specs.inner.Verdicts.{first_of}
 use Rattle.rw_series_cache.specs.declared.verdict.Verdict.{Verdict}
 
 -- at its place in the table the new one is found, and elsewhere what was there

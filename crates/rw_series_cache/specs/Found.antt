@@ -24,6 +24,6 @@ IsOfSeries series found.Filtered = Unit {0}
 IsOfSeries series (found.Kept number labels) = HasNumber series (arc_value labels.now) number
 
 -- The answer says what is known of the reference after these entries.
-pub record Answers (choice : Choice) (entries : List Entry) (reference : ℕ) (answer : Known) : Type 0 where
+pub record IsLookedUp (choice : Choice) (entries : List Entry) (reference : ℕ) (answer : Known) : Type 0 where
   pub standing : standing_in answer ≡ known choice entries reference
   pub number : IsOfSeries (series_of choice entries) answer

@@ -1,10 +1,9 @@
 pub mod Cached
 pub mod Found
 pub mod Known
-pub mod Noted
 pub mod Numbers
 pub mod Points
 pub mod Rising
-pub mod Verdicts
 pub mod Fates
 pub mod Routing
+pub mod inner

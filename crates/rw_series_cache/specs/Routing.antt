@@ -29,7 +29,7 @@ abbrev pub with_definition : Routing → Entry → Routing
 with_definition r e = record r { cache = record r.cache { definitions = r.cache.definitions ++ e ∷ [] } }
 
 -- this sample at this position, with its series' number and labels
-pub record IsSample (choice : Choice) (before : List Entry) (pos : ℕ) (t : ℤ) (word : ℕ) (l : Labels) (s : RoutedSample) : Type 0 where
+pub record IsSampleRouted (choice : Choice) (before : List Entry) (pos : ℕ) (t : ℤ) (word : ℕ) (l : Labels) (s : RoutedSample) : Type 0 where
   pub pos_is : s.pos ≡ pos
   pub time : s.t ≡ t
   pub word_is : s.word ≡ word
@@ -41,7 +41,7 @@ pub record IsSample (choice : Choice) (before : List Entry) (pos : ℕ) (t : ℤ
 abbrev pub RoutesAs : Routing → List Entry → ℕ → ℤ → ℕ → Fate → Routing → Routed → Type 0
 RoutesAs old before pos t word (Drops reason) new (routed.Dropped found) = (found ≡ reason) × (new ≡ old)
 RoutesAs old before pos t word Filters new routed.Placed = new ≡ record old { filtered = suc old.filtered }
-RoutesAs old before pos t word (Sends l) new (routed.Sample s) = IsSample old.cache.choice before pos t word l s × (new ≡ old)
+RoutesAs old before pos t word (Sends l) new (routed.Sample s) = IsSampleRouted old.cache.choice before pos t word l s × (new ≡ old)
 RoutesAs old before pos t word _ new _ = ⊥
 
 abbrev pub Routes : Routing → List Entry → ℕ → Entry → Routing → Routed → Type 0

@@ -6,7 +6,7 @@ ghost use Rattle.rw_types.specs.declared.entry.Entry.{Entry};
 ghost use Rattle.rw_series_cache.specs.Known.{definitions_of, known, Unknown};
 ghost use Rattle.rw_types.specs.Labels.{label_fault};
 ghost use Rattle.rw_series_cache.specs.Numbers.{series_of};
-ghost use Rattle.rw_series_cache.specs.Found.{Answers};
+ghost use Rattle.rw_series_cache.specs.Found.{IsLookedUp};
 ghost use Rattle.rw_series_cache.specs.Rising.{is_after};
 
 use crate::known::Known;
@@ -35,8 +35,9 @@ impl Model for Cache {
     ghost use Rattle.std.specs.Prelude.{◌≤◌, length};
     ghost use Rattle.std.specs.Coded.{codes};
     ghost use Rattle.std.specs.FinMap as map;
-    ghost use Rattle.rw_series_cache.specs.Cached.{Taken, IsCache};
-    ghost use Rattle.rw_series_cache.specs.Verdicts.{verdict_in, IsWithin};
+    ghost use Rattle.rw_series_cache.specs.Cached.{Taken};
+    ghost use Rattle.rw_series_cache.specs.inner.Cached.{IsCache};
+    ghost use Rattle.rw_series_cache.specs.inner.Verdicts.{verdict_in, IsWithin};
 
     ghost Value = { Taken };
 
@@ -100,12 +101,12 @@ impl Cache {
 
     /// Returns what is known of `reference`, by its last definition.
     pub fn look(&self, reference: u64) -> Known<'_>
-        ensures answer { Answers self.now.choice self.now.definitions reference result }
+        ensures answer { IsLookedUp self.now.choice self.now.definitions reference result }
 
         // What is known after some entries of a log is what its definitions say: the samples among
         // them change nothing.
         ensures log { (entries : List Entry) → definitions_of entries ≡ self.now.definitions
-            → Answers self.now.choice entries reference result }
+            → IsLookedUp self.now.choice entries reference result }
     {
         match self.verdicts.get(reference) {
             None => Known::Unknown,

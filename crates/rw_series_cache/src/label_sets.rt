@@ -3,7 +3,7 @@
 ghost use Rattle.std.specs.Prelude.{◌≡◌, ◌<◌, ◌≤◌, [], length, Some, None, slice_get, IfOk, OnErr};
 ghost use Rattle.std.specs.Arc.{arc_value};
 ghost use Rattle.rw_types.specs.Labels.{IsLabelSet, label_fault};
-ghost use Rattle.rw_series_cache.specs.Cached.{Judges};
+ghost use Rattle.rw_series_cache.specs.inner.Cached.{Judges};
 
 use crate::timestamps::Timestamps;
 use crate::verdict::Verdict;
@@ -28,7 +28,7 @@ pub(crate) struct LabelSets {
 impl Model for LabelSets {
     ghost use Rattle.std.specs.Prelude.{map, true, false};
     ghost use Rattle.std.specs.Arc.{arc_value};
-    ghost use Rattle.rw_series_cache.specs.Cached.{Judged, AllJudged};
+    ghost use Rattle.rw_series_cache.specs.inner.Cached.{Judged, AllJudged};
 
     ghost Value = { Judged };
 

@@ -17,7 +17,7 @@ impl Model for Timestamps {
     ghost use Rattle.std.specs.Prelude.{length};
     ghost use Rattle.std.specs.Coded.{codes};
     ghost use Rattle.std.specs.FinMap as map;
-    ghost use Rattle.rw_series_cache.specs.Noted.{Times, times_from};
+    ghost use Rattle.rw_series_cache.specs.inner.Noted.{Times, times_from};
 
     ghost Value = { Times };
 

@@ -1,7 +1,7 @@
 //! The verdicts of references.
 
 ghost use Rattle.std.specs.Prelude.{◌≡◌, ℕ, ◌+◌, ◌*◌, ◌≤◌, None, OnErr, OnOk, Some, nat_eq, if◌then◌else◌};
-ghost use Rattle.rw_series_cache.specs.Verdicts.{verdict_in, HasRoom, IsWithin};
+ghost use Rattle.rw_series_cache.specs.inner.Verdicts.{verdict_in, HasRoom, IsWithin};
 
 use crate::verdict::Verdict;
 use std::alloc::{AllocError, Global};

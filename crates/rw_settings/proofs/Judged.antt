@@ -14,10 +14,10 @@ use Rattle.rw_shard_core.specs.declared.config.ConfigFields.{ConfigFields}
 use Rattle.rw_head.specs.declared.limits.Limits.{Limits}
 use Rattle.rw_settings.specs.Faults.{lesser, least}
 use Rattle.rw_settings.specs.Receiving.{receive_limits, receive_fault, receive_values}
-use Rattle.rw_settings.specs.Keys.{Row, host, path, shards, min_shards, max_shards, capacity, batch, min_backoff_ms, max_backoff_ms, timeout_ms, max_body_bytes, max_labels, max_label_bytes, busy_first, send_keys, receive_keys, number_for, number_of, table_fault}
+use Rattle.rw_settings.specs.Keys.{Row, host, path, shards, min_shards, max_shards, capacity, batch, min_backoff_ms, max_backoff_ms, timeout_ms, max_body_bytes, max_labels, max_label_bytes, busy_first, send_keys, receive_keys, number_for, number_setting, table_fault}
 use Rattle.rw_settings.specs.RuleTables.{rule_table_fault, rule_fault_of, with_rules_fault, texts_of, rule_config, rules_of}
 use Rattle.rw_settings.specs.Sending.{send_fields, order_fault, send_fault, send_values}
-use Rattle.rw_settings.specs.Values.{Setting, of_number, of_text, of_texts, names_text, are_texts, labels_fault, source_fault, number_at, text_if, text_at, names_in, found_or, part_or, list_at}
+use Rattle.rw_settings.specs.Values.{Setting, of_number, of_text, of_texts, names_text, are_texts, labels_fault, source_fault, number_at, text_if, text_setting, names_in, found_or, part_or, list_at}
 use Rattle.rw_settings.specs.declared.fault.SettingsFault.{SettingsFault}
 use Rattle.rw_settings.specs.declared.keys.Kind.{Kind}
 use Rattle.rw_settings.proofs.DocumentLemmas.{lesser_none, least_none}
@@ -36,7 +36,7 @@ text_if_taken test d None default = default
 text_if_taken test d (Some t) default = text_passes test d t (test t) refl default
 
 -- a text that was taken passes its test, and so does its default
-text_taken : (test : List ℕ → Bool) (d : List ℕ) (o : Option Data) → test d ≡ true → test (found_or d (text_at test o)) ≡ true
+text_taken : (test : List ℕ → Bool) (d : List ℕ) (o : Option Data) → test d ≡ true → test (found_or d (text_setting test o)) ≡ true
 text_taken test d None default = default
 text_taken test d (Some v) default = text_if_taken test d (as_str v) default
 
@@ -76,7 +76,7 @@ kind_suits : (kind : Kind) (o : Option Data) → is_sound kind ≡ true → IsNu
 kind_suits (Kind.Number low high d) o sound = number_suits low high d o (grind (arith, nat_tests)) (grind (arith, nat_tests))
 kind_suits _ o sound = absurd cc
 
-number_row : (row : Row) (ms : Members) → is_sound row.1 ≡ true → IsNumber row.1 (number_of row ms) × (number_of row ms < 2 ^ 63)
+number_row : (row : Row) (ms : Members) → is_sound row.1 ≡ true → IsNumber row.1 (number_setting row ms) × (number_setting row ms < 2 ^ 63)
 number_row row ms sound = kind_suits row.1 (get_member row.0 ms) sound
 
 pub record SendTaken (send : ConfigFields) : Type 0 where

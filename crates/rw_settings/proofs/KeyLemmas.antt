@@ -7,7 +7,8 @@ use Rattle.std.proofs.lemmas.Bool.Decides.{nat_tests}
 use Rattle.toml.specs.Data.{Data, as_integer}
 use Rattle.toml.specs.View.{members_view}
 use Rattle.toml.specs.declared.value.Value.{Value}
-use Rattle.rw_settings.specs.Keys.{Row, has_range, number_for, has_only}
+use Rattle.rw_settings.specs.Keys.{Row, number_for, has_only}
+use Rattle.rw_settings.specs.inner.Keys.{has_range}
 use Rattle.rw_settings.specs.Values.{number_if, number_at, found_or}
 use Rattle.rw_settings.specs.declared.keys.Kind.{Kind}
 use Rattle.rw_settings.specs.declared.fault.SettingsFault.TheVariants.{OutOfRange}

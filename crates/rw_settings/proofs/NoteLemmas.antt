@@ -4,7 +4,7 @@ use Rattle.std.specs.Result.{result_err}
 use Rattle.std.proofs.lemmas.Bool.Decides.{nat_tests}
 use Rattle.toml.specs.Data.{Items, no_items, item, as_table}
 use Rattle.rw_settings.specs.Faults.{fault_number, lesser, least}
-use Rattle.rw_settings.specs.Notes.{with_note, noted, IsNoted}
+use Rattle.rw_settings.specs.Notes.{with_note, noted, IsLeastNoted}
 use Rattle.rw_settings.specs.RuleTables.{rule_fault_of, with_rules_fault}
 use Rattle.rw_settings.specs.Settings.{unless_faulty}
 use Rattle.rw_settings.specs.declared.fault.SettingsFault.{SettingsFault}
@@ -65,6 +65,6 @@ judged_fault None s = refl
 judged_fault (Some f) s = refl
 
 -- one more bad rule changes no more than the first
-pub bad_rule_again : (judged noted_before noted_after : Option SettingsFault) → IsNoted judged noted_before → noted_after ≡ lesser noted_before (Some BadRule) → IsNoted judged noted_after
+pub bad_rule_again : (judged noted_before noted_after : Option SettingsFault) → IsLeastNoted judged noted_before → noted_after ≡ lesser noted_before (Some BadRule) → IsLeastNoted judged noted_after
 bad_rule_again judged before after (inl same) more = inr (more ∙ ap (λ f. lesser f (Some BadRule)) same)
 bad_rule_again judged before after (inr same) more = inr (more ∙ ap (λ f. lesser f (Some BadRule)) same ∙ lesser_assoc judged (Some BadRule) (Some BadRule))

@@ -12,7 +12,7 @@ use Rattle.rw_settings.specs.Keys.{Row, send_keys, receive_keys, rule_keys}
 use Rattle.rw_settings.specs.Receiving.{receive_values}
 use Rattle.rw_settings.specs.RuleTables.{rule_values}
 use Rattle.rw_settings.specs.Sending.{send_values}
-use Rattle.rw_settings.specs.SettingsText.{value_text, pair_line, list_text, lines_of, send_lines, send_text, receive_lines, receive_text, rule_lines, rule_text}
+use Rattle.rw_settings.specs.SettingsText.{setting_value_text, pair_line, list_text, lines_of, send_lines, send_text, receive_lines, receive_text, rule_lines, rule_text}
 use Rattle.rw_settings.specs.Values.{Setting, of_number, of_text, of_texts}
 
 -- a line of a table
@@ -105,7 +105,7 @@ abbrev pub Fits : Setting → Type 0
 Fits (of_number n) = n < 2 ^ 63
 Fits _ = Unit {0}
 
-value_written : (s : Setting) → Fits s → IsValueText false (data_of s) (value_text s)
+value_written : (s : Setting) → Fits s → IsValueText false (data_of s) (setting_value_text s)
 value_written (of_number n) fits = (refl, record { sfits = omega arith })
 value_written (of_text t) fits = refl
 value_written (of_texts ts) fits = list_written ts
@@ -118,7 +118,7 @@ pairs_written : (rows : List Row) (settings : List Setting) → AllByRecursion I
 pairs_written [] settings bare fits = tt
 pairs_written (row ∷ rows) [] bare fits = tt
 pairs_written (row ∷ rows) (s ∷ settings) bare fits =
-    (pair_written true row.0 (value_text s) (data_of s) bare.0 (value_written s fits.0), pairs_written rows settings bare.1 fits.1)
+    (pair_written true row.0 (setting_value_text s) (data_of s) bare.0 (value_written s fits.0), pairs_written rows settings bare.1 fits.1)
 
 pub send_written : (send : ConfigFields) → AllByRecursion Fits (send_values send) → IsLinesText false false (send_expressions send) (send_text send)
 unfolding send_text key_text

@@ -1,6 +1,6 @@
 -- The settings: the keys of each table in the order in which they are printed, what each takes, and
 -- the defaults of numbers.
-use Rattle.std.specs.Prelude.{ℕ, List, [], ◌∷◌, map, Bool, true, false, ◌&&◌, nat_eq, nat_le, Option, Some, None, codes, if◌then◌else◌}
+use Rattle.std.specs.Prelude.{ℕ, List, [], ◌∷◌, map, Bool, true, ◌&&◌, Option, Some, None, codes, if◌then◌else◌}
 use Rattle.std.specs.List.{list_any}
 use Rattle.std.specs.Result.{result_err}
 use Rattle.std.specs.Str.{bytes_eq}
@@ -9,23 +9,14 @@ use Rattle.rw_types.specs.Requests.{is_host_name, is_request_path}
 use Rattle.rw_types.specs.declared.names.Names.{Names}
 use Rattle.rw_types.specs.declared.names.Names.TheVariants.{Legacy}
 use Rattle.rw_settings.specs.Faults.{least}
-use Rattle.rw_settings.specs.Values.{number_at, text_at, any_text, names_at, action_fault, source_fault, found_or}
+use Rattle.rw_settings.specs.Values.{number_at, text_setting, any_text, names_at, action_fault, source_fault, found_or}
 use Rattle.rw_settings.specs.declared.fault.SettingsFault.{SettingsFault}
 use Rattle.rw_settings.specs.declared.fault.SettingsFault.TheVariants.{UnknownKey}
-use Rattle.rw_settings.specs.declared.keys.Key.{Key}
 use Rattle.rw_settings.specs.declared.keys.Kind.{Kind}
 
 -- a key, and what it takes
 abbrev pub Row : Type 0
 Row = List ℕ × Kind
-
-abbrev pub row_of : Key → Row
-row_of key = (key.0.now, key.1)
-
--- it takes a number of this range, as its default is
-abbrev pub has_range : ℕ → ℕ → Kind → Bool
-has_range low high (Kind.Number least greatest default) = (nat_eq least low && nat_eq greatest high) && (nat_le low default && nat_le default high)
-has_range low high _ = false
 
 -- ---- the tables
 
@@ -95,17 +86,17 @@ abbrev pub number_for : Kind → Option Data → ℕ
 number_for (Kind.Number low high default) value = found_or default (number_at low high value)
 number_for _ value = 0
 
-abbrev pub number_of : Row → Members → ℕ
-number_of row table = number_for row.1 (get_member row.0 table)
+abbrev pub number_setting : Row → Members → ℕ
+number_setting row table = number_for row.1 (get_member row.0 table)
 
 abbrev pub host_of : Members → List ℕ
-host_of table = found_or (codes "localhost:9090") (text_at is_host_name (get_member (codes "host") table))
+host_of table = found_or (codes "localhost:9090") (text_setting is_host_name (get_member (codes "host") table))
 
 abbrev pub path_of : Members → List ℕ
-path_of table = found_or (codes "/api/v1/write") (text_at is_request_path (get_member (codes "path") table))
+path_of table = found_or (codes "/api/v1/write") (text_setting is_request_path (get_member (codes "path") table))
 
-abbrev pub names_of : Members → Names
-names_of table = found_or Legacy (names_at (get_member (codes "names") table))
+abbrev pub names_setting : Members → Names
+names_setting table = found_or Legacy (names_at (get_member (codes "names") table))
 
 -- ---- what is wrong with a table
 
@@ -118,18 +109,18 @@ abbrev pub keys_fault : List Row → Members → Option SettingsFault
 keys_fault rows table = if has_only rows table then None else Some UnknownKey
 
 abbrev pub fault_for : Kind → Option Data → Option SettingsFault
-fault_for Kind.Host value = result_err (text_at is_host_name value)
-fault_for Kind.Path value = result_err (text_at is_request_path value)
+fault_for Kind.Host value = result_err (text_setting is_host_name value)
+fault_for Kind.Path value = result_err (text_setting is_request_path value)
 fault_for (Kind.Number low high default) value = result_err (number_at low high value)
 fault_for Kind.Names value = result_err (names_at value)
 fault_for Kind.Action value = action_fault value
 fault_for Kind.Labels value = source_fault value
-fault_for Kind.Text value = result_err (text_at any_text value)
+fault_for Kind.Text value = result_err (text_setting any_text value)
 fault_for Kind.Part value = None
 
-abbrev pub fault_at : Members → Row → Option SettingsFault
-fault_at table row = fault_for row.1 (get_member row.0 table)
+abbrev pub key_fault : Members → Row → Option SettingsFault
+key_fault table row = fault_for row.1 (get_member row.0 table)
 
 -- the least fault of a table with these keys
 unfoldable pub table_fault : List Row → Members → Option SettingsFault
-table_fault rows table = least (keys_fault rows table ∷ map (fault_at table) rows)
+table_fault rows table = least (keys_fault rows table ∷ map (key_fault table) rows)

@@ -7,3 +7,4 @@ pub mod Sending
 pub mod Settings
 pub mod Values
 pub mod SettingsText
+pub mod inner

@@ -13,5 +13,5 @@ unfoldable pub noted : List SettingsNote → Option SettingsFault
 noted notes = fold with_note None notes
 
 -- the least fault is the one that was judged, or a bad rule was noted besides
-abbrev pub IsNoted : Option SettingsFault → Option SettingsFault → Type 0
-IsNoted judged least = (least ≡ judged) ⊎ (least ≡ lesser judged (Some BadRule))
+abbrev pub IsLeastNoted : Option SettingsFault → Option SettingsFault → Type 0
+IsLeastNoted judged least = (least ≡ judged) ⊎ (least ≡ lesser judged (Some BadRule))

@@ -2,7 +2,7 @@
 use Rattle.std.specs.Prelude.{List, [], ◌∷◌, Option}
 use Rattle.toml.specs.Data.{Members}
 use Rattle.rw_head.specs.declared.limits.Limits.{Limits}
-use Rattle.rw_settings.specs.Keys.{receive_keys, max_body_bytes, max_labels, max_label_bytes, busy_first, number_of, path_of, names_of, table_fault}
+use Rattle.rw_settings.specs.Keys.{receive_keys, max_body_bytes, max_labels, max_label_bytes, busy_first, number_setting, path_of, names_setting, table_fault}
 use Rattle.rw_settings.specs.Values.{Setting, of_number, of_text, names_text}
 use Rattle.rw_settings.specs.declared.fault.SettingsFault.{SettingsFault}
 
@@ -10,11 +10,11 @@ use Rattle.rw_settings.specs.declared.fault.SettingsFault.{SettingsFault}
 unfoldable pub receive_limits : Members → Limits
 receive_limits table = record {
   path = path_of table;
-  max_body_bytes = number_of max_body_bytes table;
-  max_labels = number_of max_labels table;
-  max_label_bytes = number_of max_label_bytes table;
-  busy_first = number_of busy_first table;
-  names = names_of table;
+  max_body_bytes = number_setting max_body_bytes table;
+  max_labels = number_setting max_labels table;
+  max_label_bytes = number_setting max_label_bytes table;
+  busy_first = number_setting busy_first table;
+  names = names_setting table;
 }
 
 abbrev pub receive_fault : Members → Option SettingsFault

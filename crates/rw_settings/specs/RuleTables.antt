@@ -7,7 +7,7 @@ use Rattle.rw_relabel.specs.declared.rule.Action.{Action}
 use Rattle.rw_relabel.specs.declared.rule.Action.TheVariants.{Keep, Drop}
 use Rattle.rw_settings.specs.Faults.{lesser}
 use Rattle.rw_settings.specs.Keys.{rule_keys, table_fault}
-use Rattle.rw_settings.specs.Values.{Setting, of_text, of_texts, text_at, any_text, found_or, list_at, part_or}
+use Rattle.rw_settings.specs.Values.{Setting, of_text, of_texts, text_setting, any_text, found_or, list_at, part_or}
 use Rattle.rw_settings.specs.declared.fault.SettingsFault.{SettingsFault}
 use Rattle.rw_settings.specs.declared.rule_tables.RuleFields.{RuleFields}
 use Rattle.rw_settings.specs.declared.fault.SettingsFault.TheVariants.{WrongType}
@@ -37,10 +37,10 @@ texts_of (item value rest) = part_or [] (as_str value) ∷ texts_of rest
 -- the rule of a table, with the defaults of relabelling
 unfoldable pub rule_config : Members → RuleConfig
 rule_config table = record {
-  action = action_of (found_or [] (text_at any_text (get_member (codes "action") table)));
+  action = action_of (found_or [] (text_setting any_text (get_member (codes "action") table)));
   source_labels = texts_of (part_or no_items (list_at (get_member (codes "source_labels") table)));
-  separator = found_or (codes ";") (text_at any_text (get_member (codes "separator") table));
-  pattern = found_or (codes "(.*)") (text_at any_text (get_member (codes "regex") table));
+  separator = found_or (codes ";") (text_setting any_text (get_member (codes "separator") table));
+  pattern = found_or (codes "(.*)") (text_setting any_text (get_member (codes "regex") table));
 }
 
 abbrev pub rules_of : Items → List RuleConfig

@@ -5,7 +5,7 @@ use Rattle.rw_relabel.specs.Rules.{RuleConfig}
 use Rattle.rw_shard_core.specs.Configs.{is_ordered}
 use Rattle.rw_shard_core.specs.declared.config.ConfigFields.{ConfigFields}
 use Rattle.rw_settings.specs.Faults.{lesser}
-use Rattle.rw_settings.specs.Keys.{send_keys, shards, min_shards, max_shards, capacity, batch, min_backoff_ms, max_backoff_ms, timeout_ms, number_of, host_of, path_of, names_of, table_fault}
+use Rattle.rw_settings.specs.Keys.{send_keys, shards, min_shards, max_shards, capacity, batch, min_backoff_ms, max_backoff_ms, timeout_ms, number_setting, host_of, path_of, names_setting, table_fault}
 use Rattle.rw_settings.specs.Values.{Setting, of_number, of_text, names_text}
 use Rattle.rw_settings.specs.declared.fault.SettingsFault.{SettingsFault}
 use Rattle.rw_settings.specs.declared.fault.SettingsFault.TheVariants.{OutOfRange}
@@ -14,15 +14,15 @@ use Rattle.rw_settings.specs.declared.fault.SettingsFault.TheVariants.{OutOfRang
 unfoldable pub send_fields : Members → List RuleConfig → ConfigFields
 send_fields table rules = record {
   target = record { host = host_of table; path = path_of table };
-  shards = number_of shards table;
-  min_shards = number_of min_shards table;
-  max_shards = number_of max_shards table;
-  capacity = number_of capacity table;
-  batch = number_of batch table;
-  min_backoff_ms = number_of min_backoff_ms table;
-  max_backoff_ms = number_of max_backoff_ms table;
-  timeout_ms = number_of timeout_ms table;
-  names = names_of table;
+  shards = number_setting shards table;
+  min_shards = number_setting min_shards table;
+  max_shards = number_setting max_shards table;
+  capacity = number_setting capacity table;
+  batch = number_setting batch table;
+  min_backoff_ms = number_setting min_backoff_ms table;
+  max_backoff_ms = number_setting max_backoff_ms table;
+  timeout_ms = number_setting timeout_ms table;
+  names = names_setting table;
   rules = rules;
 }
 

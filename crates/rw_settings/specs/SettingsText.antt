@@ -1,5 +1,5 @@
 -- The text of settings: a TOML document that gives each key.
-use Rattle.std.specs.Prelude.{ℕ, List, [], ◌∷◌, ◌++◌, map, flat_map, codes, decimal, string_bytes}
+use Rattle.std.specs.Prelude.{ℕ, List, [], ◌∷◌, ◌++◌, flat_map, codes, decimal}
 use Rattle.std.specs.List.{concat, join_by}
 use Rattle.toml_writer.specs.Text.{string_text}
 use Rattle.rw_relabel.specs.Rules.{RuleConfig}
@@ -10,7 +10,6 @@ use Rattle.rw_settings.specs.Receiving.{receive_values}
 use Rattle.rw_settings.specs.RuleTables.{rule_values}
 use Rattle.rw_settings.specs.Sending.{send_values}
 use Rattle.rw_settings.specs.Values.{Setting, of_number, of_text, of_texts}
-use Rattle.rw_settings.specs.declared.printed_values.Shown.{Shown}
 use Rattle.rw_settings.specs.declared.settings.Settings.{Settings}
 
 -- `KEY = VALUE`
@@ -21,19 +20,14 @@ pair_line key value = key ++ (codes " = " ++ (value ++ codes "\n"))
 abbrev pub list_text : List (List ℕ) → List ℕ
 list_text texts = codes "[" ++ (join_by string_text (codes ", ") texts ++ codes "]")
 
-abbrev pub setting_of : Shown → Setting
-setting_of (Shown.Number n) = of_number n
-setting_of (Shown.Text t) = of_text t.now
-setting_of (Shown.Texts ts) = of_texts (map string_bytes ts.now)
-
-abbrev pub value_text : Setting → List ℕ
-value_text (of_number n) = decimal n
-value_text (of_text t) = string_text t
-value_text (of_texts ts) = list_text ts
+abbrev pub setting_value_text : Setting → List ℕ
+setting_value_text (of_number n) = decimal n
+setting_value_text (of_text t) = string_text t
+setting_value_text (of_texts ts) = list_text ts
 
 -- a line for each value, with its key
 abbrev pub lines_of : List Row → List Setting → List (List ℕ)
-lines_of (row ∷ rows) (value ∷ values) = pair_line row.0 (value_text value) ∷ lines_of rows values
+lines_of (row ∷ rows) (value ∷ values) = pair_line row.0 (setting_value_text value) ∷ lines_of rows values
 lines_of _ _ = []
 
 abbrev pub send_lines : ConfigFields → List (List ℕ)

@@ -25,9 +25,9 @@ abbrev pub text_if : (List ℕ → Bool) → Option (List ℕ) → Result (Optio
 text_if test None = Err WrongType
 text_if test (Some text) = if test text then Ok (Some text) else Err OutOfRange
 
-abbrev pub text_at : (List ℕ → Bool) → Option Data → Result (Option (List ℕ)) SettingsFault
-text_at test None = Ok None
-text_at test (Some value) = text_if test (as_str value)
+abbrev pub text_setting : (List ℕ → Bool) → Option Data → Result (Option (List ℕ)) SettingsFault
+text_setting test None = Ok None
+text_setting test (Some value) = text_if test (as_str value)
 
 -- any text
 abbrev pub any_text : List ℕ → Bool

@@ -6,7 +6,7 @@ ghost use Rattle.toml.specs.Data.{get_member, no_members, as_table};
 ghost use Rattle.toml.specs.Parse.{parse_document};
 ghost use Rattle.toml.specs.View.{view, items_view, table_view};
 ghost use Rattle.rw_settings.specs.Faults.{lesser};
-ghost use Rattle.rw_settings.specs.Notes.{noted, IsNoted};
+ghost use Rattle.rw_settings.specs.Notes.{noted, IsLeastNoted};
 ghost use Rattle.rw_settings.specs.Receiving.{receive_fault};
 ghost use Rattle.rw_settings.specs.RuleTables.{rule_fault_of, with_rules_fault};
 ghost use Rattle.rw_settings.specs.Sending.{order_fault, send_fault};
@@ -232,7 +232,7 @@ fn note_patterns(
     notes: &mut Vec<SettingsNote>,
     rules: &[Value],
 ) -> Result<(), AllocError>
-    ensures { OnOk result (IsNoted (noted notes.old.items) (noted notes.new.items)) }
+    ensures { OnOk result (IsLeastNoted (noted notes.old.items) (noted notes.new.items)) }
 {
     for (i, rule) in rules.iter().enumerate() {
         if let Some(pattern) = pattern_of(rule) {
@@ -246,7 +246,7 @@ fn note_patterns(
 #[tactic(auto, unfolding(crate::specs::Notes::noted))]
 fn notes_of(alloc: Global, document: &Table) -> Result<Vec<SettingsNote>, AllocError>
     ensures { IfOk result
-        (λ v. IsNoted (document_fault (table_view document.now)) (noted v.items)) }
+        (λ v. IsLeastNoted (document_fault (table_view document.now)) (noted v.items)) }
 {
     let mut notes = Vec::new(alloc);
     let empty = Table::new(alloc);
@@ -287,7 +287,7 @@ fn syntax_note(alloc: Global, before: &[u8], message: &str) -> Result<Vec<Settin
 /// Returns the notes on a text.
 fn notes_of_text(alloc: Global, text: &str) -> Result<Vec<SettingsNote>, AllocError>
     ensures { IfOk result
-        (λ v. IsNoted (result_err (settings_if (parse_document text.now))) (noted v.items)) }
+        (λ v. IsLeastNoted (result_err (settings_if (parse_document text.now))) (noted v.items)) }
 {
     match toml::table_from_str(alloc, text) {
         Ok(document) => notes_of(alloc, &document),
@@ -308,7 +308,7 @@ fn notes_of_text(alloc: Global, text: &str) -> Result<Vec<SettingsNote>, AllocEr
 /// pattern may be noted besides.
 #[tactic(auto, unfolding(crate::specs::Settings::settings_in))]
 pub fn explain_settings(alloc: Global, text: &[u8]) -> Result<Vec<SettingsNote>, AllocError>
-    ensures { IfOk result (λ v. IsNoted (result_err (settings_in text.now)) (noted v.items)) }
+    ensures { IfOk result (λ v. IsLeastNoted (result_err (settings_in text.now)) (noted v.items)) }
 {
     match text_in(text) {
         Some(text) => notes_of_text(alloc, text),

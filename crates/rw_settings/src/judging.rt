@@ -6,7 +6,8 @@ ghost use Rattle.std.specs.Result.{result_err};
 ghost use Rattle.std.specs.Str.{bytes_eq};
 ghost use Rattle.toml.specs.Data.{string, as_integer, as_array};
 ghost use Rattle.toml.specs.View.{view, items_view, table_view};
-ghost use Rattle.rw_settings.specs.Keys.{row_of, has_only, keys_fault, fault_for, fault_at, table_fault};
+ghost use Rattle.rw_settings.specs.Keys.{has_only, keys_fault, fault_for, key_fault, table_fault};
+ghost use Rattle.rw_settings.specs.inner.Keys.{row_of};
 ghost use Rattle.rw_settings.specs.Values.{number_if, are_texts, labels_fault};
 
 use crate::fault::{SettingsFault, lesser};
@@ -137,7 +138,7 @@ fn value_fault(kind: &Kind, value: &Value) -> Option<SettingsFault>
 
 /// What is wrong at a key, which may be missing.
 pub(crate) fn fault_at(table: &Table, key: &Key) -> Option<SettingsFault>
-    ensures { result ≡ fault_at (table_view table.now) (row_of key.now) }
+    ensures { result ≡ key_fault (table_view table.now) (row_of key.now) }
 {
     match (value_at(table, key.0), &key.1) {
         (Some(value), kind) => value_fault(kind, value),

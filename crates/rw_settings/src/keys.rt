@@ -2,7 +2,8 @@
 //! of docs/SETTINGS.md, whose tables `tools/settings-tables` writes.
 
 ghost use Rattle.std.specs.Prelude.{◌≡◌, map};
-ghost use Rattle.rw_settings.specs.Keys.{row_of, document_keys, send_keys, receive_keys, rule_keys};
+ghost use Rattle.rw_settings.specs.Keys.{document_keys, send_keys, receive_keys, rule_keys};
+ghost use Rattle.rw_settings.specs.inner.Keys.{row_of};
 
 /// What a key takes.
 #[derive(Clone, Copy)]

@@ -4,7 +4,8 @@ ghost use Rattle.std.specs.Prelude.{◌≡◌, Some, map, fold, OnOk};
 ghost use Rattle.toml.specs.View.{table_view};
 ghost use Rattle.rw_settings.specs.Faults.{lesser};
 ghost use Rattle.rw_settings.specs.Notes.{noted};
-ghost use Rattle.rw_settings.specs.Keys.{row_of, keys_fault, fault_at, table_fault};
+ghost use Rattle.rw_settings.specs.Keys.{keys_fault, key_fault, table_fault};
+ghost use Rattle.rw_settings.specs.inner.Keys.{row_of};
 ghost use Rattle.rw_settings.specs.declared.fault.SettingsFault.TheVariants.{UnknownKey};
 
 use crate::fault::SettingsFault;
@@ -84,7 +85,7 @@ fn note_value(
     key: &Key,
 ) -> Result<(), AllocError>
     ensures { OnOk result (noted notes.new.items
-        ≡ lesser (noted notes.old.items) (fault_at (table_view table.now) (row_of key.now))) }
+        ≡ lesser (noted notes.old.items) (key_fault (table_view table.now) (row_of key.now))) }
 {
     let Some(fault) = fault_at(table, key) else {
         return Ok(());
@@ -158,7 +159,7 @@ fn note_values(
     keys: &[Key],
 ) -> Result<(), AllocError>
     ensures { OnOk result (noted notes.new.items ≡ fold lesser
-        (noted notes.old.items) (map (fault_at (table_view table.now)) (map row_of keys.now))) }
+        (noted notes.old.items) (map (key_fault (table_view table.now)) (map row_of keys.now))) }
 {
     for key in keys {
         note_value(alloc, notes, section, table, key)?;

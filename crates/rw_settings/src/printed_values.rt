@@ -3,9 +3,10 @@
 ghost use Rattle.std.specs.Prelude.{◌≡◌, ◌++◌, ◌≤◌, length, map, codes, string_bytes, IfOk, OnOk};
 ghost use Rattle.std.specs.List.{concat, join_by};
 ghost use Rattle.toml_writer.specs.Text.{string_text};
-ghost use Rattle.rw_settings.specs.Keys.{row_of};
+ghost use Rattle.rw_settings.specs.inner.Keys.{row_of};
 ghost use Rattle.rw_settings.specs.Values.{names_text};
-ghost use Rattle.rw_settings.specs.SettingsText.{pair_line, value_text, setting_of, lines_of, list_text};
+ghost use Rattle.rw_settings.specs.SettingsText.{pair_line, setting_value_text, lines_of, list_text};
+ghost use Rattle.rw_settings.specs.inner.SettingsText.{setting_of};
 
 use crate::keys::Key;
 use itoa::Buffer;
@@ -100,7 +101,8 @@ fn push_shown(
     value: &Shown<'_>,
 ) -> Result<(), AllocError>
     ensures { OnOk result (string_bytes out.new
-        ≡ string_bytes out.old ++ pair_line key.now.0.now (value_text (setting_of value.now))) }
+        ≡ string_bytes out.old
+        ++ pair_line key.now.0.now (setting_value_text (setting_of value.now))) }
 {
     match value {
         Shown::Number(number) => {

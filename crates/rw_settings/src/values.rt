@@ -4,8 +4,9 @@ ghost use Rattle.std.specs.Prelude.{◌≡◌, true, option_map, IfOk};
 ghost use Rattle.toml.specs.Data.{get_member, as_integer, as_table, no_members, no_items};
 ghost use Rattle.toml.specs.View.{view, items_view, table_view};
 ghost use Rattle.rw_types.specs.declared.names.Names.TheVariants.{Legacy};
-ghost use Rattle.rw_settings.specs.Keys.{row_of, has_range, number_of, host_of, path_of, names_of};
-ghost use Rattle.rw_settings.specs.Values.{number_in, number_if, number_at, text_at, any_text, names_in, found_or, section, list_at, part_or};
+ghost use Rattle.rw_settings.specs.Keys.{number_setting, host_of, path_of, names_setting};
+ghost use Rattle.rw_settings.specs.inner.Keys.{row_of, has_range};
+ghost use Rattle.rw_settings.specs.Values.{number_in, number_if, number_at, text_setting, any_text, names_in, found_or, section, list_at, part_or};
 
 use crate::fault::SettingsFault;
 use crate::keys::{Key, Kind};
@@ -61,7 +62,7 @@ fn number_or(table: &Table, key: &str, low: u64, high: u64, default: u64) -> u64
 
 /// The number that a table sets at this key, or its default if it sets none that can be taken.
 pub(crate) fn number_of(table: &Table, key: &Key) -> u64
-    ensures { result ≡ number_of (row_of key.now) (table_view table.now) }
+    ensures { result ≡ number_setting (row_of key.now) (table_view table.now) }
 {
     match key.1 {
         Kind::Number(low, high, default) => number_or(table, key.0, low, high, default),
@@ -76,7 +77,7 @@ pub(crate) fn bounded_of<const LOW: u64, const HIGH: u64>(
     key: &Key,
 ) -> Bounded<LOW, HIGH>
     requires { has_range LOW HIGH key.now.1 ≡ true }
-    ensures { result ≡ number_of (row_of key.now) (table_view table.now) }
+    ensures { result ≡ number_setting (row_of key.now) (table_view table.now) }
 {
     Bounded::new(number_of(table, key))
 }
@@ -84,7 +85,7 @@ pub(crate) fn bounded_of<const LOW: u64, const HIGH: u64>(
 /// Returns the text at a key, or the default if the key is missing.
 pub(crate) fn text_or<'a>(table: &'a Table, key: &str, default: &'a str) -> &'a str
     ensures { result.now
-        ≡ found_or default.now (text_at any_text (get_member key.now (table_view table.now))) }
+        ≡ found_or default.now (text_setting any_text (get_member key.now (table_view table.now))) }
 {
     match value_at(table, key) {
         None => default,
@@ -130,7 +131,7 @@ fn names_in(text: &str) -> Names
 
 /// The names that a table sets, or legacy ones if it sets none that can be taken.
 pub(crate) fn names_of(table: &Table) -> Names
-    ensures { result ≡ names_of (table_view table.now) }
+    ensures { result ≡ names_setting (table_view table.now) }
 {
     match value_at(table, "names") {
         None => Names::Legacy,

@@ -4,3 +4,4 @@ pub mod SentRequest
 pub mod Shard
 pub mod Inside
 pub mod Endings
+pub mod inner

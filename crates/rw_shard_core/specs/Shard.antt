@@ -117,10 +117,10 @@ take_item (Sample place t word labels) c = take_sample (placed place t word labe
 take_item Flush c = mark c
 take_item (End kind) c = take_end c
 
-abbrev pub last_of : List Placed → Option Placed
-last_of [] = None
-last_of (x ∷ []) = Some x
-last_of (x ∷ y ∷ ys) = last_of (y ∷ ys)
+abbrev pub last_sample : List Placed → Option Placed
+last_sample [] = None
+last_sample (x ∷ []) = Some x
+last_sample (x ∷ y ∷ ys) = last_sample (y ∷ ys)
 
 -- a sample has this shard's next number and a later position
 abbrev pub IsNext : Placed → Placed → Type 0
@@ -130,7 +130,7 @@ IsNext x y = (y.place.seq ≡ x.place.seq + 1) × (x.place.pos < y.place.pos)
 abbrev pub MayTake : Item → Core → Type 0
 MayTake (Sample place t word labels) c =
     (place.epoch ≡ c.epoch) × (place.shard ≡ c.shard)
-    × IfSome (last_of c.taken) (λ x. IsNext x (placed place t word labels.value))
+    × IfSome (last_sample c.taken) (λ x. IsNext x (placed place t word labels.value))
 MayTake Flush c = ⊤
 MayTake (End kind) c = ⊤
 

@@ -1,7 +1,8 @@
 //! Reads the status of the reply to a request.
 
 ghost use Rattle.std.specs.Prelude.{◌≡◌, ◌≤◌, length, drop};
-ghost use Rattle.rw_shard_core.specs.Replies.{Reads, Found};
+ghost use Rattle.rw_shard_core.specs.Replies.{ReadsReply};
+ghost use Rattle.rw_shard_core.specs.inner.Replies.{Found};
 
 use httparse::Status;
 use httparse::spans::{EMPTY_HEADER_SPAN, parse_response};
@@ -74,7 +75,7 @@ fn without(text: &[u8], len: usize) -> &[u8]
 /// A head is what `httparse` reads as one: empty lines may come first and count among its bytes,
 /// and LF alone ends a line. This takes no memory.
 pub fn read_reply(text: &[u8]) -> ReplyRead
-    ensures { Reads 8192 text.now result }
+    ensures { ReadsReply 8192 text.now result }
 {
     let mut rest = text;
     let mut room = MAX_HEAD_BYTES;

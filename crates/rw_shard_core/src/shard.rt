@@ -96,7 +96,8 @@ impl Model for ShardCore {
 
     ghost Value = { Core };
 
-    ghost use Rattle.rw_shard_core.specs.Inside.{IsKept, batch_part, builder_part, is_waiting};
+    ghost use Rattle.rw_shard_core.specs.Inside.{batch_part, builder_part, is_waiting};
+    ghost use Rattle.rw_shard_core.specs.inner.Inside.{IsKept};
 
     ghost view = { λ s. record {
       target = s.target;

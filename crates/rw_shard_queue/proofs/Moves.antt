@@ -13,8 +13,9 @@ use Rattle.rw_plain_queue.specs.Items.{is_end}
 use Rattle.rw_plain_queue.specs.declared.item.Kind.{Kind}
 use Rattle.rw_plain_queue.specs.declared.item.Item.TheVariants.{End}
 use Rattle.rw_plain_queue.specs.History.{IsHistory, EndIsLast, IsOpen, IsEnded, MayFollow}
-use Rattle.rw_shard_queue.specs.Rule.{Filled, joined, AreBlocks, IsRoomy, both, feeder, drainer, unnamed, no_name, nobody, Fits, IsRelayed, Took, Remains}
-use Rattle.rw_plain_queue.proofs.Histories.{history-nil, history-front, history-put, history-end, open-put, open-push}
+use Rattle.rw_shard_queue.specs.Rule.{Filled}
+use Rattle.rw_shard_queue.specs.inner.Rule.{joined, AreBlocks, IsRoomy, both, feeder, drainer, unnamed, no_name, nobody, Fits, IsRelayed, Took, Remains}
+use Rattle.rw_plain_queue.proofs.shared.Histories.{history-nil, history-front, history-put, history-end, open-put, open-push}
 
 at_end : (l : List Log) (a b : Log) (j : ℕ) → get_elem? l j ≢ some b → get_elem? (l ++ a ∷ []) j ≡ some b → j ≡ length l
 at_end [] a b zero n e = refl

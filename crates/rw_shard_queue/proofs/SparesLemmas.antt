@@ -6,7 +6,7 @@ use Rattle.std.proofs.lemmas.List.Elements.{All-nil, All-push, All-head, All-tai
 use Rattle.crossbeam_channel.specs.Fifo.{Pushes, Pops, Forks}
 use Rattle.atomic_table.proofs.Lists.{at_set, at_snoc}
 use Rattle.rw_shard_queue.specs.Rule.{Filled}
-use Rattle.rw_shard_queue.specs.Spares.{empty_block, AreEmpty, AreSpare}
+use Rattle.rw_shard_queue.specs.inner.Spares.{empty_block, AreEmpty, AreSpare}
 
 at_first : (x u : ℕ) (j : ℕ) → get_elem? (x ∷ []) j ≡ some u → j ≡ 0
 at_first x u zero e = refl

@@ -21,11 +21,11 @@ pub record QueueId : Type 0 where
   pub key : Badge (Key Filled)
 
 -- what the holder of a pass knows
-abbrev pub log_of : Pass Filled Log → Log
-log_of p = view p
+abbrev pub known_log : Pass Filled Log → Log
+known_log p = view p
 
 abbrev pub queue_of : Pass Filled Log → QueueId
-queue_of p = record { epoch = (log_of p).name.epoch; shard = (log_of p).name.shard; capacity = (log_of p).name.capacity; slots = (log_of p).name.slots; most = (log_of p).name.most; table = p.table_id; key = p.me.0.of }
+queue_of p = record { epoch = (known_log p).name.epoch; shard = (known_log p).name.shard; capacity = (known_log p).name.capacity; slots = (known_log p).name.slots; most = (known_log p).name.most; table = p.table_id; key = p.me.0.of }
 
 -- the end that puts: its queue, how many items the queue holds at most, what was put, and how much
 -- of it was handed over to the channel; the rest waits in the block of this end

@@ -1,7 +1,7 @@
 //! The blocks of items that go through the channel of a queue.
 
 ghost use Rattle.std.specs.Prelude.{◌≡◌, ◌++◌, ◌∷◌, [], length, IfOk, IfNone, ◌≤◌, ◌<◌, MatchOption};
-ghost use Rattle.rw_shard_queue.specs.Spares.{empty_block};
+ghost use Rattle.rw_shard_queue.specs.inner.Spares.{empty_block};
 
 use rw_plain_queue::Item;
 use std::alloc::{AllocError, Global};

@@ -3,8 +3,8 @@
 ghost use Rattle.std.specs.Prelude.{◌≡◌, ◌<◌, [], ◌∷◌, ◌++◌, ◌+◌, ◌≤◌, length, IfOk, OnOk, OnErr, MatchResult};
 ghost use Rattle.crossbeam_channel.specs.Claims.{IsSeatAt};
 ghost use Rattle.crossbeam_channel.specs.Ends.{sends_on, receives_on, ruled_capacity};
-ghost use Rattle.rw_shard_queue.specs.Ends.{log_of, queue_of};
-ghost use Rattle.rw_shard_queue.specs.Rule.{feeder, drainer, name_of, IsNamed, IsRoomy, HandsOver};
+ghost use Rattle.rw_shard_queue.specs.Ends.{known_log, queue_of};
+ghost use Rattle.rw_shard_queue.specs.inner.Rule.{feeder, drainer, name_of, IsNamed, IsRoomy, HandsOver};
 ghost use Rattle.rw_plain_queue.specs.History.{MayFollow, IsHistory, IsOpen};
 ghost use Rattle.rw_shard_queue.specs.Taken.{TakesFront};
 
@@ -49,28 +49,28 @@ impl<S: Stage> Model for Feed<S> {
     ghost use Rattle.std.specs.Prelude.{◌≡◌, ◌<◌, ◌++◌, length};
     ghost use Rattle.crossbeam_channel.specs.Claims.{IsSeatAt};
     ghost use Rattle.crossbeam_channel.specs.Ends.{sends_on, ruled_capacity};
-    ghost use Rattle.rw_shard_queue.specs.Ends.{Feeding, queue_of, log_of};
-    ghost use Rattle.rw_shard_queue.specs.Rule.{feeder, IsNamed, IsRoomy};
+    ghost use Rattle.rw_shard_queue.specs.Ends.{Feeding, queue_of, known_log};
+    ghost use Rattle.rw_shard_queue.specs.inner.Rule.{feeder, IsNamed, IsRoomy};
 
     ghost Value = { Feeding };
 
     ghost view = { λ f. record {
       queue = queue_of f.pass;
-      capacity = (log_of f.pass).name.capacity;
-      handed = (log_of f.pass).put;
-      put = (log_of f.pass).put ++ f.block.items;
+      capacity = (known_log f.pass).name.capacity;
+      handed = (known_log f.pass).put;
+      put = (known_log f.pass).put ++ f.block.items;
     } };
 
     ghost invariant = { λ f. IsSeatAt (sends_on f.sender) f.pass
-        × (log_of f.pass ≡ feeder (log_of f.pass).name (log_of f.pass).put)
-        × IsNamed (log_of f.pass).name ((log_of f.pass).put ++ f.block.items)
-        × S.stands ((log_of f.pass).put ++ f.block.items)
-        × ((log_of f.pass).name.slots ≡ ruled_capacity (sends_on f.sender))
-        × IsRoomy (log_of f.pass).name
-        × (f.block.most ≡ (log_of f.pass).name.most)
-        × (length f.block.items < (log_of f.pass).name.most)
+        × (known_log f.pass ≡ feeder (known_log f.pass).name (known_log f.pass).put)
+        × IsNamed (known_log f.pass).name ((known_log f.pass).put ++ f.block.items)
+        × S.stands ((known_log f.pass).put ++ f.block.items)
+        × ((known_log f.pass).name.slots ≡ ruled_capacity (sends_on f.sender))
+        × IsRoomy (known_log f.pass).name
+        × (f.block.most ≡ (known_log f.pass).name.most)
+        × (length f.block.items < (known_log f.pass).name.most)
         × S.held f.block.items
-        × (f.spares ≡ (log_of f.pass).name.most) };
+        × (f.spares ≡ (known_log f.pass).name.most) };
 }
 
 /// The end of a queue that takes. Contracts see its queue and what was taken.
@@ -90,8 +90,8 @@ impl<S: Stage> Model for Drain<S> {
     ghost use Rattle.std.specs.Prelude.{◌≡◌, ◌<◌, ◌++◌, length, [], MatchOption};
     ghost use Rattle.crossbeam_channel.specs.Claims.{IsSeatAt};
     ghost use Rattle.crossbeam_channel.specs.Ends.{receives_on};
-    ghost use Rattle.rw_shard_queue.specs.Ends.{Draining, queue_of, log_of};
-    ghost use Rattle.rw_shard_queue.specs.Rule.{drainer, IsNamed};
+    ghost use Rattle.rw_shard_queue.specs.Ends.{Draining, queue_of, known_log};
+    ghost use Rattle.rw_shard_queue.specs.inner.Rule.{drainer, IsNamed};
 
     ghost Value = { Draining };
 
@@ -99,13 +99,13 @@ impl<S: Stage> Model for Drain<S> {
 
     ghost invariant = { λ d. MatchOption d.receiver S.let_go (λ r. IsSeatAt (receives_on r) d.pass)
         × (d.pass.me.1 ≡ [])
-        × (log_of d.pass ≡ drainer (log_of d.pass).name (log_of d.pass).taken)
-        × IsNamed (log_of d.pass).name (log_of d.pass).taken
-        × ((log_of d.pass).taken ≡ d.taken ++ d.block.items)
+        × (known_log d.pass ≡ drainer (known_log d.pass).name (known_log d.pass).taken)
+        × IsNamed (known_log d.pass).name (known_log d.pass).taken
+        × ((known_log d.pass).taken ≡ d.taken ++ d.block.items)
         × S.stands d.taken
-        × (length d.block.items < (log_of d.pass).name.most)
-        × (d.block.most ≡ (log_of d.pass).name.most)
-        × MatchOption d.returns S.let_go (λ r. r ≡ (log_of d.pass).name.most) };
+        × (length d.block.items < (known_log d.pass).name.most)
+        × (d.block.most ≡ (known_log d.pass).name.most)
+        × MatchOption d.returns S.let_go (λ r. r ≡ (known_log d.pass).name.most) };
 }
 
 /// What `Drain::take` returns, with the end as it then is.
@@ -129,19 +129,19 @@ fn send<R: Wait>(
     spares: &mut Spares,
 ) -> Result<(), Gone>
     requires seat { IsSeatAt (sends_on sender.now) pass.old }
-    requires log { log_of pass.old ≡ feeder (log_of pass.old).name (log_of pass.old).put }
-    requires history { IsNamed (log_of pass.old).name ((log_of pass.old).put ++ block.old.items) }
-    requires slots { (log_of pass.old).name.slots ≡ ruled_capacity (sends_on sender.now) }
+    requires log { known_log pass.old ≡ feeder (known_log pass.old).name (known_log pass.old).put }
+    requires history { IsNamed (known_log pass.old).name ((known_log pass.old).put ++ block.old.items) }
+    requires slots { (known_log pass.old).name.slots ≡ ruled_capacity (sends_on sender.now) }
     requires some { 0 < length block.old.items }
-    requires most { length block.old.items ≤ (log_of pass.old).name.most }
-    requires sized { block.old.most ≡ (log_of pass.old).name.most }
-    requires spares { spares.old ≡ (log_of pass.old).name.most }
+    requires most { length block.old.items ≤ (known_log pass.old).name.most }
+    requires sized { block.old.most ≡ (known_log pass.old).name.most }
+    requires spares { spares.old ≡ (known_log pass.old).name.most }
     ensures seat { IsSeatAt (sends_on sender.now) pass.new × (pass.new.id ≡ pass.old.id) }
     ensures room { block.new.most ≡ block.old.most }
     ensures spares { spares.new ≡ spares.old }
     ensures ok { OnOk result
-        (HandsOver (log_of pass.old) (log_of pass.new) block.old.items block.new.items) }
-    ensures err { OnErr result ((log_of pass.new ≡ log_of pass.old) × (block.new ≡ block.old)) }
+        (HandsOver (known_log pass.old) (known_log pass.new) block.old.items block.new.items) }
+    ensures err { OnErr result ((known_log pass.new ≡ known_log pass.old) × (block.new ≡ block.old)) }
 {
     let Some(spare) = spares.take(rt) else {
         return Err(Gone);
@@ -258,13 +258,13 @@ fn given(
     taken: History<Item>,
 ) -> Taken
     requires seat { IsSeatAt (receives_on receiver) pass }
-    requires log { log_of pass ≡ drainer (log_of pass).name (log_of pass).taken }
-    requires history { IsNamed (log_of pass).name (log_of pass).taken }
-    requires front { (log_of pass).taken ≡ taken ++ item ∷ block.items }
+    requires log { known_log pass ≡ drainer (known_log pass).name (known_log pass).taken }
+    requires history { IsNamed (known_log pass).name (known_log pass).taken }
+    requires front { (known_log pass).taken ≡ taken ++ item ∷ block.items }
     requires open { IsOpen taken }
-    requires most { length block.items < (log_of pass).name.most }
-    requires sized { block.most ≡ (log_of pass).name.most }
-    requires returns { returns ≡ (log_of pass).name.most }
+    requires most { length block.items < (known_log pass).name.most }
+    requires sized { block.most ≡ (known_log pass).name.most }
+    requires returns { returns ≡ (known_log pass).name.most }
     ensures { TakesFront (record { queue = queue_of pass; taken = taken }) result }
 {
     let mut taken = taken;

@@ -35,7 +35,7 @@ pub trait Naming {
 }
 
 impl Naming for Brand {
-    ghost use Rattle.rw_shard_queue.specs.Rule.{no_name};
+    ghost use Rattle.rw_shard_queue.specs.inner.Rule.{no_name};
 
     ghost name = { no_name };
 }
@@ -45,7 +45,7 @@ impl Naming for Brand {
 pub struct InOrder;
 
 impl Protocol<Block, Log> for InOrder {
-    ghost use Rattle.rw_shard_queue.specs.Rule.{unnamed, IsRelayed};
+    ghost use Rattle.rw_shard_queue.specs.inner.Rule.{unnamed, IsRelayed};
 
     ghost holds = { IsRelayed };
 
@@ -59,7 +59,7 @@ pub struct Opens<Q: Naming> {
 
 impl<Q: Naming> Split<Log> for Opens<Q> {
     ghost use Rattle.std.specs.Prelude.{[]};
-    ghost use Rattle.rw_shard_queue.specs.Rule.{feeder, drainer};
+    ghost use Rattle.rw_shard_queue.specs.inner.Rule.{feeder, drainer};
 
     ghost left = { λ v. feeder Q.name [] };
 
@@ -70,7 +70,7 @@ impl<Q: Naming> Split<Log> for Opens<Q> {
 pub struct Parts;
 
 impl Split<Log> for Parts {
-    ghost use Rattle.rw_shard_queue.specs.Rule.{feeder, drainer};
+    ghost use Rattle.rw_shard_queue.specs.inner.Rule.{feeder, drainer};
 
     ghost left = { λ v. feeder v.name v.put };
 
@@ -81,7 +81,7 @@ impl Split<Log> for Parts {
 pub struct Meets;
 
 impl Join<Log> for Meets {
-    ghost use Rattle.rw_shard_queue.specs.Rule.{both, nobody};
+    ghost use Rattle.rw_shard_queue.specs.inner.Rule.{both, nobody};
 
     ghost both = { λ v w. both v.name v.put w.taken };
 
@@ -93,7 +93,7 @@ pub struct Puts;
 
 impl Outcome<Block, Log> for Puts {
     ghost use Rattle.std.specs.Prelude.{◌≡◌, ◌++◌};
-    ghost use Rattle.rw_shard_queue.specs.Rule.{feeder};
+    ghost use Rattle.rw_shard_queue.specs.inner.Rule.{feeder};
 
     ghost then = { λ v x w. w ≡ feeder v.name (v.put ++ x.items) };
 }
@@ -108,7 +108,7 @@ impl Lesson<Block, Log> for Puts {
 pub struct Takes;
 
 impl Outcome<Block, Log> for Takes {
-    ghost use Rattle.rw_shard_queue.specs.Rule.{Took};
+    ghost use Rattle.rw_shard_queue.specs.inner.Rule.{Took};
 
     ghost then = { Took };
 }
@@ -123,7 +123,7 @@ impl Lesson<Block, Log> for Takes {
 pub struct Compares;
 
 impl Lesson<Block, Log> for Compares {
-    ghost use Rattle.rw_shard_queue.specs.Rule.{Remains};
+    ghost use Rattle.rw_shard_queue.specs.inner.Rule.{Remains};
 
     ghost fact = { Remains };
 }

@@ -2,7 +2,7 @@
 //! end that puts. All blocks are made when the queue is opened.
 
 ghost use Rattle.std.specs.Prelude.{◌≡◌, ◌<◌, IfOk, IfSome};
-ghost use Rattle.rw_shard_queue.specs.Spares.{empty_block, AreEmpty};
+ghost use Rattle.rw_shard_queue.specs.inner.Spares.{empty_block, AreEmpty};
 
 use crate::block::Block;
 use crate::rule::Naming;
@@ -16,7 +16,7 @@ use std::sync::Wait;
 pub struct Empties;
 
 impl Protocol<Block, usize> for Empties {
-    ghost use Rattle.rw_shard_queue.specs.Spares.{AreSpare};
+    ghost use Rattle.rw_shard_queue.specs.inner.Spares.{AreSpare};
 
     ghost holds = { AreSpare };
 
@@ -54,7 +54,7 @@ pub struct Reuses;
 
 impl Outcome<Block, usize> for Reuses {
     ghost use Rattle.std.specs.Prelude.{◌≡◌};
-    ghost use Rattle.rw_shard_queue.specs.Spares.{empty_block};
+    ghost use Rattle.rw_shard_queue.specs.inner.Spares.{empty_block};
 
     ghost then = { λ v x w. (x ≡ empty_block v) × (w ≡ v) };
 }
@@ -78,7 +78,7 @@ impl Model for Spares {
     ghost use Rattle.std.specs.Prelude.{◌<◌, ℕ};
     ghost use Rattle.crossbeam_channel.specs.Claims.{IsSeatAt};
     ghost use Rattle.crossbeam_channel.specs.Ends.{receives_on};
-    ghost use Rattle.rw_shard_queue.specs.Spares.{most_of, AreEmpty};
+    ghost use Rattle.rw_shard_queue.specs.inner.Spares.{most_of, AreEmpty};
 
     ghost Value = { ℕ };
 
@@ -100,7 +100,7 @@ impl Model for Returns {
     ghost use Rattle.std.specs.Prelude.{◌<◌, ℕ};
     ghost use Rattle.crossbeam_channel.specs.Claims.{IsSeatAt};
     ghost use Rattle.crossbeam_channel.specs.Ends.{sends_on};
-    ghost use Rattle.rw_shard_queue.specs.Spares.{most_of};
+    ghost use Rattle.rw_shard_queue.specs.inner.Spares.{most_of};
 
     ghost Value = { ℕ };
 

@@ -22,15 +22,15 @@ pub struct Whole {
 
 impl Model for Whole {
     ghost use Rattle.std.specs.Prelude.{◌≡◌};
-    ghost use Rattle.rw_shard_queue.specs.Ends.{Passing, queue_of, log_of};
-    ghost use Rattle.rw_shard_queue.specs.Rule.{both};
+    ghost use Rattle.rw_shard_queue.specs.Ends.{Passing, queue_of, known_log};
+    ghost use Rattle.rw_shard_queue.specs.inner.Rule.{both};
 
     ghost Value = { Passing };
 
-    ghost view = { λ w. record { queue = queue_of w.pass; items = (log_of w.pass).put } };
+    ghost view = { λ w. record { queue = queue_of w.pass; items = (known_log w.pass).put } };
 
-    ghost invariant = { λ w. log_of w.pass
-        ≡ both (log_of w.pass).name (log_of w.pass).put (log_of w.pass).put };
+    ghost invariant = { λ w. known_log w.pass
+        ≡ both (known_log w.pass).name (known_log w.pass).put (known_log w.pass).put };
 }
 
 /// Keeps the two ends of an ended queue together. By its contract, what was put is what was taken.

@@ -9,7 +9,7 @@ use Rattle.std.proofs.lemmas.Option.{same_Some, none-some}
 use Rattle.rw_types.specs.declared.entry.Entry.{Entry}
 use Rattle.rw_types.specs.declared.place.Place.{Place}
 use Rattle.rw_types.specs.Gathering.{gather_from}
-use Rattle.rw_types.proofs.AllLemmas.{AllByRecursion-left, AllByRecursion-right}
+use Rattle.rw_types.proofs.shared.AllLemmas.{AllByRecursion-left, AllByRecursion-right}
 use Rattle.rw_wal_format.specs.Pieces.{Piece, entries}
 use Rattle.rw_wal_tail.specs.Fed.{piece_of}
 use Rattle.rw_relabel.specs.declared.choice.Choice.{Choice}
@@ -28,27 +28,28 @@ use Rattle.rw_fleet.specs.Work.{AreResolved, IsWorked, is_compared, lane_of, fin
 use Rattle.rw_fleet.specs.Fleets.{Shards, AreAll}
 use Rattle.rw_fleet.specs.declared.joined.StoppedShard.{StoppedShard}
 use Rattle.rw_fleet.specs.declared.joined.Finished.{Finished}
-use Rattle.rw_fleet.proofs.LaneLemmas.{same_length}
+use Rattle.rw_fleet.proofs.shared.LaneLemmas.{same_length}
 use Rattle.rw_sender.specs.Logs.{Sent, sent_of, sent, filtered}
-use Rattle.rw_sender.specs.Placement.{as_sent, put_in, of_shard, IsDealt, IsShardCount, Places}
+use Rattle.rw_sender.specs.Placement.{as_sent, samples_put, of_shard, IsDealt, IsShardCount, Places}
 use Rattle.rw_sender.specs.Reports.{IsAbandoned, abandoned_in}
-use Rattle.rw_sender.specs.Shipping.{Shipping, PlacesAll, HasStopped, Ends}
+use Rattle.rw_sender.specs.Shipping.{Shipping, PlacesAll, HasStopped, HasEndedAs}
 use Rattle.rw_sender.specs.declared.report.Report.{Report}
-use Rattle.rw_sender.proofs.PlacementLemmas.{whole_placed}
-use Rattle.rw_machine.specs.Shards.{Shard, Queued, pending, samples_in as waiting_in}
+use Rattle.rw_sender.proofs.shared.PlacementLemmas.{whole_placed}
+use Rattle.rw_sender.proofs.shared.ListingLemmas.{abandoned_append}
+use Rattle.rw_machine.specs.Shards.{Shard, Queued, pending_in_shard, samples_waiting as waiting_in}
 use Rattle.rw_machine.specs.Worlds.{Setup, Request, World, start, new_shards, is_pending, up_to, report}
 use Rattle.rw_shard_core.specs.Endings.{Abandoned}
 use Rattle.rw_machine.specs.Steps.{happens, unless_over}
 use Rattle.rw_machine.specs.declared.event.Event.TheVariants as event
 use Rattle.rw_machine.specs.Promises.{CanWork}
-use Rattle.rw_machine.proofs.Lists.{Lists}
-use Rattle.rw_machine.proofs.Lists as lists
+use Rattle.rw_machine.proofs.shared.Lists.{Lists}
+use Rattle.rw_machine.proofs.shared.Lists as lists
 use Rattle.rw_simulation.specs.Freely.{Of, run_freely}
 use Rattle.rw_simulation.specs.FreeLaws.{world_of}
 use Rattle.rw_simulation.specs.WorkerRuns.{queued, sent_bytes, request_in}
 use Rattle.rw_simulation.specs.Tallies.{Past, IsTallied, requests_of}
-use Rattle.rw_simulation.specs.EpochRuns.{StartsByTaking, ShardFate, end_in, IsAtEnd, IsPut, AreUnsent, IsAllPut, Reaches}
-use Rattle.rw_simulation.specs.FleetRuns.{IsShardRun, fate_of, fate_by, fate_at}
+use Rattle.rw_simulation.specs.EpochRuns.{StartsByTaking, ShardFate, end_in, HasOnlyEnd, IsPutAllButEnd, AreUnsent, IsAllPut, Reaches}
+use Rattle.rw_simulation.specs.FleetRuns.{IsShardRun, fate_of, shard_fate_by, fate_at}
 use Rattle.rw_simulation.specs.StoppedShards.{IsShardOf}
 use Rattle.rw_simulation.specs.StoppedRuns.{IsSetAs, IsAlike, IsRisingOrderOf, Tells, IsRun, first_number, StopsAbandoned}
 use Rattle.rw_simulation.proofs.Changes.{run-append}
@@ -59,7 +60,7 @@ use Rattle.rw_simulation.proofs.FleetRuns.{fleet-run}
 use Rattle.rw_simulation.proofs.ReshardRuns.{BeginsEpoch}
 use Rattle.rw_simulation.proofs.EndRuns.{HasCome, tallies-at}
 use Rattle.rw_simulation.proofs.Tallies.{Names, lists-at, tallied-next}
-use Rattle.rw_simulation.proofs.Pasts.{get_map, map_get, past_of, ReportsAt, passes-of, seen-is, names-all, sends-all}
+use Rattle.rw_simulation.proofs.shared.Pasts.{get_map, map_get, past_of, ReportsAt, passes-of, seen-is, names-all, sends-all}
 use Rattle.rw_simulation.proofs.StoppedShards.{has-taken, with-what-is-left}
 use Rattle.rw_simulation.proofs.RisingOrders.{is_in, passing-permutes, passing-rises}
 use Rattle.rw_simulation.proofs.Positions.{position_of, ArePartOf, AreApart, part-of, part-dropped, positions_in-is, all-apart}
@@ -78,9 +79,9 @@ none-taken (Freezes ∷ ss) left starts e = absurd starts
 none-taken (Sends x ∷ ss) left starts e = absurd starts
 none-taken (Waits ∷ ss) left starts e = absurd starts
 
-pub come-with : (c : Setup) (epoch k : ℕ) (requests : List Request) (part : Names) (s : Shard) (f : ShardFate) (p : IsPut c epoch k requests part s f) → f.end ≡ None → (ps : List Item) → p.way.coming.puts ≡ ps → HasCome epoch k requests part s f
-come-with c epoch k requests part s f p open_still (item.Sample place t word labels ∷ ps) is = absurd (subst IsAtEnd is p.at_end)
-come-with c epoch k requests part s f p open_still (item.Flush ∷ ps) is = absurd (subst IsAtEnd is p.at_end)
+pub come-with : (c : Setup) (epoch k : ℕ) (requests : List Request) (part : Names) (s : Shard) (f : ShardFate) (p : IsPutAllButEnd c epoch k requests part s f) → f.end ≡ None → (ps : List Item) → p.way.coming.puts ≡ ps → HasCome epoch k requests part s f
+come-with c epoch k requests part s f p open_still (item.Sample place t word labels ∷ ps) is = absurd (subst HasOnlyEnd is p.at_end)
+come-with c epoch k requests part s f p open_still (item.Flush ∷ ps) is = absurd (subst HasOnlyEnd is p.at_end)
 come-with c epoch k requests part s f p open_still (item.End kind ∷ ps) is = absurd (none-some kind (sym open_still ∙ sym p.way.end ∙ ap end_in is))
 come-with c epoch k requests part s f p open_still [] is = record {
   put = sym (append-nil s.put) ∙ ap (λ (xs : List Item). s.put ++ samples_in xs) (sym is) ∙ p.way.put;
@@ -100,7 +101,7 @@ come-with c epoch k requests part s f p open_still [] is = record {
     none : p.way.coming.steps ≡ []
     none = by_eager p.way.ready.eager
 
-pub come : (c : Setup) (epoch k : ℕ) (requests : List Request) (part : Names) (s : Shard) (f : ShardFate) → IsPut c epoch k requests part s f → f.end ≡ None → HasCome epoch k requests part s f
+pub come : (c : Setup) (epoch k : ℕ) (requests : List Request) (part : Names) (s : Shard) (f : ShardFate) → IsPutAllButEnd c epoch k requests part s f → f.end ≡ None → HasCome epoch k requests part s f
 come c epoch k requests part s f p open_still = come-with c epoch k requests part s f p open_still p.way.coming.puts refl
 
 -- ---- what is left of a shard
@@ -114,11 +115,11 @@ positions-behind : (xs ys : List Placed) → drop (length xs) (positions (xs ++ 
 positions-behind [] ys = refl
 positions-behind (x ∷ xs) ys = positions-behind xs ys
 
-pub put-split : (c : Setup) (m : Shard) → Lists c m → m.put ≡ m.core.resolved ++ pending m
+pub put-split : (c : Setup) (m : Shard) → Lists c m → m.put ≡ m.core.resolved ++ pending_in_shard m
 put-split c m h = h.queued ∙ ap (λ (xs : List Placed). xs ++ waiting_in m.queue) h.held ∙ append_assoc m.core.resolved (m.core.batch ++ m.core.builder) (waiting_in m.queue)
 
-positions-pending : (c : Setup) (m : Shard) → Lists c m → positions (pending m) ≡ drop (length m.core.resolved) (positions m.put)
-positions-pending c m h = sym (positions-behind m.core.resolved (pending m)) ∙ ap (λ (xs : List Placed). drop (length m.core.resolved) (positions xs)) (sym (put-split c m h))
+positions-pending : (c : Setup) (m : Shard) → Lists c m → positions (pending_in_shard m) ≡ drop (length m.core.resolved) (positions m.put)
+positions-pending c m h = sym (positions-behind m.core.resolved (pending_in_shard m)) ∙ ap (λ (xs : List Placed). drop (length m.core.resolved) (positions xs)) (sym (put-split c m h))
 
 list_any-positions : (p : ℕ) (xs : List Placed) → list_any (λ (x : Placed). x.place.pos == p) xs ≡ is_in (positions xs) p
 list_any-positions p [] = refl
@@ -133,22 +134,18 @@ none_long (x ∷ xs) e = absurd (no_less (length xs) (sym e))
 
 module _ {T : Type 0} where
   -- a position is pending if the shards left it
-  list_any-pending : (p : ℕ) (ms : List Shard) (js : List (StoppedShard T)) → length ms ≡ length js → ((k : ℕ) (m : Shard) (j : StoppedShard T) → slice_get ms k ≡ Some m → slice_get js k ≡ Some j → positions (pending m) ≡ j.abandoned.items)
-      → list_any (λ (m : Shard). list_any (λ (x : Placed). x.place.pos == p) (pending m)) ms ≡ is_in (abandoned_in js) p
+  list_any-pending : (p : ℕ) (ms : List Shard) (js : List (StoppedShard T)) → length ms ≡ length js → ((k : ℕ) (m : Shard) (j : StoppedShard T) → slice_get ms k ≡ Some m → slice_get js k ≡ Some j → positions (pending_in_shard m) ≡ j.abandoned.items)
+      → list_any (λ (m : Shard). list_any (λ (x : Placed). x.place.pos == p) (pending_in_shard m)) ms ≡ is_in (abandoned_in js) p
   list_any-pending p [] [] same each = refl
   list_any-pending p [] (j ∷ js) same each = absurd (no_less (length js) same)
   list_any-pending p (m ∷ ms) [] same each = absurd (no_less (length ms) (sym same))
   list_any-pending p (m ∷ ms) (j ∷ js) same each =
-      ap (λ b. b || list_any (λ (x : Shard). list_any (λ (y : Placed). y.place.pos == p) (pending x)) ms) (list_any-positions p (pending m) ∙ ap (λ (xs : List ℕ). is_in xs p) (each 0 m j refl refl))
+      ap (λ b. b || list_any (λ (x : Shard). list_any (λ (y : Placed). y.place.pos == p) (pending_in_shard x)) ms) (list_any-positions p (pending_in_shard m) ∙ ap (λ (xs : List ℕ). is_in xs p) (each 0 m j refl refl))
       ∙ ap (λ b. is_in j.abandoned.items p || b) (list_any-pending p ms js (shorter (length ms) (length js) same) (λ k x y e f. each (suc k) x y e f))
       ∙ sym (list_any-append (λ q. q == p) j.abandoned.items (abandoned_in js))
     where
       shorter : (a b : ℕ) → suc a ≡ suc b → a ≡ b
       shorter a b e = omega arith
-
-  abandoned_in-append : (xs ys : List (StoppedShard T)) → abandoned_in (xs ++ ys) ≡ abandoned_in xs ++ abandoned_in ys
-  abandoned_in-append [] ys = refl
-  abandoned_in-append (x ∷ xs) ys = ap (λ (ps : List ℕ). x.abandoned.items ++ ps) (abandoned_in-append xs ys) ∙ sym (append_assoc x.abandoned.items (abandoned_in xs) (abandoned_in ys))
 
   -- nothing is left of what is resolved
   abandoned_in-none : (js : List (StoppedShard T)) → AreResolved js → abandoned_in js ≡ []
@@ -157,7 +154,7 @@ module _ {T : Type 0} where
 
   -- so what is left is what the last ones left
   pub left-by-last : (js ended last : List (StoppedShard T)) → js ≡ ended ++ last → AreResolved ended → abandoned_in js ≡ abandoned_in last
-  left-by-last js ended last are resolved = ap abandoned_in are ∙ abandoned_in-append ended last ∙ ap (λ (ps : List ℕ). ps ++ abandoned_in last) (abandoned_in-none ended resolved)
+  left-by-last js ended last are resolved = ap abandoned_in are ∙ abandoned_append ended last ∙ ap (λ (ps : List ℕ). ps ++ abandoned_in last) (abandoned_in-none ended resolved)
 
 module _ {T : Type 0} (tells : T → Type 0) (seen : T → List Exchange) (is_for : ℕ → ℕ → T → Type 0) (c : Setup) (config : ConfigFields) (set : IsSetAs c config) (work : CanWork c) (Asked : (j : StoppedShard T) → IsWorked tells seen is_for j → Type 0) where
   abbrev pub KnownOf : StoppedShard T → Type 0
@@ -250,10 +247,10 @@ module _ {T : Type 0} (tells : T → Type 0) (seen : T → List Exchange) (is_fo
     pub same-count : length (map lane_of js) ≡ n
     same-count = length-map js lane_of ∙ sym n-is
 
-    pub put-same : (j : StoppedShard T) → put_in (soft_lane j) ≡ put_in (lane_of j)
+    pub put-same : (j : StoppedShard T) → samples_put (soft_lane j) ≡ samples_put (lane_of j)
     put-same j = ap (map as_sent) (samples_in-flushed (put_of j.finished.ends))
 
-    pub dealt-at : (k : ℕ) (j : StoppedShard T) → slice_get js k ≡ Some j → ((soft_lane j).setup.queue.epoch ≡ epoch) × ((soft_lane j).setup.queue.shard ≡ k) × (put_in (soft_lane j) ≡ of_shard n k samples)
+    pub dealt-at : (k : ℕ) (j : StoppedShard T) → slice_get js k ≡ Some j → ((soft_lane j).setup.queue.epoch ≡ epoch) × ((soft_lane j).setup.queue.shard ≡ k) × (samples_put (soft_lane j) ≡ of_shard n k samples)
     dealt-at k j at = let d = dealt.each k (lane_of j) (get_map lane_of js k j at) in (d.0, d.1, put-same j ∙ d.2 ∙ ap (λ (m : ℕ). of_shard m k samples) same-count)
 
     pub some_lanes : 1 ≤ n
@@ -264,12 +261,12 @@ module _ {T : Type 0} (tells : T → Type 0) (seen : T → List Exchange) (is_fo
 
     pub dealt-so : IsDealt epoch lanes samples
     dealt-so = record {
-      each = λ k l e. let g = map_get soft_lane js k l e in subst (λ (x : ShardHistory). (x.setup.queue.epoch ≡ epoch) × (x.setup.queue.shard ≡ k) × (put_in x ≡ of_shard n k samples)) g.2 (dealt-at k g.0 g.1);
+      each = λ k l e. let g = map_get soft_lane js k l e in subst (λ (x : ShardHistory). (x.setup.queue.epoch ≡ epoch) × (x.setup.queue.shard ≡ k) × (samples_put x ≡ of_shard n k samples)) g.2 (dealt-at k g.0 g.1);
       none = λ none. absurd (no_lane n some_lanes (ap length none));
     }
 
     -- ---- each shard has come to what its worker reports
-    pub goal-open : (k : ℕ) (o : Option ShardHistory) → slice_get lanes k ≡ o → (fate_by o (steps k) (left_at k)).end ≡ None
+    pub goal-open : (k : ℕ) (o : Option ShardHistory) → slice_get lanes k ≡ o → (shard_fate_by o (steps k) (left_at k)).end ≡ None
     goal-open k None e = refl
     goal-open k (Some l) e = let g = map_get soft_lane js k l e in subst (λ (x : ShardHistory). end_in x.put ≡ None) g.2 (end_in-flushed (put_of g.0.finished.ends))
 
@@ -278,13 +275,13 @@ module _ {T : Type 0} (tells : T → Type 0) (seen : T → List Exchange) (is_fo
     reports-at k j at = record {
       epoch_is = (dealt.each k (lane_of j) (get_map lane_of js k j at)).0;
       shard_is = (dealt.each k (lane_of j) (get_map lane_of js k j at)).1;
-      part_is = ap (λ (o : Option ShardHistory). (fate_by o (steps k) (left_at k)).worker.ledger.names) (get_map soft_lane js k j at)
+      part_is = ap (λ (o : Option ShardHistory). (shard_fate_by o (steps k) (left_at k)).worker.ledger.names) (get_map soft_lane js k j at)
           ∙ ap (λ (ss : List Step). (after (start_of j.worker.value) ss).ledger.names) (sym f.steps)
           ∙ ap (λ (x : StoppedShard T). (after (start_of x.worker.value) (map flushed_step f.known.worked.report.steps)).ledger.names) (sym f.same)
           ∙ names-flushed (start_of f.it.worker.value) f.known.worked.report.steps refl f.known.worked.report.made.allowed
           ∙ sym f.known.worked.report.names
           ∙ ap (λ (x : StoppedShard T). x.part.names) f.same;
-      sent_is = λ told. ap (λ (o : Option ShardHistory). (fate_by o (steps k) (left_at k)).requests) (get_map soft_lane js k j at)
+      sent_is = λ told. ap (λ (o : Option ShardHistory). (shard_fate_by o (steps k) (left_at k)).requests) (get_map soft_lane js k j at)
           ∙ ap (λ (ss : List Step). map request_in (exchanges_of ss)) (sym f.steps)
           ∙ ap (map request_in) (exchanges_of-flushed f.known.worked.report.steps ∙ sym (seen-is tells seen is_for f.it f.known.worked (subst (λ (x : StoppedShard T). tells x.finished.transport) (sym f.same) told)))
           ∙ ap (λ (x : StoppedShard T). map request_in (seen x.finished.transport)) f.same;
@@ -315,7 +312,7 @@ module _ {T : Type 0} (tells : T → Type 0) (seen : T → List Exchange) (is_fo
     -- ---- a world in which each shard has come to that
     module _ (d : Setup) (v : World) (parts : ℕ → Names) (count : length v.shards ≡ length js) (kept : lists.All d v) (has_come : (k : ℕ) (m : Shard) → slice_get v.shards k ≡ Some m → HasCome epoch k v.requests (parts k) m (goals k)) where
       come-at : (k : ℕ) (m : Shard) (j : StoppedShard T) → slice_get v.shards k ≡ Some m → slice_get js k ≡ Some j → HasCome epoch k v.requests (parts k) m (fate_of (soft_lane j) (steps k) (left_at k))
-      come-at k m j e at = subst (λ (o : Option ShardHistory). HasCome epoch k v.requests (parts k) m (fate_by o (steps k) (left_at k))) (get_map soft_lane js k j at) (has_come k m e)
+      come-at k m j e at = subst (λ (o : Option ShardHistory). HasCome epoch k v.requests (parts k) m (shard_fate_by o (steps k) (left_at k))) (get_map soft_lane js k j at) (has_come k m e)
 
       alike-at : (k : ℕ) (m : Shard) (j : StoppedShard T) → slice_get v.shards k ≡ Some m → slice_get js k ≡ Some j → IsAlike j.finished m
       alike-at k m j e at = let h = come-at k m j e at in record {
@@ -324,7 +321,7 @@ module _ {T : Type 0} (tells : T → Type 0) (seen : T → List Exchange) (is_fo
         resolved = ap (λ (x : Core). length x.resolved) h.core ∙ resolved-is k j at;
       }
 
-      left-at : (k : ℕ) (m : Shard) (j : StoppedShard T) → slice_get v.shards k ≡ Some m → slice_get js k ≡ Some j → positions (pending m) ≡ j.abandoned.items
+      left-at : (k : ℕ) (m : Shard) (j : StoppedShard T) → slice_get v.shards k ≡ Some m → slice_get js k ≡ Some j → positions (pending_in_shard m) ≡ j.abandoned.items
       left-at k m j e at = let a = alike-at k m j e at in
           positions-pending d m (kept k m e)
           ∙ ap (λ (r : ℕ). drop r (positions m.put)) a.resolved
@@ -467,7 +464,7 @@ module _ {T : Type 0} (tells : T → Type 0) (seen : T → List Exchange) (is_fo
       (subst (λ (v : World). IsTallied c (past_of tells seen (was.ended ++ last)) over.epoch 0 s.log.placed (λ k. empty) v) (sym whole.is)
       (subst (λ (es : List Entry). IsTallied c (past_of tells seen (was.ended ++ last)) over.epoch 0 es (λ k. empty) whole.world) (sym at-last.are) over.tallied))
 
-  tells-left-so : (o : Outcome) → Ends s h.joined o → IsAbandoned o → Tells o (report (world_of c whole.events))
+  tells-left-so : (o : Outcome) → HasEndedAs s h.joined o → IsAbandoned o → Tells o (report (world_of c whole.events))
   tells-left-so (outcome.Complete end) ends stopped = absurd stopped
   tells-left-so (outcome.Damaged f) ends stopped = absurd stopped
   tells-left-so (outcome.Abandoned count ps) ends stopped = (

@@ -15,7 +15,7 @@ use Rattle.rw_sender.specs.Shipping.{Shipping, HasStopped}
 use Rattle.rw_sender.specs.declared.report.Report.{Report}
 use Rattle.rw_machine.specs.Worlds.{Setup, World, log}
 use Rattle.rw_machine.specs.Promises.{Accounted, AccountedEntry, HasOneClassEach}
-use Rattle.rw_machine.proofs.Classes.{get_left}
+use Rattle.rw_machine.proofs.shared.Classes.{get_left}
 use Rattle.rw_simulation.specs.FreeLaws.{world_of}
 use Rattle.rw_simulation.specs.StoppedRuns.{ComesTo}
 use Rattle.rw_simulation.specs.Accounts.{IsNamedAs, AccountedAs, AccountsForAll, RunAccounts}

@@ -9,18 +9,19 @@ use Rattle.rw_worker.specs.Transcript.{Exchange, batch_request}
 use Rattle.rw_head.specs.Head.{State}
 use Rattle.rw_machine.specs.Worlds.{Setup, Request, World, start}
 use Rattle.rw_machine.specs.Worlds as worlds
-use Rattle.rw_machine.specs.Steps.{answered, arrive, endpoint_answer, happens, run}
+use Rattle.rw_machine.specs.Steps.{with_answer, arrive, endpoint_answer, happens, run}
 use Rattle.rw_machine.specs.Promises.{CarriesItsBatch}
 use Rattle.rw_machine.specs.declared.event.How.{How}
 use Rattle.rw_machine.specs.declared.event.How.TheVariants.{Plain, Busy, OutOfMemory}
 use Rattle.rw_machine.specs.declared.event.Event.{Event}
 use Rattle.rw_machine.specs.declared.event.Event.TheVariants as event
+use Rattle.rw_machine.proofs.shared.Settles.{run_append}
 use Rattle.rw_simulation.specs.Freely.{Happening, IsOwn, run_freely}
 use Rattle.rw_simulation.specs.Tallies.{requests_of}
 use Rattle.rw_simulation.specs.Arrivals.{Arrival, Receives, IsOneReceiver}
 use Rattle.rw_simulation.proofs.Changes.{get-last}
-use Rattle.rw_simulation.proofs.Pasts.{get-first}
-use Rattle.rw_simulation.proofs.OwnRuns.{OwnRun, own-run, run-both}
+use Rattle.rw_simulation.proofs.shared.Pasts.{get-first}
+use Rattle.rw_simulation.proofs.OwnRuns.{OwnRun, own-run}
 
 -- ---- the requests of a shard
 abbrev pub is_of : ℕ → ℕ → Request → Bool
@@ -78,7 +79,7 @@ module _ (c : Setup) (exs : ℕ → ℕ → List Exchange) (arrivals : List Arri
   pub arrived-own : (m : ℕ) (w v : World) (hs : List Happening) → HasArrived m w → AllByRecursion IsOwn hs → run_freely c hs w ≡ v → HasArrived m v
   arrived-own m w v hs a own is = record {
     events = a.events ++ r.events;
-    is = run-both c a.events r.events (start c) ∙ ap (run c r.events) a.is ∙ r.is ∙ is;
+    is = run_append c a.events r.events (start c) ∙ ap (run c r.events) a.is ∙ r.is ∙ is;
     count = ap length replies ∙ a.count;
     head = ap (λ (x : World). x.head) (sym is) ∙ r.grows.head ∙ a.head;
     each = λ i b lt e. let x = a.each i b lt e in record {
@@ -115,14 +116,14 @@ module _ (c : Setup) (exs : ℕ → ℕ → List Exchange) (arrivals : List Arri
       carried = ap (λ (y : Exchange). y.request) (same_Some _ _ (sym received.1 ∙ is)) ∙ sym bytes ∙ carries
 
       by_how : (how : How) → Receives c how received.0.request (heads m) a.status (heads (suc m)) → arrive c w how (Some r) ≡ came m w a r
-      by_how Plain h = ap (λ (s : State). answered w r.id (endpoint_answer c s r.batch)) head ∙ ap (answered w r.id) (h r.batch read carried)
-      by_how Busy h = let status = sym h.0 in let next = head ∙ sym h.1 in λ i. answered w r.id (record { status = status i; head = next i })
-      by_how OutOfMemory h = let status = sym h.0 in let next = head ∙ sym h.1 in λ i. answered w r.id (record { status = status i; head = next i })
+      by_how Plain h = ap (λ (s : State). with_answer w r.id (endpoint_answer c s r.batch)) head ∙ ap (with_answer w r.id) (h r.batch read carried)
+      by_how Busy h = let status = sym h.0 in let next = head ∙ sym h.1 in λ i. with_answer w r.id (record { status = status i; head = next i })
+      by_how OutOfMemory h = let status = sym h.0 in let next = head ∙ sym h.1 in λ i. with_answer w r.id (record { status = status i; head = next i })
 
   pub arrived-next : (m : ℕ) (w : World) (a : Arrival) (r : Request) → HasArrived m w → slice_get arrivals m ≡ Some a → slice_get (requests_of a.epoch a.shard w.requests) a.number ≡ Some r → (j : ℕ) → happens c w (event.Arrive j a.how) ≡ came m w a r → HasArrived (suc m) (came m w a r)
   arrived-next m w a r h at sent j is = record {
     events = h.events ++ event.Arrive j a.how ∷ [];
-    is = run-both c h.events (event.Arrive j a.how ∷ []) (start c) ∙ ap (λ (x : World). happens c x (event.Arrive j a.how)) h.is ∙ is;
+    is = run_append c h.events (event.Arrive j a.how ∷ []) (start c) ∙ ap (λ (x : World). happens c x (event.Arrive j a.how)) h.is ∙ is;
     count = one_more w.replies (record { id = r.id; status = a.status }) m h.count;
     head = refl;
     each = λ i b lt e. by_place i b lt e (eqb_tells i m);

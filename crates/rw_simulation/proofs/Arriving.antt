@@ -17,10 +17,10 @@ use Rattle.rw_worker.specs.Steps.{Working, working, Step, Takes, Freezes, Sends,
 use Rattle.rw_head.specs.Head.{State}
 use Rattle.rw_machine.specs.Shards.{Shard, Queued, is_drained, shard_take, shard_freeze, shard_lost, with_core}
 use Rattle.rw_machine.specs.Worlds.{Setup, Request, World}
-use Rattle.rw_machine.specs.Steps.{change, happens, names_after, reply_to, request_by, take_reply, unless_over}
+use Rattle.rw_machine.specs.Steps.{change, happens, names_after_reply, reply_to, request_by, take_reply, unless_over}
 use Rattle.rw_machine.specs.Promises.{CarriesItsBatch, CarriesEachBatch}
 use Rattle.rw_machine.specs.declared.event.Event.TheVariants as event
-use Rattle.rw_machine.proofs.Places.{get_some, length_change}
+use Rattle.rw_machine.proofs.shared.Places.{get_some, length_change}
 use Rattle.rw_simulation.specs.Freely.{Happening, Of, IsOwn, run_freely}
 use Rattle.rw_simulation.specs.FreeLaws.{world_of}
 use Rattle.rw_simulation.specs.WorkerRuns.{queued, IsIdOf, IsShardNumbered, CanEnd, sent_bytes, request_in}
@@ -34,7 +34,7 @@ use Rattle.rw_simulation.proofs.WorkerLists.{core_after, after-is, numbered-afte
 use Rattle.rw_simulation.proofs.Tallies.{Names, GrowAlike, alike-self, alike-by, own-requests, other-requests, with_part, part-own, part-other, tallied-shard, tallied-still}
 use Rattle.rw_simulation.proofs.EpochRuns.{each-update}
 use Rattle.rw_simulation.proofs.EndRuns.{HasCome, IsOver, come-still}
-use Rattle.rw_simulation.proofs.Pasts.{get-first, get-either, get_map, map_get}
+use Rattle.rw_simulation.proofs.shared.Pasts.{get-first, get-either, get_map, map_get}
 use Rattle.rw_simulation.proofs.Arrived.{is_of, still-at, find-in, AreRead, none-read, one-read, IsSentAs, below_it, IsAnsweredAs, HasArrived, arrived-own, came, comes, arrived-next}
 
 module _ (c : Setup) (exs : ℕ → ℕ → List Exchange) (arrivals : List Arrival) (heads : ℕ → State) (one : IsOneReceiver c exs arrivals heads) where
@@ -328,9 +328,9 @@ module _ (c : Setup) (exs : ℕ → ℕ → List Exchange) (arrivals : List Arri
     -- the answer comes back, or the attempt is given up
     settle-it : (j m k bound : ℕ) (bytes : List ℕ) (a : Result Reply Lost) (ss : List Step) (sent : List Exchange) (w : World) → j ≤ k → AreAnswered m k bound → length sent ≤ bound → Stands j m k (Some (exchange_of bytes a)) ss sent w → Went j m k None ss sent
     settle-it j m k bound bytes (Ok r) ss sent w le known few h = record {
-      world = moved w k t (names_after r.status q.core.batch w.names) w.requests w.replies;
-      stands = moves j m k w h.all (sent_shard q) t at le wk.ledger.names (after_step st (working q.core wk.ledger)).ledger.names (names_after r.status q.core.batch w.names) w.requests [] wk.part_is (no_more w) tt none-read
-          (subst (λ (l : Names). GrowAlike w.names (names_after r.status q.core.batch w.names) wk.ledger.names l) (sym (ledger-step st (working q.core wk.ledger) wk.allowed.0)) (alike-by (st ∷ []) (working q.core wk.ledger) w.names wk.ledger.names)) (Of (event.Reply answer.at) ∷ []) (tt, tt) replied None ss sent
+      world = moved w k t (names_after_reply r.status q.core.batch w.names) w.requests w.replies;
+      stands = moves j m k w h.all (sent_shard q) t at le wk.ledger.names (after_step st (working q.core wk.ledger)).ledger.names (names_after_reply r.status q.core.batch w.names) w.requests [] wk.part_is (no_more w) tt none-read
+          (subst (λ (l : Names). GrowAlike w.names (names_after_reply r.status q.core.batch w.names) wk.ledger.names l) (sym (ledger-step st (working q.core wk.ledger) wk.allowed.0)) (alike-by (st ∷ []) (working q.core wk.ledger) w.names wk.ledger.names)) (Of (event.Reply answer.at) ∷ []) (tt, tt) replied None ss sent
           (after-one k st ss sent (requests_of epoch k w.requests) q wk.ledger wk.allowed wk.numbered wk.epoch_is wk.queue wk.put wk.worker wk.bytes wk.exchanges wk.can_end);
     }
       where
@@ -373,14 +373,14 @@ module _ (c : Setup) (exs : ℕ → ℕ → List Exchange) (arrivals : List Arri
         core_is : settle (judgement_of r.status) (sent_core q.core) ≡ (after_step st (working q.core wk.ledger)).core
         core_is = sym (after-is st q.core wk.ledger wk.allowed.0)
 
-        replied : happens c w (event.Reply answer.at) ≡ moved w k t (names_after r.status q.core.batch w.names) w.requests w.replies
+        replied : happens c w (event.Reply answer.at) ≡ moved w k t (names_after_reply r.status q.core.batch w.names) w.requests w.replies
         replied =
             ap (unless_over c w (event.Reply answer.at)) (not-over w k (sent_shard q) at (alive-now j m w h.all, inr (undrained k (Some (exchange_of bytes (Ok r))) st ss q wk.ledger (λ e. cc) wk.allowed wk.can_end)))
             ∙ ap (take_reply w) reply
             ∙ ap (reply_to w (record { id = batch_id q.core.batch; status = r.status })) (ap (slice_get w.shards) at_own ∙ at)
             ∙ rw (sent_answers q.core wk.allowed.0.0) refl
-            ∙ ap (λ (i : ℕ). record w { names = names_after r.status q.core.batch w.names; shards = change i (with_core (settle (judgement_of r.status))) w.shards }) at_own
-            ∙ ap (λ zs. record w { names = names_after r.status q.core.batch w.names; shards = zs })
+            ∙ ap (λ (i : ℕ). record w { names = names_after_reply r.status q.core.batch w.names; shards = change i (with_core (settle (judgement_of r.status))) w.shards }) at_own
+            ∙ ap (λ zs. record w { names = names_after_reply r.status q.core.batch w.names; shards = zs })
             (change-is (with_core (settle (judgement_of r.status))) k w.shards (sent_shard q) at ∙ (λ i. change k (λ _. record q { queue = wk.queue i; core = core_is i }) w.shards))
     settle-it j m k bound bytes (Err lost) ss sent w le known few h = record {
       world = moved w k t w.names w.requests w.replies;

@@ -8,13 +8,13 @@ use Rattle.rw_plain_queue.specs.declared.item.Item.TheVariants.{Sample, Flush, E
 use Rattle.rw_shard_core.specs.Shard.{Core}
 use Rattle.rw_worker.specs.Transcript.{Exchange}
 use Rattle.rw_worker.specs.Steps.{Working, working, Step, Takes, Freezes, Sends, Waits, AreSteps, after, after_step, items_of, exchanges_of}
-use Rattle.rw_worker.proofs.StepLemmas.{exchanges-append}
+use Rattle.rw_worker.proofs.shared.StepLemmas.{exchanges-append}
 use Rattle.rw_machine.specs.Shards.{Shard, Queued, One, FlushMark, EndMark}
 use Rattle.rw_machine.specs.Worlds.{Setup, Request, World}
 use Rattle.rw_machine.specs.Worlds as worlds
 use Rattle.rw_simulation.specs.Freely.{Happening, IsOwn, run_freely}
 use Rattle.rw_simulation.specs.WorkerRuns.{queued, step_happenings, happenings, steps_names, IsAfter, IsIdOf, IsShardNumbered, sent_bytes, request_in}
-use Rattle.rw_simulation.specs.EpochRuns.{Coming, StartsByTaking, IsReady}
+use Rattle.rw_simulation.specs.EpochRuns.{YetToCome, StartsByTaking, IsReady}
 use Rattle.rw_simulation.proofs.Changes.{change-same}
 use Rattle.rw_simulation.proofs.WorkerSteps.{moved}
 use Rattle.rw_simulation.proofs.WorkerLists.{after-is, numbered-after, epoch-all, ended-after, no_items as some_item}
@@ -117,10 +117,10 @@ ends_if Flush = refl
 ends_if (End kind) = refl
 
 -- The shard has been put an item, and is ready for the next one.
-pub record GoesThrough (c : Setup) (w : World) (k : ℕ) (s : Shard) (d : Coming) (puts : List Item) : Type 0 where
+pub record GoesThrough (c : Setup) (w : World) (k : ℕ) (s : Shard) (d : YetToCome) (puts : List Item) : Type 0 where
   pub events : List Happening
   pub shard : Shard
-  pub coming : Coming
+  pub coming : YetToCome
   pub ready : IsReady c k shard coming
   pub put_is : shard.put ≡ s.put
   pub puts_are : coming.puts ≡ puts
@@ -149,7 +149,7 @@ some_step st ss e = cc
 abbrev pub with_item : Shard → Item → Shard
 with_item s x = record s { queue = s.queue ++ queued x ∷ [] }
 
-pub put-one : (c : Setup) (w : World) (k : ℕ) (s : Shard) (x : Item) (puts : List Item) (d : Coming) → d.puts ≡ x ∷ puts → is_end x ≡ false → IsReady c k s d → w.killed ≡ false → w.closed ≡ None → slice_get w.shards k ≡ Some (with_item s x) → GoesThrough c w k (with_item s x) d puts
+pub put-one : (c : Setup) (w : World) (k : ℕ) (s : Shard) (x : Item) (puts : List Item) (d : YetToCome) → d.puts ≡ x ∷ puts → is_end x ≡ false → IsReady c k s d → w.killed ≡ false → w.closed ≡ None → slice_get w.shards k ≡ Some (with_item s x) → GoesThrough c w k (with_item s x) d puts
 put-one c w k s x puts d is more h alive unclosed e = by_steps d.steps refl
   where
     split : s.queue ++ (queued x ∷ map queued puts) ≡ map queued (items_of d.steps) ++ d.left
@@ -239,7 +239,7 @@ put-one c w k s x puts d is more h alive unclosed e = by_steps d.steps refl
             ran = worker-run c w k (with_item s x) d.ledger (Takes y ∷ no_takes ss) [] alive (inl unclosed) e h.numbered in_queue (steps_front (working s.core d.ledger) (Takes y ∷ no_takes ss) (from_take ss) allowed)
 
 -- there is room for the next item
-pub has-room : (c : Setup) (k : ℕ) (s : Shard) (x : Item) (puts : List Item) (d : Coming) → 1 ≤ c.capacity → d.puts ≡ x ∷ puts → IsReady c k s d → length s.queue < c.capacity
+pub has-room : (c : Setup) (k : ℕ) (s : Shard) (x : Item) (puts : List Item) (d : YetToCome) → 1 ≤ c.capacity → d.puts ≡ x ∷ puts → IsReady c k s d → length s.queue < c.capacity
 has-room c k s x puts d some is h = by_eager h.eager
   where
     long : length s.queue + suc (length (map queued puts)) ≡ length (map queued (items_of d.steps) ++ d.left)

@@ -2,7 +2,7 @@
 -- left.
 use Rattle.std.proofs.Common.{◌≡◌, ℕ, zero, suc, ◌+◌, ◌<◌, ◌≤◌, ◌==◌, ◌&&◌, Bool, true, false, not, cond, List, [], ◌∷◌, ◌++◌, map, length, Some, slice_get, refl, sym, ap, ◌∙◌, subst, append-nil, length-append, arith, ◌⊎◌, inl, inr}
 use Rattle.std.specs.List.{AllByRecursion, list_all}
-use Rattle.std.proofs.lemmas.Bool.{lt-ltb, eq-eqb, both_ways}
+use Rattle.std.proofs.lemmas.Bool.{lt-ltb, eq-eqb, both_ways, and_from}
 use Rattle.std.proofs.lemmas.List.{map-append}
 use Rattle.std.proofs.lemmas.Option.{same_Some, none-some, slice_get_within}
 use Rattle.rw_types.specs.declared.entry.Entry.{Entry}
@@ -14,18 +14,17 @@ use Rattle.rw_plain_queue.specs.declared.item.Item.TheVariants as item
 use Rattle.rw_plain_queue.specs.declared.item.Kind.{Kind}
 use Rattle.rw_shard_core.specs.Shard.{Core}
 use Rattle.rw_worker.specs.Steps.{Working, Step, working, after, items_of}
-use Rattle.rw_machine.specs.Shards.{Shard, Queued, EndMark, has_room, is_drained, samples_in, shard_end}
+use Rattle.rw_machine.specs.Shards.{Shard, Queued, EndMark, has_room, is_drained, samples_waiting, shard_end}
 use Rattle.rw_machine.specs.Worlds.{Setup, Request, World}
-use Rattle.rw_machine.specs.Steps.{change, flush_shard, happens, mark, unless_over}
+use Rattle.rw_machine.specs.Steps.{change, flush_shard, happens, shard_mark, unless_over}
 use Rattle.rw_machine.specs.declared.event.Event.TheVariants as event
-use Rattle.rw_machine.proofs.Lists.{Lists}
-use Rattle.rw_machine.proofs.Others.{samples_append}
-use Rattle.rw_machine.proofs.Places.{length_change, get_some}
-use Rattle.rw_machine.proofs.Steps.{and_both}
+use Rattle.rw_machine.proofs.shared.Lists.{Lists}
+use Rattle.rw_machine.proofs.shared.Others.{samples_append}
+use Rattle.rw_machine.proofs.shared.Places.{length_change, get_some}
 use Rattle.rw_simulation.specs.Freely.{Of, run_freely}
 use Rattle.rw_simulation.specs.WorkerRuns.{queued, happenings, steps_names, IsAfter, IsIdOf, CanEnd, sent_bytes}
 use Rattle.rw_simulation.specs.Tallies.{Past, IsTallied, requests_of}
-use Rattle.rw_simulation.specs.EpochRuns.{ShardFate, end_in, AreUnsent, Reaches, IsAtEnd, IsPut}
+use Rattle.rw_simulation.specs.EpochRuns.{ShardFate, end_in, AreUnsent, Reaches, HasOnlyEnd, IsPutAllButEnd}
 use Rattle.rw_simulation.proofs.Changes.{change-is, change-get, change-twice, not-over}
 use Rattle.rw_simulation.proofs.WorkerSteps.{moved}
 use Rattle.rw_simulation.proofs.WorkerRuns.{worker-run}
@@ -33,6 +32,7 @@ use Rattle.rw_simulation.proofs.Eager.{has-room, own-steps}
 use Rattle.rw_simulation.proofs.Tallies.{Names, GrowAlike, alike-by, own-requests, other-requests, lists-at, with_part, part-own, part-other, tallied-shard}
 use Rattle.rw_simulation.proofs.EpochRuns.{stay, go-on, each-update, none-to-send}
 use Rattle.rw_simulation.proofs.MarkRuns.{put-still}
+use Rattle.rw_simulation.proofs.Arrived.{below_it}
 
 -- the shard has come to its fate, and so have its requests and its names
 pub record HasCome (epoch k : ℕ) (requests : List Request) (part : Names) (s : Shard) (f : ShardFate) : Type 0 where
@@ -59,7 +59,7 @@ IsResolvedFate f = (f.worker.core.ended ≡ true) × (length f.put ≤ length f.
 
 no_more_resolved : (c : Setup) (s : Shard) → Lists c s → length s.core.resolved ≤ length s.put
 no_more_resolved c s h =
-    let a : length s.put ≡ length s.core.taken + length (samples_in s.queue) = ap length h.queued ∙ length-append s.core.taken (samples_in s.queue) in
+    let a : length s.put ≡ length s.core.taken + length (samples_waiting s.queue) = ap length h.queued ∙ length-append s.core.taken (samples_waiting s.queue) in
     let b : length s.core.taken ≡ length s.core.resolved + length (s.core.batch ++ s.core.builder) = ap length h.held ∙ length-append s.core.resolved (s.core.batch ++ s.core.builder) in
     omega arith
 
@@ -67,7 +67,7 @@ both_at_most : (a b : ℕ) → a ≤ b → b ≤ a → a ≡ b
 both_at_most a b h k = omega arith
 
 drained : (c : Setup) (epoch k : ℕ) (requests : List Request) (part : Names) (s : Shard) (f : ShardFate) → Lists c s → HasCome epoch k requests part s f → IsResolvedFate f → is_drained s ≡ true
-drained c epoch k requests part s f l h r = and_both s.core.ended (length s.core.resolved == length s.put) (ap (λ (k : Core). k.ended) h.core ∙ r.0)
+drained c epoch k requests part s f l h r = and_from s.core.ended (length s.core.resolved == length s.put) (ap (λ (k : Core). k.ended) h.core ∙ r.0)
     (eq-eqb (length s.core.resolved) (length s.put) (both_at_most (length s.core.resolved) (length s.put) (no_more_resolved c s l) all_resolved))
   where
     all_resolved : length s.put ≤ length s.core.resolved
@@ -75,7 +75,7 @@ drained c epoch k requests part s f l h r = and_both s.core.ended (length s.core
 
 pub all-drained : (ss : List Shard) → ((k : ℕ) (s : Shard) → slice_get ss k ≡ Some s → is_drained s ≡ true) → list_all is_drained ss ≡ true
 all-drained [] each = refl
-all-drained (s ∷ ss) each = and_both (is_drained s) (list_all is_drained ss) (each 0 s refl) (all-drained ss (λ k t e. each (suc k) t e))
+all-drained (s ∷ ss) each = and_from (is_drained s) (list_all is_drained ss) (each 0 s refl) (all-drained ss (λ k t e. each (suc k) t e))
 
 -- if one item at most is, an End is the last
 no_items : (xs : List Item) → length xs ≡ 0 → xs ≡ []
@@ -99,16 +99,13 @@ none_stand steps none = subst (λ (ss : List Step). length (items_of ss) ≤ 1) 
 pub counted : (put taken waiting resolved held batch builder after : ℕ) → put ≡ taken + waiting → taken ≡ resolved + held → held ≡ batch + builder → after ≡ waiting → put ≡ resolved + (batch + (builder + after))
 counted put taken waiting resolved held batch builder after a b c d = omega arith
 
-kept_count : (c : Setup) (s : Shard) (kind : Kind) → Lists c s → length s.put ≡ length s.core.resolved + (length s.core.batch + (length s.core.builder + length (samples_in (s.queue ++ EndMark kind ∷ []))))
+kept_count : (c : Setup) (s : Shard) (kind : Kind) → Lists c s → length s.put ≡ length s.core.resolved + (length s.core.batch + (length s.core.builder + length (samples_waiting (s.queue ++ EndMark kind ∷ []))))
 kept_count c s kind h =
-    counted (length s.put) (length s.core.taken) (length (samples_in s.queue)) (length s.core.resolved) (length (s.core.batch ++ s.core.builder)) (length s.core.batch) (length s.core.builder) (length (samples_in (s.queue ++ EndMark kind ∷ [])))
-    (ap length h.queued ∙ length-append s.core.taken (samples_in s.queue))
+    counted (length s.put) (length s.core.taken) (length (samples_waiting s.queue)) (length s.core.resolved) (length (s.core.batch ++ s.core.builder)) (length s.core.batch) (length s.core.builder) (length (samples_waiting (s.queue ++ EndMark kind ∷ [])))
+    (ap length h.queued ∙ length-append s.core.taken (samples_waiting s.queue))
     (ap length h.held ∙ length-append s.core.resolved (s.core.batch ++ s.core.builder))
     (length-append s.core.batch s.core.builder)
-    (ap length (samples_append s.queue (EndMark kind) ∙ append-nil (samples_in s.queue)))
-
-below_it : (k m : ℕ) → k < suc m → (k ≡ m → ⊥) → k < m
-below_it k m lt differ = omega arith
+    (ap length (samples_append s.queue (EndMark kind) ∙ append-nil (samples_waiting s.queue)))
 
 weaker : (k m : ℕ) → suc m ≤ k → m ≤ k
 weaker k m le = omega arith
@@ -116,7 +113,7 @@ weaker k m le = omega arith
 not_above : (m : ℕ) → suc m ≤ m → ⊥
 not_above m le = omega arith
 
-module _ (c : Setup) (past : Past) (epoch n : ℕ) (fates : ℕ → ShardFate) (placed : List Entry) (kind : Kind) (ends : (k : ℕ) → k < n → (fates k).end ≡ Some kind) (u : World) (alive : u.killed ≡ false) (asks : (s : Shard) → mark u s ≡ shard_end kind s) (some : 1 ≤ c.capacity) where
+module _ (c : Setup) (past : Past) (epoch n : ℕ) (fates : ℕ → ShardFate) (placed : List Entry) (kind : Kind) (ends : (k : ℕ) → k < n → (fates k).end ≡ Some kind) (u : World) (alive : u.killed ≡ false) (asks : (s : Shard) → shard_mark u s ≡ shard_end kind s) (some : 1 ≤ c.capacity) where
   -- The first m shards have come to their fates, and the others have been put all but their Ends.
   -- Else nothing has changed since u.
   record ClosedBelow (m : ℕ) (w : World) : Type 0 where
@@ -125,10 +122,10 @@ module _ (c : Setup) (past : Past) (epoch n : ℕ) (fates : ℕ → ShardFate) (
     parts : ℕ → Names
     tallied : IsTallied c past epoch n placed parts w
     done : (k : ℕ) (s : Shard) → slice_get w.shards k ≡ Some s → k < m → HasCome epoch k w.requests (parts k) s (fates k)
-    still : (k : ℕ) (s : Shard) → slice_get w.shards k ≡ Some s → m ≤ k → IsPut c epoch k w.requests (parts k) s (fates k)
+    still : (k : ℕ) (s : Shard) → slice_get w.shards k ≡ Some s → m ≤ k → IsPutAllButEnd c epoch k w.requests (parts k) s (fates k)
 
   -- the End of shard m, and then all its steps
-  end-it : (m : ℕ) (w : World) (s : Shard) → (h : ClosedBelow m w) → slice_get w.shards m ≡ Some s → (p : IsPut c epoch m w.requests (h.parts m) s (fates m)) → p.way.coming.puts ≡ item.End kind ∷ [] → Reaches (AreUnsent fates) c w (ClosedBelow (suc m))
+  end-it : (m : ℕ) (w : World) (s : Shard) → (h : ClosedBelow m w) → slice_get w.shards m ≡ Some s → (p : IsPutAllButEnd c epoch m w.requests (h.parts m) s (fates m)) → p.way.coming.puts ≡ item.End kind ∷ [] → Reaches (AreUnsent fates) c w (ClosedBelow (suc m))
   end-it m w s h at p is = record {
     events = Of (event.Flush m) ∷ happenings c marked m p.way.coming.steps;
     own = λ quiet. (tt, own-steps c marked m p.way.coming.steps (none-to-send c epoch m w.requests s [] (fates m) p.way (quiet m)));
@@ -142,7 +139,7 @@ module _ (c : Setup) (past : Past) (epoch n : ℕ) (fates : ℕ → ShardFate) (
           (subst (λ (l : Names). GrowAlike w.names (steps_names steps (working s.core p.way.coming.ledger) w.names) p.way.coming.ledger.names l) (sym ran.ledger_is) (alike-by steps (working s.core p.way.coming.ledger) w.names p.way.coming.ledger.names));
       done = each-update (λ j t. j < suc m → HasCome epoch j later.requests (with_part m now h.parts j) t (fates j)) final m w.shards
           (λ j t e differ lt. come-still epoch j m w.requests ran.requests now h.parts t (fates j) differ ids (h.done j t e (below_it j m lt differ))) (λ _. own);
-      still = each-update (λ j t. suc m ≤ j → IsPut c epoch j later.requests (with_part m now h.parts j) t (fates j)) final m w.shards
+      still = each-update (λ j t. suc m ≤ j → IsPutAllButEnd c epoch j later.requests (with_part m now h.parts j) t (fates j)) final m w.shards
           (λ j t e differ le. put-still c epoch j m w.requests ran.requests now h.parts t (fates j) differ ids (h.still j t e (weaker j m le))) (λ le. absurd (not_above m le));
     };
   }
@@ -159,17 +156,17 @@ module _ (c : Setup) (past : Past) (epoch n : ℕ) (fates : ℕ → ShardFate) (
       undrained : is_drained s ≡ false
       undrained = rw p.way.ready.running refl
 
-      asks_now : (t : Shard) → mark w t ≡ shard_end kind t
-      asks_now t = subst (λ (x : World). mark x t ≡ shard_end kind t) (sym h.same) (asks t)
+      asks_now : (t : Shard) → shard_mark w t ≡ shard_end kind t
+      asks_now t = subst (λ (x : World). shard_mark x t ≡ shard_end kind t) (sym h.same) (asks t)
 
       alive_now : w.killed ≡ false
       alive_now = ap (λ (x : World). x.killed) h.same ∙ alive
 
       may_mark : (not s.end_put && has_room c.capacity s) ≡ true
-      may_mark = and_both (not s.end_put) (has_room c.capacity s) (rw p.way.ready.unended refl) room
+      may_mark = and_from (not s.end_put) (has_room c.capacity s) (rw p.way.ready.unended refl) room
 
       is_marked : flush_shard c w s ≡ shard_end kind s
-      is_marked = ap (λ (b : Bool). cond b (mark w s) s) may_mark ∙ asks_now s
+      is_marked = ap (λ (b : Bool). cond b (shard_mark w s) s) may_mark ∙ asks_now s
 
       flushed : happens c w (event.Flush m) ≡ marked
       flushed =
@@ -218,17 +215,17 @@ module _ (c : Setup) (past : Past) (epoch n : ℕ) (fates : ℕ → ShardFate) (
         part_is = ap (λ (x : Working). x.ledger.names) (sym p.way.worker) ∙ sym (part-own m now h.parts);
       }
 
-  end-one : (m : ℕ) (w : World) (s : Shard) → m < n → (h : ClosedBelow m w) → slice_get w.shards m ≡ Some s → (p : IsPut c epoch m w.requests (h.parts m) s (fates m)) → (ps : List Item) → p.way.coming.puts ≡ ps → Reaches (AreUnsent fates) c w (ClosedBelow (suc m))
+  end-one : (m : ℕ) (w : World) (s : Shard) → m < n → (h : ClosedBelow m w) → slice_get w.shards m ≡ Some s → (p : IsPutAllButEnd c epoch m w.requests (h.parts m) s (fates m)) → (ps : List Item) → p.way.coming.puts ≡ ps → Reaches (AreUnsent fates) c w (ClosedBelow (suc m))
   end-one m w s lt h at p [] is = absurd (none-some kind (sym (ap end_in is) ∙ p.way.end ∙ ends m lt))
-  end-one m w s lt h at p (item.Sample place t word labels ∷ ps) is = absurd (subst IsAtEnd is p.at_end)
-  end-one m w s lt h at p (item.Flush ∷ ps) is = absurd (subst IsAtEnd is p.at_end)
+  end-one m w s lt h at p (item.Sample place t word labels ∷ ps) is = absurd (subst HasOnlyEnd is p.at_end)
+  end-one m w s lt h at p (item.Flush ∷ ps) is = absurd (subst HasOnlyEnd is p.at_end)
   end-one m w s lt h at p (item.End other ∷ ps) is = end-it m w s h at p (is ∙ alone)
     where
       kind_is : other ≡ kind
       kind_is = same_Some _ _ (sym (ap end_in is) ∙ p.way.end ∙ ends m lt)
 
       last : ps ≡ []
-      last = subst IsAtEnd is p.at_end
+      last = subst HasOnlyEnd is p.at_end
 
       alone : item.End other ∷ ps ≡ item.End kind ∷ []
       alone = λ i. item.End (kind_is i) ∷ last i
@@ -257,14 +254,14 @@ module _ (c : Setup) (past : Past) (epoch n : ℕ) (fates : ℕ → ShardFate) (
       itself : (k : ℕ) → k ≤ k
       itself k = omega arith
 
-      put : IsPut c epoch m w.requests (h.parts m) found.0 (fates m)
+      put : IsPutAllButEnd c epoch m w.requests (h.parts m) found.0 (fates m)
       put = h.still m found.0 found.1 (itself m)
 
   none_below : (k : ℕ) → k < 0 → ⊥
   none_below k lt = omega arith
 
   -- all of them, if each has been put all but its End
-  pub end-all : length u.shards ≡ n → (parts : ℕ → Names) → IsTallied c past epoch n placed parts u → ((k : ℕ) (s : Shard) → slice_get u.shards k ≡ Some s → IsPut c epoch k u.requests (parts k) s (fates k)) → Reaches (AreUnsent fates) c u (IsOver c past epoch n fates placed u)
+  pub end-all : length u.shards ≡ n → (parts : ℕ → Names) → IsTallied c past epoch n placed parts u → ((k : ℕ) (s : Shard) → slice_get u.shards k ≡ Some s → IsPutAllButEnd c epoch k u.requests (parts k) s (fates k)) → Reaches (AreUnsent fates) c u (IsOver c past epoch n fates placed u)
   end-all count parts tallied put = go-on c u (ClosedBelow n) (IsOver c past epoch n fates placed u)
       (end-from n 0 u (zero_plus n) (record { same = refl; count = count; parts = parts; tallied = tallied; done = λ k s e lt. absurd (none_below k lt); still = λ k s e le. put k s e }))
       (λ v h. stay c v (IsOver c past epoch n fates placed u) (record { same = h.same; count = h.count; parts = h.parts; tallied = h.tallied; done = λ k s e. h.done k s e (subst (λ (m : ℕ). k < m) h.count (slice_get_within v.shards k s e)) }))

@@ -4,9 +4,10 @@ use Rattle.std.specs.FinMap.{insert}
 use Rattle.std.specs.Prelude.{fold}
 use Rattle.rw_types.specs.declared.entry.Entry.{Entry}
 use Rattle.rw_types.specs.declared.entry.Entry.TheVariants.{Def, Sample}
+use Rattle.rw_types.proofs.shared.Booleans.{next as plus_one}
 use Rattle.rw_series_cache.specs.Known.{standing_of, known}
 use Rattle.rw_series_cache.specs.Numbers.{series_of, number_of, with_series}
-use Rattle.rw_series_cache.proofs.KnownLemmas.{series_of-push}
+use Rattle.rw_series_cache.proofs.shared.KnownLemmas.{series_of-push}
 use Rattle.rw_series_cache.specs.Fates.{Fate, Drops, Filters, Sends, fate, fate_by}
 use Rattle.rw_sender.specs.Logs.{Sent, kept_sample, sent_by_fate, dropped_by_fate, with_name, filtered_by_fate}
 use Rattle.rw_sender.specs.Placement.{shard_of}
@@ -21,11 +22,8 @@ use Rattle.rw_simulation.proofs.Changes.{change-is}
 pub over_not : (w : World) → w.killed ≡ false → w.closed ≡ None → is_over w ≡ false
 over_not w k n = rw (k, n) refl
 
-plus_none : (n : ℕ) → n ≡ n + 0
+pub plus_none : (n : ℕ) → n ≡ n + 0
 plus_none n = omega arith
-
-plus_one : (n : ℕ) → suc n ≡ n + 1
-plus_one n = omega arith
 
 module _ (c : Setup) (w : World) (before : List Entry) (placed : w.placed ≡ length before) (series : w.series ≡ series_of c.choice before) (t : ℤ) (word : ℕ) where
   -- what a sample of this fate leaves
@@ -59,7 +57,7 @@ module _ (c : Setup) (w : World) (before : List Entry) (placed : w.placed ≡ le
       same = λ j. record { pos = placed j; series = number_of (series j) l; t = t; word = word; labels = l }
 
       i : ℕ
-      i = machine.shard_of w l
+      i = machine.shard_of_labels w l
 
       found : (s : Shard) × (slice_get w.shards i ≡ Some s) × (has_room c.capacity s ≡ true)
       found = subst Room (sym same) (room (kept_sample c.choice before t word l) refl)

@@ -20,15 +20,15 @@ use Rattle.rw_head.specs.Head.{State}
 use Rattle.rw_fleet.specs.ShardHistories.{ShardHistory}
 use Rattle.rw_sender.specs.Logs.{sent_of}
 use Rattle.rw_sender.specs.Placement.{IsDealt}
-use Rattle.rw_machine.specs.Shards.{Shard, samples_in as waiting_in}
+use Rattle.rw_machine.specs.Shards.{Shard, samples_waiting as waiting_in}
 use Rattle.rw_machine.specs.Worlds.{Setup, Request, World}
-use Rattle.rw_machine.proofs.Lists.{Lists}
-use Rattle.rw_machine.proofs.Places.{get_some}
+use Rattle.rw_machine.proofs.shared.Lists.{Lists}
+use Rattle.rw_machine.proofs.shared.Places.{get_some}
 use Rattle.rw_simulation.specs.Freely.{Happening, IsOwn, run_freely}
 use Rattle.rw_simulation.specs.WorkerRuns.{queued, IsShardNumbered, sent_bytes, request_in}
 use Rattle.rw_simulation.specs.Tallies.{Past, requests_of}
 use Rattle.rw_simulation.specs.EpochRuns.{ShardFate, AreUnsent, IsAllPut, Reaches}
-use Rattle.rw_simulation.specs.FleetRuns.{IsShardRun, fate_of, fate_by, fate_at}
+use Rattle.rw_simulation.specs.FleetRuns.{IsShardRun, fate_of, shard_fate_by, fate_at}
 use Rattle.rw_simulation.specs.Arrivals.{Arrival, IsOneReceiver}
 use Rattle.rw_simulation.proofs.Tallies.{Names, lists-at}
 use Rattle.rw_simulation.proofs.FleetRuns.{fleet-run}
@@ -50,7 +50,7 @@ first_at lanes = fate_at lanes (λ k. []) (λ k. put_by (slice_get lanes k))
 unsent : (lanes : List ShardHistory) → AreUnsent (first_at lanes)
 unsent lanes k = by_lane (slice_get lanes k)
   where
-    by_lane : (o : Option ShardHistory) → (fate_by o [] (put_by o)).requests ≡ []
+    by_lane : (o : Option ShardHistory) → (shard_fate_by o [] (put_by o)).requests ≡ []
     by_lane None = refl
     by_lane (Some l) = refl
 
@@ -63,7 +63,7 @@ none-sent (r ∷ rs) e = let no : ⊥ = cc in absurd no
 pub same-end : (lanes : List ShardHistory) (steps : ℕ → List Step) (left : ℕ → List Item) (k : ℕ) → (first_at lanes k).end ≡ (fate_at lanes steps left k).end
 same-end lanes steps left k = by_lane (slice_get lanes k)
   where
-    by_lane : (o : Option ShardHistory) → (fate_by o [] (put_by o)).end ≡ (fate_by o (steps k) (left k)).end
+    by_lane : (o : Option ShardHistory) → (shard_fate_by o [] (put_by o)).end ≡ (shard_fate_by o (steps k) (left k)).end
     by_lane None = refl
     by_lane (Some l) = refl
 
@@ -130,7 +130,7 @@ module _ (c : Setup) (exs : ℕ → ℕ → List Exchange) (arrivals : List Arri
     fates = fate_at lanes steps left
 
     pub tells : (k : ℕ) → k < n → (fates k).requests ≡ map request_in (exs epoch k)
-    tells k lt = let l = get_some lanes k lt in subst (λ (o : Option ShardHistory). (fate_by o (steps k) (left k)).requests ≡ map request_in (exs epoch k)) (sym l.1) (ap (map request_in) (told k l.0 l.1))
+    tells k lt = let l = get_some lanes k lt in subst (λ (o : Option ShardHistory). (shard_fate_by o (steps k) (left k)).requests ≡ map request_in (exs epoch k)) (sym l.1) (ap (map request_in) (told k l.0 l.1))
 
     abbrev pub Works : ℕ → ℕ → World → Type 0
     Works = AtWorks c exs arrivals heads one past epoch n fates placed u alive within tells
@@ -150,9 +150,9 @@ module _ (c : Setup) (exs : ℕ → ℕ → List Exchange) (arrivals : List Arri
         numbered = subst (IsShardNumbered k) (sym come.core) (record { number = run.shard_is; batch = tt; builder = tt });
         epoch_is = ap (λ (x : Core). x.epoch) come.core ∙ run.epoch_is;
         allowed = subst (λ (x : Core). AreSteps (working x begun) (steps k)) (sym come.core) run.allowed;
-        queue = come.queue ∙ ap (map queued) run.split ∙ map-append queued (items_of (steps k)) (left k) ∙ sym (ap (λ (o : Option ShardHistory). map queued (items_of (steps k)) ++ (fate_by o (steps k) (left k)).left) lane);
-        put = come.put ∙ sym (ap (λ (o : Option ShardHistory). (fate_by o (steps k) (left k)).put) lane);
-        worker = ap (λ (x : Core). after (working x begun) (steps k)) come.core ∙ sym (ap (λ (o : Option ShardHistory). (fate_by o (steps k) (left k)).worker) lane);
+        queue = come.queue ∙ ap (map queued) run.split ∙ map-append queued (items_of (steps k)) (left k) ∙ sym (ap (λ (o : Option ShardHistory). map queued (items_of (steps k)) ++ (shard_fate_by o (steps k) (left k)).left) lane);
+        put = come.put ∙ sym (ap (λ (o : Option ShardHistory). (shard_fate_by o (steps k) (left k)).put) lane);
+        worker = ap (λ (x : Core). after (working x begun) (steps k)) come.core ∙ sym (ap (λ (o : Option ShardHistory). (shard_fate_by o (steps k) (left k)).worker) lane);
         part_is = come.part_is;
         bytes = come.requests_are;
         exchanges = told k l lane;
@@ -183,7 +183,7 @@ module _ (c : Setup) (exs : ℕ → ℕ → List Exchange) (arrivals : List Arri
       tallied = over.tallied;
       each = λ k s at.
           let l = get_some lanes k (subst (λ (i : ℕ). k < i) over.count (slice_get_within w.shards k s at)) in
-          begins-work k w over.parts s l.0 l.1 (lists-at c w over.tallied.reached k s at) (subst (λ (o : Option ShardHistory). HasCome epoch k w.requests (over.parts k) s (fate_by o [] (put_by o))) l.1 (over.done k s at));
+          begins-work k w over.parts s l.0 l.1 (lists-at c w over.tallied.reached k s at) (subst (λ (o : Option ShardHistory). HasCome epoch k w.requests (over.parts k) s (shard_fate_by o [] (put_by o))) l.1 (over.done k s at));
       done = λ k s at lt. absurd (none_below k lt);
       arrived = arrived;
       read = read;

@@ -4,7 +4,7 @@ use Rattle.std.proofs.lemmas.Option.{slice_get_within}
 use Rattle.std.proofs.Math.Nat.{mod-lt}
 use Rattle.std.proofs.Math.Seq.{take-append_seam}
 use Rattle.std.specs.List.{AllByRecursion}
-use Rattle.rw_types.proofs.AllLemmas.{AllByRecursion-append}
+use Rattle.rw_types.proofs.shared.AllLemmas.{AllByRecursion-append}
 use Rattle.std.proofs.lemmas.Bool.{lt-ltb, ne_eqb, eq-eqb}
 use Rattle.std.proofs.lemmas.List.{map-append}
 use Rattle.rw_types.specs.declared.entry.Entry.{Entry}
@@ -19,19 +19,19 @@ use Rattle.rw_worker.specs.Transcript.{Exchange}
 use Rattle.rw_worker.specs.Steps.{working, after, exchanges_of}
 use Rattle.rw_series_cache.specs.Fates.{Fate, Drops, Filters, Sends, fate}
 use Rattle.rw_sender.specs.Logs.{Sent, kept_sample, sent_by_fate, sent_of, filtered, filtered_of}
-use Rattle.rw_types.proofs.GatherLemmas.{gather-push}
+use Rattle.rw_types.proofs.shared.GatherLemmas.{gather-push}
 use Rattle.rw_types.specs.Gathering.{gather_from}
 use Rattle.rw_sender.specs.Placement.{as_sent, shard_of, of_shard}
 use Rattle.rw_machine.specs.Shards.{Shard, has_room, shard_put}
 use Rattle.rw_machine.specs.Worlds.{Setup, Request, World, log}
 use Rattle.rw_machine.specs.Steps.{change, flush_shard, happens, unless_over}
 use Rattle.rw_machine.specs.declared.event.Event.TheVariants as event
-use Rattle.rw_machine.proofs.Places.{length_change, get_some}
+use Rattle.rw_machine.proofs.shared.Places.{length_change, get_some}
 use Rattle.rw_simulation.specs.Freely.{Of, IsOwn, run_freely}
 use Rattle.rw_simulation.specs.WorkerRuns.{IsIdOf, sent_bytes, request_in}
 use Rattle.rw_simulation.specs.Tallies.{Past, IsTallied, requests_of}
 use Rattle.rw_simulation.proofs.Entries.{IsBefore, HasRoomFor, placed_as, put_each, after_entry}
-use Rattle.rw_simulation.specs.EpochRuns.{Coming, AreNext, IsReady, ShardFate, end_in, AreUnsent, IsOnTheWay, IsOnTheWayWith, IsUnderWay, Reaches}
+use Rattle.rw_simulation.specs.EpochRuns.{YetToCome, AreNext, IsReady, ShardFate, end_in, AreUnsent, IsOnTheWay, IsOnTheWayWith, IsUnderWay, Reaches}
 use Rattle.rw_simulation.proofs.Changes.{change-is, change-get, change-twice, run-append, not-over}
 use Rattle.rw_simulation.proofs.WorkerSteps.{moved}
 use Rattle.rw_simulation.proofs.EntryRuns.{entry-run}
@@ -106,7 +106,7 @@ flush-run c w k s alive unclosed steady e unended lt =
     is_marked = rw (unended, room, unclosed, steady) refl
 
 -- an item more was put, and the shard is on its way
-unfoldable pub way-after : (c : Setup) (w : World) (epoch k : ℕ) (s : Shard) (x : Item) (puts : List Item) (d : Coming) (todo : List Sent) (f : ShardFate) → (g : GoesThrough c w k (with_item s x) d puts) → AreNext epoch k (length s.put) puts → map as_sent (samples_in puts) ≡ todo
+unfoldable pub way-after : (c : Setup) (w : World) (epoch k : ℕ) (s : Shard) (x : Item) (puts : List Item) (d : YetToCome) (todo : List Sent) (f : ShardFate) → (g : GoesThrough c w k (with_item s x) d puts) → AreNext epoch k (length s.put) puts → map as_sent (samples_in puts) ≡ todo
     → s.put ++ samples_in puts ≡ f.put → end_in puts ≡ f.end → after (working s.core d.ledger) d.steps ≡ f.worker → d.left ≡ f.left
     → s.core.epoch ≡ epoch → map sent_bytes (requests_of epoch k w.requests) ++ map request_in (exchanges_of d.steps) ≡ f.requests → IsOnTheWay c epoch k (w.requests ++ g.more) g.shard todo f
 way-after c w epoch k s x puts d todo f g next sent put end worker left epoch_is requests_are = record {

@@ -3,7 +3,7 @@ use Rattle.std.proofs.Common.{◌≡◌, ℕ, suc, ◌≤◌, List, [], ◌∷�
 use Rattle.std.specs.List.{AllByRecursion}
 use Rattle.rw_types.specs.declared.entry.Entry.{Entry}
 use Rattle.rw_types.specs.Gathering.{gather_from}
-use Rattle.rw_types.proofs.AllLemmas.{AllByRecursion-left, AllByRecursion-right}
+use Rattle.rw_types.proofs.shared.AllLemmas.{AllByRecursion-left, AllByRecursion-right}
 use Rattle.rw_wal_format.specs.Pieces.{Piece, entries}
 use Rattle.rw_relabel.specs.declared.choice.Choice.{Choice}
 use Rattle.rw_plain_queue.specs.declared.item.Kind.TheVariants as kind
@@ -11,7 +11,7 @@ use Rattle.rw_fleet.specs.ShardHistories.{ShardHistory, put_into}
 use Rattle.rw_fleet.specs.Work.{AreEndedBy, lane_of}
 use Rattle.rw_fleet.specs.declared.joined.StoppedShard.{StoppedShard}
 use Rattle.rw_sender.specs.Logs.{Sent, sent_of}
-use Rattle.rw_sender.specs.Placement.{IsDealt, IsShardCount, AreTurned, Places, joined}
+use Rattle.rw_sender.specs.Placement.{IsDealt, IsShardCount, AreTurned, Places, joined_epochs}
 use Rattle.rw_simulation.specs.StoppedRuns.{first_number}
 use Rattle.rw_simulation.proofs.EpochRuns.{one_at_most}
 
@@ -114,7 +114,7 @@ pub record AtLast {T : Type 0} (choice : Choice) (last : List ShardHistory) (At 
 module _ {T : Type 0} (IsSound : StoppedShard T → Type 0) (choice : Choice) (pieces : List Piece) (last : List ShardHistory) (rest : List Entry) (At : StartFact T)
     (turn : (done js : List (StoppedShard T)) (epoch : ℕ) (later : List (List ShardHistory)) (before es : List Entry) → Turns IsSound choice pieces last epoch js later before es → At done epoch (map lane_of js ∷ later) before → At (done ++ js) (suc epoch) later (before ++ es)) where
   -- what holds at the start of each epoch if it holds at that of the first one
-  pub turn-all : (turned : List (List ShardHistory)) (epoch : ℕ) (done js : List (StoppedShard T)) (before es : List Entry) → AllByRecursion IsSound js → map lane_of js ≡ joined turned
+  pub turn-all : (turned : List (List ShardHistory)) (epoch : ℕ) (done js : List (StoppedShard T)) (before es : List Entry) → AllByRecursion IsSound js → map lane_of js ≡ joined_epochs turned
       → Places epoch (turned ++ last ∷ []) (gather_from (sent_of choice) before es) → AreBefore turned last → entries pieces ≡ before ++ (es ++ rest) → At done epoch turned before → AtLast choice last At (done ++ js) before es
   turn-all [] epoch done js before es sound e p turns all at = record {
     epoch = epoch;
@@ -128,8 +128,8 @@ module _ {T : Type 0} (IsSound : StoppedShard T → Type 0) (choice : Choice) (p
       with-later (turn-all turned (suc epoch) (done ++ sp.first) sp.later (before ++ pt.now) pt.later (AllByRecursion-right IsSound sp.first sp.later both) sp.later_is (subst (Places (suc epoch) (turned ++ last ∷ [])) (sym pt.rest_is) p.4) turns.3
       (begins ∙ sym (append_assoc before pt.now (pt.later ++ rest))) (turn done sp.first epoch turned before pt.now turning (subst (λ (ls : List ShardHistory). At done epoch (ls ∷ turned) before) same at)))
     where
-      sp : Split lane_of js lanes (joined turned)
-      sp = split_map lane_of js lanes (joined turned) e
+      sp : Split lane_of js lanes (joined_epochs turned)
+      sp = split_map lane_of js lanes (joined_epochs turned) e
 
       pt : Parted choice before es p.0 p.1
       pt = part choice before es p.0 p.1 p.2

@@ -16,15 +16,15 @@ use Rattle.rw_worker.specs.Setups.{start_of}
 use Rattle.rw_worker.specs.Steps.{Working, Step, Takes, Freezes, Sends, Waits, AreSteps, after, items_of, exchanges_of, new_working}
 use Rattle.rw_fleet.specs.ShardHistories.{ShardHistory}
 use Rattle.rw_sender.specs.Logs.{Sent, sent_of}
-use Rattle.rw_sender.specs.Placement.{put_in, of_shard}
+use Rattle.rw_sender.specs.Placement.{samples_put, of_shard}
 use Rattle.rw_machine.specs.Shards.{Shard, new_shard}
 use Rattle.rw_machine.specs.Worlds.{Setup, Request, World, new_shards}
-use Rattle.rw_machine.proofs.Places.{get_some}
-use Rattle.rw_machine.proofs.Resolves.{length_new}
+use Rattle.rw_machine.proofs.shared.Places.{get_some}
+use Rattle.rw_machine.proofs.shared.Resolves.{length_new}
 use Rattle.rw_simulation.specs.WorkerRuns.{queued, sent_bytes, request_in}
 use Rattle.rw_simulation.specs.Tallies.{Past, requests_of}
 use Rattle.rw_simulation.specs.EpochRuns.{StartsByTaking, AreNext, IsOnTheWay, IsOnTheWayWith, IsUnderWay}
-use Rattle.rw_simulation.specs.FleetRuns.{IsShardRun, fate_of, fate_by, fate_at, IsBeginning, IsFleetRun}
+use Rattle.rw_simulation.specs.FleetRuns.{IsShardRun, fate_of, shard_fate_by, fate_at, IsBeginning, IsFleetRun}
 use Rattle.rw_simulation.proofs.MarkRuns.{whole-epoch-run}
 
 next_of : (epoch k n : ℕ) (xs : List Item) → ((j : ℕ) (p : Place) → slice_get (places_in xs) j ≡ Some p → (p.epoch ≡ epoch) × (p.shard ≡ k)) → ((j : ℕ) (p : Place) → slice_get (places_in xs) j ≡ Some p → p.seq ≡ n + j) → EndIsLast xs → AreNext epoch k n xs
@@ -51,7 +51,7 @@ starts_fresh c epoch k (Sends e ∷ ss) some h = let never : false ≡ true = h.
 starts_fresh c epoch k (Waits ∷ ss) some h = absurd (both_ways (not (nat_le c.batch 0 || false)) h.0 (fresh_takes c.batch some))
 
 run-on-the-way : (c : Setup) (epoch k : ℕ) (requests : List Request) (l : ShardHistory) (steps : List Step) (rest : List Item) → 1 ≤ c.batch → requests_of epoch k requests ≡ [] → IsShardRun c epoch k l steps rest
-    → IsOnTheWayWith c epoch k requests empty (new_shard (new_core c.target epoch k c.batch)) (put_in l) (fate_of l steps rest)
+    → IsOnTheWayWith c epoch k requests empty (new_shard (new_core c.target epoch k c.batch)) (samples_put l) (fate_of l steps rest)
 run-on-the-way c epoch k requests l steps rest some unsent h = record {
   way = on-the-way;
   part_is = refl;
@@ -70,7 +70,7 @@ run-on-the-way c epoch k requests l steps rest some unsent h = record {
     allowed : AreSteps (new_working c.target epoch k c.batch) steps
     allowed = subst (λ (w : Working). AreSteps w steps) start_is h.allowed
 
-    on-the-way : IsOnTheWay c epoch k requests (new_shard (new_core c.target epoch k c.batch)) (put_in l) (fate_of l steps rest)
+    on-the-way : IsOnTheWay c epoch k requests (new_shard (new_core c.target epoch k c.batch)) (samples_put l) (fate_of l steps rest)
     on-the-way = record {
       coming = record { ledger = record { names = empty; room = 0 }; puts = l.put; steps = steps; left = map queued rest };
       ready = record {
@@ -130,7 +130,7 @@ under-way c past pieces epoch lanes steps left before es w some h = record {
         let lane = get_some lanes k new.0 in
         let own : s ≡ new_shard (new_core c.target epoch k c.batch) = new.1 ∙ ap (λ (m : ℕ). new_shard (new_core c.target epoch m c.batch)) (no_plus k) in
         subst (λ (t : Shard). IsOnTheWayWith c epoch k w.requests empty t (of_shard (length lanes) k (gather_from (sent_of c.choice) before es)) (fate_at lanes steps left k)) (sym own)
-        (subst (λ (o : Option ShardHistory). IsOnTheWayWith c epoch k w.requests empty (new_shard (new_core c.target epoch k c.batch)) (of_shard (length lanes) k (gather_from (sent_of c.choice) before es)) (fate_by o (steps k) (left k))) (sym lane.1)
+        (subst (λ (o : Option ShardHistory). IsOnTheWayWith c epoch k w.requests empty (new_shard (new_core c.target epoch k c.batch)) (of_shard (length lanes) k (gather_from (sent_of c.choice) before es)) (shard_fate_by o (steps k) (left k))) (sym lane.1)
         (subst (λ (xs : List Sent). IsOnTheWayWith c epoch k w.requests empty (new_shard (new_core c.target epoch k c.batch)) xs (fate_of lane.0 (steps k) (left k))) (h.dealt.each k lane.0 lane.1).2
         (run-on-the-way c epoch k w.requests lane.0 (steps k) (left k) some (h.unsent k) (h.runs k lane.0 lane.1))))
 

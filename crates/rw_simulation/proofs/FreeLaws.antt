@@ -2,12 +2,12 @@
 use Rattle.std.proofs.Common.{ℕ, List, [], Option, Some, None, slice_get}
 use Rattle.rw_machine.specs.Worlds.{Setup, Request, World, start, log}
 use Rattle.rw_machine.specs.Steps.{turned_away}
-use Rattle.rw_machine.proofs.Counts.{Count, count_act, count_start}
-use Rattle.rw_machine.proofs.Lists.{all_act, all_start}
-use Rattle.rw_machine.proofs.Lists as lists
-use Rattle.rw_machine.proofs.Ids.{Ids, act_ids, ids_start}
-use Rattle.rw_machine.proofs.Requests.{Carries, act_carries, carries_start, carries_is, same_bytes}
-use Rattle.rw_machine.proofs.Classes.{Classes, classes_act, classes_at, accounted, not_below}
+use Rattle.rw_machine.proofs.shared.Counts.{Count, count_act, count_start}
+use Rattle.rw_machine.proofs.shared.Lists.{all_act, all_start}
+use Rattle.rw_machine.proofs.shared.Lists as lists
+use Rattle.rw_machine.proofs.shared.Ids.{Ids, act_ids, ids_start}
+use Rattle.rw_machine.proofs.shared.Requests.{Carries, act_carries, carries_start, carries_is, same_bytes}
+use Rattle.rw_machine.proofs.shared.Classes.{Classes, classes_act, classes_at, accounted, not_below}
 use Rattle.rw_simulation.specs.Freely.{Happening, run_freely}
 use Rattle.rw_simulation.specs.FreeLaws.{KeepsLaws, world_of}
 use Rattle.rw_simulation.proofs.FreeNames.{always_freely, names-refused}

@@ -9,8 +9,8 @@ use Rattle.rw_machine.specs.Worlds.{Setup, Request, World, is_over, start}
 use Rattle.rw_machine.specs.Steps.{act, happens, turned_away}
 use Rattle.rw_machine.specs.declared.event.Event.{Event}
 use Rattle.rw_machine.specs.Promises.{NamesExactly, Stands, refused_in}
-use Rattle.rw_machine.proofs.Named.{Unnamed, happens_names, none_stands, stands_left, stands_right, stands_split, stays_act, unnamed_act, unnamed_begins}
-use Rattle.rw_machine.proofs.Steps.{unless}
+use Rattle.rw_machine.proofs.shared.Named.{Unnamed, happens_names, none_stands, stands_left, stands_right, stands_split, stays_act, unnamed_act, unnamed_begins}
+use Rattle.rw_machine.proofs.shared.Steps.{unless}
 use Rattle.rw_simulation.specs.Freely.{Happening, Of, Answered, run_freely}
 use Rattle.rw_simulation.specs.FreeLaws.{refused_freely, world_of}
 

@@ -16,14 +16,10 @@ pub mod FreeLaws
 pub mod FreeNames
 pub mod MarkRuns
 pub mod OwnRuns
-pub mod ReceivedRuns
 pub mod OrderlyEnds
-pub mod Passed
-pub mod Pasts
 pub mod Positions
 pub mod ReshardRuns
 pub mod RisingOrders
-pub mod Seatings
 pub mod SharedReceivers
 pub mod Spans
 pub mod StoppedRuns
@@ -32,3 +28,4 @@ pub mod Tallies
 pub mod WorkerLists
 pub mod WorkerRuns
 pub mod WorkerSteps
+pub mod shared

@@ -14,11 +14,11 @@ use Rattle.rw_machine.specs.Shards.{Shard}
 use Rattle.rw_machine.specs.Worlds.{Setup, Request, World}
 use Rattle.rw_machine.specs.Steps.{change}
 use Rattle.rw_machine.specs.declared.event.Event.TheVariants as event
-use Rattle.rw_machine.proofs.Places.{length_change, get_some}
+use Rattle.rw_machine.proofs.shared.Places.{length_change, get_some}
 use Rattle.rw_simulation.specs.Freely.{Of, run_freely}
 use Rattle.rw_simulation.specs.WorkerRuns.{IsIdOf}
 use Rattle.rw_simulation.specs.Tallies.{Past}
-use Rattle.rw_simulation.specs.EpochRuns.{AreNext, ShardFate, end_in, AreUnsent, IsOnTheWay, IsUnderWay, Reaches, IsAtEnd, IsPut, IsAllPut}
+use Rattle.rw_simulation.specs.EpochRuns.{AreNext, ShardFate, end_in, AreUnsent, IsOnTheWay, IsUnderWay, Reaches, HasOnlyEnd, IsPutAllButEnd, IsAllPut}
 use Rattle.rw_simulation.proofs.Changes.{change-get, change-twice}
 use Rattle.rw_simulation.proofs.WorkerSteps.{moved}
 use Rattle.rw_simulation.proofs.Eager.{GoesThrough, with_item, put-one, has-room}
@@ -26,7 +26,7 @@ use Rattle.rw_simulation.proofs.Tallies.{Names, with_part, part-own, part-other,
 use Rattle.rw_simulation.proofs.EpochRuns.{stay, go-on, each-update, none-to-send, flush-run, way-after, way_still, moved-shards, epoch-run}
 
 -- another shard sent more
-pub put-still : (c : Setup) (epoch j k : ℕ) (requests more : List Request) (now : Names) (parts : ℕ → Names) (s : Shard) (f : ShardFate) → (j ≡ k → ⊥) → AllByRecursion (IsIdOf epoch k) more → IsPut c epoch j requests (parts j) s f → IsPut c epoch j (requests ++ more) (with_part k now parts j) s f
+pub put-still : (c : Setup) (epoch j k : ℕ) (requests more : List Request) (now : Names) (parts : ℕ → Names) (s : Shard) (f : ShardFate) → (j ≡ k → ⊥) → AllByRecursion (IsIdOf epoch k) more → IsPutAllButEnd c epoch j requests (parts j) s f → IsPutAllButEnd c epoch j (requests ++ more) (with_part k now parts j) s f
 put-still c epoch j k requests more now parts s f differ ids h = record { way = way_still c epoch j k requests more s [] f differ ids h.way; part_is = h.part_is ∙ sym (part-other k now parts j differ); at_end = h.at_end }
 
 some_sent : (x : Sent) (xs : List Sent) → x ∷ xs ≡ [] → ⊥
@@ -36,28 +36,28 @@ module _ (c : Setup) (past : Past) (pieces : List Piece) (epoch n : ℕ) (fates 
   -- all entries are placed, and the first m shards have been put all but their Ends
   record PutBelow (m : ℕ) (w : World) : Type 0 where
     under : IsUnderWay c past pieces epoch n fates placed [] w
-    first : (k : ℕ) (s : Shard) → slice_get w.shards k ≡ Some s → k < m → IsPut c epoch k w.requests (under.parts k) s (fates k)
+    first : (k : ℕ) (s : Shard) → slice_get w.shards k ≡ Some s → k < m → IsPutAllButEnd c epoch k w.requests (under.parts k) s (fates k)
 
-  last-too : (m : ℕ) (w : World) (s : Shard) → (h : PutBelow m w) → slice_get w.shards m ≡ Some s → IsPut c epoch m w.requests (h.under.parts m) s (fates m) → (k : ℕ) (t : Shard) → slice_get w.shards k ≡ Some t → k < suc m → IsPut c epoch k w.requests (h.under.parts k) t (fates k)
+  last-too : (m : ℕ) (w : World) (s : Shard) → (h : PutBelow m w) → slice_get w.shards m ≡ Some s → IsPutAllButEnd c epoch m w.requests (h.under.parts m) s (fates m) → (k : ℕ) (t : Shard) → slice_get w.shards k ≡ Some t → k < suc m → IsPutAllButEnd c epoch k w.requests (h.under.parts k) t (fates k)
   last-too m w s h at own k t e lt = by_case (eqb_tells k m)
     where
       below_it : (k m : ℕ) → k < suc m → (k ≡ m → ⊥) → k < m
       below_it k m lt differ = omega arith
 
-      at_own : k ≡ m → IsPut c epoch k w.requests (h.under.parts k) t (fates k)
+      at_own : k ≡ m → IsPutAllButEnd c epoch k w.requests (h.under.parts k) t (fates k)
       at_own same =
           let shard_is : s ≡ t = same_Some _ _ (sym at ∙ ap (slice_get w.shards) (sym same) ∙ e) in
-          subst (λ (j : ℕ). IsPut c epoch j w.requests (h.under.parts j) t (fates j)) (sym same) (subst (λ (u : Shard). IsPut c epoch m w.requests (h.under.parts m) u (fates m)) shard_is own)
+          subst (λ (j : ℕ). IsPutAllButEnd c epoch j w.requests (h.under.parts j) t (fates j)) (sym same) (subst (λ (u : Shard). IsPutAllButEnd c epoch m w.requests (h.under.parts m) u (fates m)) shard_is own)
 
-      by_case : (((k == m) ≡ true) × (k ≡ m)) ⊎ (((k == m) ≡ false) × (k ≡ m → ⊥)) → IsPut c epoch k w.requests (h.under.parts k) t (fates k)
+      by_case : (((k == m) ≡ true) × (k ≡ m)) ⊎ (((k == m) ≡ false) × (k ≡ m → ⊥)) → IsPutAllButEnd c epoch k w.requests (h.under.parts k) t (fates k)
       by_case (inl h') = at_own h'.1
       by_case (inr h') = h.first k t e (below_it k m lt h'.1)
 
   -- the marks of shard m
   put-marks : (m : ℕ) (ps : List Item) (w : World) (s : Shard) → (h : PutBelow m w) → slice_get w.shards m ≡ Some s → (way : IsOnTheWay c epoch m w.requests s [] (fates m)) → way.coming.ledger.names ≡ h.under.parts m → way.coming.puts ≡ ps → Reaches (AreUnsent fates) c w (PutBelow (suc m))
   unfolding way-after
-  put-marks m [] w s h at way part is = stay c w (PutBelow (suc m)) (record { under = h.under; first = last-too m w s h at (record { way = way; part_is = part; at_end = subst IsAtEnd (sym is) tt }) })
-  put-marks m (item.End kind ∷ ps) w s h at way part is = stay c w (PutBelow (suc m)) (record { under = h.under; first = last-too m w s h at (record { way = way; part_is = part; at_end = subst IsAtEnd (sym is) (subst (AreNext epoch m (length s.put)) is way.next) }) })
+  put-marks m [] w s h at way part is = stay c w (PutBelow (suc m)) (record { under = h.under; first = last-too m w s h at (record { way = way; part_is = part; at_end = subst HasOnlyEnd (sym is) tt }) })
+  put-marks m (item.End kind ∷ ps) w s h at way part is = stay c w (PutBelow (suc m)) (record { under = h.under; first = last-too m w s h at (record { way = way; part_is = part; at_end = subst HasOnlyEnd (sym is) (subst (AreNext epoch m (length s.put)) is way.next) }) })
   put-marks m (item.Sample place t word labels ∷ ps) w s h at way part is = absurd (some_sent _ _ (sym (ap (λ (xs : List Item). map as_sent (samples_in xs)) is) ∙ way.sent))
   put-marks m (item.Flush ∷ ps) w s h at way part is = go-on c w (λ v. v ≡ later) (PutBelow (suc m)) flushed (λ v same. subst (λ (u : World). Reaches (AreUnsent fates) c u (PutBelow (suc m))) (sym same) (put-marks m ps later g.shard below_later (change-get g.shard m w.shards s at) way_later (sym (part-own m g.coming.ledger.names h.under.parts)) g.puts_are))
     where
@@ -109,7 +109,7 @@ module _ (c : Setup) (past : Past) (pieces : List Piece) (epoch n : ℕ) (fates 
           tallied = tallied-shard c past epoch n placed h.under.parts w later (Of (event.Flush m) ∷ g.events) m way.coming.ledger.names g.coming.ledger.names g.more h.under.tallied runs (subst (λ (i : ℕ). m < i) h.under.count (slice_get_within w.shards m s at)) part refl ids g.grow;
           shards = moved-shards c epoch m w.requests g.more g.coming.ledger.names h.under.parts g.shard w.shards (λ j. []) fates ids (λ j t e _. h.under.shards j t e) way_later refl;
         };
-        first = each-update (λ j t. j < m → IsPut c epoch j later.requests (with_part m g.coming.ledger.names h.under.parts j) t (fates j)) g.shard m w.shards
+        first = each-update (λ j t. j < m → IsPutAllButEnd c epoch j later.requests (with_part m g.coming.ledger.names h.under.parts j) t (fates j)) g.shard m w.shards
             (λ j t e differ lt. put-still c epoch j m w.requests g.more g.coming.ledger.names h.under.parts t (fates j) differ ids (h.first j t e lt)) (λ lt. absurd (not_itself m lt));
       }
 

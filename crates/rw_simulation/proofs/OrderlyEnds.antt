@@ -8,7 +8,7 @@ use Rattle.rw_wal_format.specs.Pieces.{Piece, entries, fault}
 use Rattle.rw_plain_queue.specs.declared.item.Kind.TheVariants as kind
 use Rattle.rw_machine.specs.Shards.{Shard, is_drained, shard_end, shard_flush}
 use Rattle.rw_machine.specs.Worlds.{Setup, World, log, ended_as, report}
-use Rattle.rw_machine.specs.Steps.{happens, mark, unless_over}
+use Rattle.rw_machine.specs.Steps.{happens, shard_mark, unless_over}
 use Rattle.rw_machine.specs.declared.event.Event.TheVariants as event
 use Rattle.rw_simulation.specs.Freely.{Of, run_freely}
 use Rattle.rw_simulation.specs.Tallies.{Past, IsTallied}
@@ -35,7 +35,7 @@ module _ (c : Setup) (past : Past) (pieces : List Piece) (epoch n : ℕ) (first 
   all-placed : (put.placed == length (log put)) ≡ true
   all-placed = eq-eqb put.placed (length (log put)) (is.under.placed ∙ ap length (sym whole) ∙ ap (λ (ps : List Piece). length (entries ps)) (sym is.under.pieces_are))
 
-  asks : (t : Shard) → mark closed t ≡ shard_end kind.Orderly t
+  asks : (t : Shard) → shard_mark closed t ≡ shard_end kind.Orderly t
   asks t = ap (λ (b : Bool). cond b (shard_end kind.Orderly t) (cond (is_some put.draining) (shard_end kind.Reshard t) (shard_flush t))) all-placed
 
   pub orderly-run : 1 ≤ c.capacity → ((k : ℕ) → k < n → (first k).end ≡ Some kind.Orderly) → Reaches (AreUnsent first) c put (IsOver c past epoch n first placed closed)

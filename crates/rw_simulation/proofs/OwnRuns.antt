@@ -7,9 +7,10 @@ use Rattle.rw_machine.specs.Worlds.{Setup, Request, World, is_finished, is_over}
 use Rattle.rw_machine.specs.Steps.{act, happens, run, request_by, send_batch}
 use Rattle.rw_machine.specs.declared.event.Event.{Event}
 use Rattle.rw_machine.specs.declared.event.Event.TheVariants as event
-use Rattle.rw_machine.proofs.Steps.{either, unless}
-use Rattle.rw_machine.proofs.Frames.{place_frame, reply_frame, restart_frame}
+use Rattle.rw_machine.proofs.shared.Steps.{unless}
+use Rattle.rw_machine.proofs.shared.Frames.{place_frame, reply_frame, restart_frame}
 use Rattle.rw_simulation.specs.Freely.{Happening, Of, Answered, IsOwn, run_freely}
+use Rattle.rw_types.proofs.shared.Booleans.{either}
 
 -- no reply is made and the head stays; requests may come after those that there are
 pub record Grows (w v : World) : Type 0 where
@@ -68,7 +69,3 @@ own-run c (Of e ∷ hs) w h = let r = own-run c hs (happens c w e) h.1 in record
   grows = both w (happens c w e) (run_freely c hs (happens c w e)) (own-happens c w e h.0) r.grows;
 }
 own-run c (Answered k status ∷ hs) w h = absurd h.0
-
-pub run-both : (c : Setup) (xs ys : List Event) (w : World) → run c (xs ++ ys) w ≡ run c ys (run c xs w)
-run-both c [] ys w = refl
-run-both c (x ∷ xs) ys w = run-both c xs ys (happens c w x)

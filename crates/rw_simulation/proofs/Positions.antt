@@ -3,8 +3,8 @@ use Rattle.std.proofs.Common.{◌≡◌, ℕ, zero, suc, ◌+◌, ◌<◌, ◌�
 use Rattle.std.specs.List.{AllByRecursion}
 use Rattle.std.proofs.lemmas.Bool.{eq-eqb, ne_eqb, eqb-true}
 use Rattle.rw_types.specs.Rising.{Rises}
-use Rattle.rw_types.proofs.AllLemmas.{AllByRecursion-append, AllByRecursion-map, AllByRecursion-weaker}
-use Rattle.rw_types.proofs.RisingLemmas.{Rises-filter}
+use Rattle.rw_types.proofs.shared.AllLemmas.{AllByRecursion-append, AllByRecursion-map, AllByRecursion-weaker}
+use Rattle.rw_types.proofs.shared.RisingLemmas.{Rises-filter}
 use Rattle.rw_types.specs.declared.entry.Entry.{Entry}
 use Rattle.rw_types.specs.declared.entry.Entry.TheVariants as entry
 use Rattle.rw_types.specs.Gathering.{gather_from}
@@ -18,7 +18,7 @@ use Rattle.rw_fleet.specs.Work.{positions_in}
 use Rattle.rw_fleet.specs.declared.joined.StoppedShard.{StoppedShard}
 use Rattle.rw_sender.specs.Placement.{as_sent, shard_of, of_shard}
 use Rattle.rw_sender.specs.Reports.{abandoned_in}
-use Rattle.rw_sender.specs.Spread.{StandsBefore}
+use Rattle.rw_sender.specs.Spread.{IsSentBefore}
 use Rattle.rw_simulation.proofs.RisingOrders.{Differ}
 
 -- ---- facts of each element
@@ -54,9 +54,9 @@ position_of x = x.pos
 apart : (m n : ℕ) → m < n → m ≡ n → ⊥
 apart m n lt e = omega arith
 
-differ-positions : (xs : List Sent) → Rises StandsBefore xs → Rises Differ (map position_of xs)
+differ-positions : (xs : List Sent) → Rises IsSentBefore xs → Rises Differ (map position_of xs)
 differ-positions [] r = tt
-differ-positions (x ∷ xs) r = (AllByRecursion-map (Differ x.pos) position_of xs (AllByRecursion-weaker (StandsBefore x) (λ (y : Sent). Differ x.pos y.pos) (λ y lt. apart x.pos y.pos lt) xs r.0), differ-positions xs r.1)
+differ-positions (x ∷ xs) r = (AllByRecursion-map (Differ x.pos) position_of xs (AllByRecursion-weaker (IsSentBefore x) (λ (y : Sent). Differ x.pos y.pos) (λ y lt. apart x.pos y.pos lt) xs r.0), differ-positions xs r.1)
 
 -- ---- the samples of some entries
 one_placed : (choice : Choice) (before : List Entry) (e : Entry) → (sent_of choice before e ≡ []) ⊎ ((x : Sent) × (sent_of choice before e ≡ x ∷ []) × (x.pos ≡ length before))
@@ -82,7 +82,7 @@ stands_before a b p q up is low = omega arith
 
 -- they rise, each at the position of its entry
 record AreGathered (a n : ℕ) (xs : List Sent) : Type 0 where
-  pub rises : Rises StandsBefore xs
+  pub rises : Rises IsSentBefore xs
   pub within : AllByRecursion (IsFrom a n) xs
 
 gathered : (choice : Choice) (before es : List Entry) → AreGathered (length before) (length es) (gather_from (sent_of choice) before es)
@@ -102,7 +102,7 @@ gathered choice before (e ∷ es) = by_sent (gathered choice (before ++ e ∷ []
     by_sent : AreGathered (length (before ++ e ∷ [])) (length es) later → (sent_of choice before e ≡ []) ⊎ ((x : Sent) × (sent_of choice before e ≡ x ∷ []) × (x.pos ≡ length before)) → AreGathered (length before) (suc (length es)) (sent_of choice before e ++ later)
     by_sent rest (inl none) = subst (λ (xs : List Sent). AreGathered (length before) (suc (length es)) (xs ++ later)) (sym none) (record { rises = rest.rises; within = rest_within rest })
     by_sent rest (inr (x, one, at)) = subst (λ (xs : List Sent). AreGathered (length before) (suc (length es)) (xs ++ later)) (sym one) (record {
-      rises = (AllByRecursion-weaker (IsFrom (length (before ++ e ∷ [])) (length es)) (StandsBefore x) (λ y h. stands_before (length before) (length (before ++ e ∷ [])) x.pos y.pos longer at h.0) later rest.within, rest.rises);
+      rises = (AllByRecursion-weaker (IsFrom (length (before ++ e ∷ [])) (length es)) (IsSentBefore x) (λ y h. stands_before (length before) (length (before ++ e ∷ [])) x.pos y.pos longer at h.0) later rest.within, rest.rises);
       within = (first_within (length before) (length es) x.pos at, rest_within rest);
     })
 
@@ -111,13 +111,13 @@ abbrev pub series_at : List Sent → ℕ → ℕ
 series_at [] p = 0
 series_at (x ∷ xs) p = cond (x.pos == p) x.series (series_at xs p)
 
-series_at-is : (xs : List Sent) → Rises StandsBefore xs → AllByRecursion (λ (x : Sent). series_at xs x.pos ≡ x.series) xs
+series_at-is : (xs : List Sent) → Rises IsSentBefore xs → AllByRecursion (λ (x : Sent). series_at xs x.pos ≡ x.series) xs
 series_at-is [] r = tt
 series_at-is (x ∷ xs) r = (
   ap (λ b. cond b x.series (series_at xs x.pos)) (eq-eqb x.pos x.pos refl),
-  AllByRecursion-weaker (λ (y : Sent). StandsBefore x y × (series_at xs y.pos ≡ y.series)) (λ (y : Sent). series_at (x ∷ xs) y.pos ≡ y.series)
+  AllByRecursion-weaker (λ (y : Sent). IsSentBefore x y × (series_at xs y.pos ≡ y.series)) (λ (y : Sent). series_at (x ∷ xs) y.pos ≡ y.series)
       (λ y h. ap (λ b. cond b x.series (series_at xs y.pos)) (ne_eqb x.pos y.pos (apart x.pos y.pos h.0)) ∙ h.1) xs
-      (AllByRecursion-both (StandsBefore x) (λ (y : Sent). series_at xs y.pos ≡ y.series) xs r.0 (series_at-is xs r.1)),
+      (AllByRecursion-both (IsSentBefore x) (λ (y : Sent). series_at xs y.pos ≡ y.series) xs r.0 (series_at-is xs r.1)),
 )
 
 -- these positions are of shard k, differ, and are below the bound
@@ -140,7 +140,7 @@ part-of n k choice before es = record {
       (AllByRecursion-weaker (λ (x : Sent). (series_at samples x.pos ≡ x.series) × ((shard_of n x.series == k) ≡ true)) (λ (x : Sent). shard_of n (series_at samples x.pos) ≡ k)
       (λ x h. ap (shard_of n) h.0 ∙ eqb-true (shard_of n x.series) k h.1) (of_shard n k samples)
       (AllByRecursion-filtered (λ (x : Sent). series_at samples x.pos ≡ x.series) (λ (x : Sent). shard_of n x.series == k) samples (series_at-is samples all.rises)));
-  differ = differ-positions (of_shard n k samples) (Rises-filter StandsBefore (λ (x : Sent). shard_of n x.series == k) samples all.rises);
+  differ = differ-positions (of_shard n k samples) (Rises-filter IsSentBefore (λ (x : Sent). shard_of n x.series == k) samples all.rises);
   below = AllByRecursion-map (λ (p : ℕ). p < length (before ++ es)) position_of (of_shard n k samples)
       (AllByRecursion-weaker (λ (x : Sent). IsFrom (length before) (length es) x × ((shard_of n x.series == k) ≡ true)) (λ (x : Sent). x.pos < length (before ++ es))
       (λ x h. subst (λ (m : ℕ). x.pos < m) (sym (length-append before es)) h.0.1) (of_shard n k samples)

@@ -2,7 +2,7 @@
 -- begin.
 use Rattle.std.proofs.Common.{◌≡◌, ℕ, suc, ◌<◌, ◌≤◌, ◌&&◌, Bool, true, false, not, cond, nat_le, List, [], ◌∷◌, ◌++◌, length, None, Some, is_some, refl, ap, ◌∙◌}
 use Rattle.std.specs.FinMap.{empty}
-use Rattle.std.proofs.lemmas.Bool.{le-leb}
+use Rattle.std.proofs.lemmas.Bool.{le-leb, and_from}
 use Rattle.rw_types.specs.declared.entry.Entry.{Entry}
 use Rattle.rw_wal_format.specs.Pieces.{Piece}
 use Rattle.rw_series_cache.specs.Numbers.{series_of}
@@ -10,9 +10,8 @@ use Rattle.rw_plain_queue.specs.declared.item.Kind.TheVariants as kind
 use Rattle.rw_sender.specs.Logs.{filtered}
 use Rattle.rw_machine.specs.Shards.{Shard, shard_end}
 use Rattle.rw_machine.specs.Worlds.{Setup, World, new_shards, is_finished, all_drained}
-use Rattle.rw_machine.specs.Steps.{happens, mark, restart_as, unless_over}
+use Rattle.rw_machine.specs.Steps.{happens, shard_mark, restart_as, unless_over}
 use Rattle.rw_machine.specs.declared.event.Event.TheVariants as event
-use Rattle.rw_machine.proofs.Steps.{and_both}
 use Rattle.rw_simulation.specs.Freely.{Of, run_freely}
 use Rattle.rw_simulation.specs.Tallies.{Past, IsTallied, requests_of}
 use Rattle.rw_simulation.specs.EpochRuns.{ShardFate, AreUnsent, IsAllPut, Reaches}
@@ -40,13 +39,13 @@ module _ (c : Setup) (past : Past) (pieces : List Piece) (epoch n m : ℕ) (fate
   draining = record w { draining = Some m }
 
   may_ask : (not (is_some w.draining) && (not (is_finished w) && (nat_le 1 m && nat_le m 1000))) ≡ true
-  may_ask = and_both (not (is_some w.draining)) (not (is_finished w) && (nat_le 1 m && nat_le m 1000)) (rw put.under.going.2 refl)
-      (and_both (not (is_finished w)) (nat_le 1 m && nat_le m 1000) (rw put.under.going.1 refl) (and_both (nat_le 1 m) (nat_le m 1000) (le-leb 1 m least) (le-leb m 1000 most)))
+  may_ask = and_from (not (is_some w.draining)) (not (is_finished w) && (nat_le 1 m && nat_le m 1000)) (rw put.under.going.2 refl)
+      (and_from (not (is_finished w)) (nat_le 1 m && nat_le m 1000) (rw put.under.going.1 refl) (and_from (nat_le 1 m) (nat_le m 1000) (le-leb 1 m least) (le-leb m 1000 most)))
 
   asked : happens c w (event.Reshard m) ≡ draining
   asked = ap (unless_over c w (event.Reshard m)) (over_not w put.under.going.0 put.under.going.1) ∙ ap (λ (b : Bool). cond b draining w) may_ask
 
-  asks : (t : Shard) → mark draining t ≡ shard_end kind.Reshard t
+  asks : (t : Shard) → shard_mark draining t ≡ shard_end kind.Reshard t
   asks t = rw put.under.going.1 refl
 
   -- each shard is ended
@@ -70,7 +69,7 @@ module _ (c : Setup) (past next_past : Past) (pieces : List Piece) (epoch n m : 
   unclosed-still = ap (λ (x : World). x.closed) over-is.same ∙ put.under.going.1
 
   may_restart : (not (is_finished over) && all_drained over) ≡ true
-  may_restart = and_both (not (is_finished over)) (all_drained over) (rw unclosed-still refl) (drained-all c epoch n fates over.requests over-is.parts over.shards over-is.count (lists-at c over over-is.tallied.reached) over-is.done resolved)
+  may_restart = and_from (not (is_finished over)) (all_drained over) (rw unclosed-still refl) (drained-all c epoch n fates over.requests over-is.parts over.shards over-is.count (lists-at c over over-is.tallied.reached) over-is.done resolved)
 
   pub restarts : happens c over event.Restart ≡ next
   restarts =

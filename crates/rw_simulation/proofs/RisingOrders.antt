@@ -5,9 +5,10 @@ use Rattle.std.proofs.lemmas.Bool.{eq-eqb, ne_eqb, cases_eq}
 use Rattle.std.proofs.lemmas.List.Elements.{filter-append}
 use Rattle.std.proofs.lemmas.List.Sorted.{IsPermutation-refl, IsPermutation-sym, IsPermutation-cons, IsPermutation-to_front, IsPermutation-append_left, IsPermutation-trans}
 use Rattle.rw_types.specs.Rising.{Rises}
-use Rattle.rw_types.proofs.AllLemmas.{AllByRecursion-push, AllByRecursion-weaker}
-use Rattle.rw_types.proofs.RisingLemmas.{Rises-push, Rises-filter}
+use Rattle.rw_types.proofs.shared.AllLemmas.{AllByRecursion-push, AllByRecursion-weaker}
+use Rattle.rw_types.proofs.shared.RisingLemmas.{Rises-push, Rises-filter}
 use Rattle.rw_machine.specs.Worlds.{up_to}
+use Rattle.rw_simulation.proofs.Arrived.{below_it}
 
 -- whether the list has the number
 abbrev pub is_in : List ℕ → ℕ → Bool
@@ -34,9 +35,6 @@ or_one a f p = (a == p) || f p
 
 not_above : (a n p : ℕ) → a ≡ n → p < n → a ≡ p → ⊥
 not_above a n p same lt e = omega arith
-
-below_it : (a n : ℕ) → a < suc n → (a ≡ n → ⊥) → a < n
-below_it a n lt differ = omega arith
 
 one-more : (n a : ℕ) (f : ℕ → Bool) → a < n → f a ≡ false → IsPermutation (a ∷ filter f (up_to n)) (filter (or_one a f) (up_to n))
 one-more zero a f lt fails = absurd (omega arith)

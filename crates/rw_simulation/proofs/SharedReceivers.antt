@@ -15,22 +15,19 @@ use Rattle.rw_head.specs.Head.{State, status_of, judged_body, answered, answer_t
 use Rattle.rw_head.specs.Store.{Store}
 use Rattle.rw_head.specs.Verdicts.{judged, taken_all, apply}
 use Rattle.rw_recv_head.specs.declared.question.Question.{Question}
-use Rattle.rw_recv_head.specs.Seats.{store_after, head_after, taken_of, bodies_of}
+use Rattle.rw_recv_head.specs.Seats.{store_after, head_after, body_if_taken, bodies_of}
+use Rattle.rw_recv_head.proofs.shared.StayingLemmas.{store_after-append}
 use Rattle.rw_machine.specs.Worlds.{Setup}
 use Rattle.rw_machine.specs.Steps.{endpoint_answer}
 use Rattle.rw_machine.specs.declared.event.How.{How}
 use Rattle.rw_machine.specs.declared.event.How.TheVariants.{Plain, Busy, OutOfMemory}
 use Rattle.rw_simulation.specs.Arrivals.{Arrival, Receives, IsOneReceiver}
 use Rattle.rw_simulation.specs.SharedReceivers.{Coming, questions_of, questions_in, Carries, IsAnsweredAt, IsAnswered, how_of, arrival_of, head_behind, SharesAsOne}
-use Rattle.rw_simulation.proofs.Pasts.{map_get}
-
-store_after-append : (h : State) (xs ys : List (List ℕ)) → store_after h (xs ++ ys) ≡ store_after (record h { store = store_after h xs }) ys
-store_after-append h [] ys = refl
-store_after-append h (x ∷ xs) ys = store_after-append (record h { store = (judged_body h (read x)).store }) xs ys
+use Rattle.rw_simulation.proofs.shared.Pasts.{map_get}
 
 pub bodies-append : (xs ys : List Question) → bodies_of (xs ++ ys) ≡ bodies_of xs ++ bodies_of ys
 bodies-append [] ys = refl
-bodies-append (x ∷ xs) ys = ap (λ l. taken_of x.status x.body ++ l) (bodies-append xs ys) ∙ sym (append_assoc (taken_of x.status x.body) (bodies_of xs) (bodies_of ys))
+bodies-append (x ∷ xs) ys = ap (λ l. body_if_taken x.status x.body ++ l) (bodies-append xs ys) ∙ sym (append_assoc (body_if_taken x.status x.body) (bodies_of xs) (bodies_of ys))
 
 -- what one more request brings
 questions-next : (cs : List Coming) (n : ℕ) (a : Coming) → slice_get cs n ≡ Some a → questions_in (take (suc n) cs) ≡ questions_in (take n cs) ++ questions_of a.question
@@ -73,20 +70,20 @@ module _ (c : Setup) (opening : State) (before : List Question) (request : List 
   next q = head_after opening (bodies_of (before ++ questions_of q)) 0
 
   -- the bodies with those of one question more
-  one_more : (q : Question) → q.status ≡ status → bodies_of (before ++ q ∷ []) ≡ bodies_of before ++ taken_of status q.body
-  one_more q is = bodies-append before (q ∷ []) ∙ ap (λ l. bodies_of before ++ l) (append-nil (taken_of q.status q.body) ∙ ap (λ (s : ℕ). taken_of s q.body) is)
+  one_more : (q : Question) → q.status ≡ status → bodies_of (before ++ q ∷ []) ≡ bodies_of before ++ body_if_taken status q.body
+  one_more q is = bodies-append before (q ∷ []) ∙ ap (λ l. bodies_of before ++ l) (append-nil (body_if_taken q.status q.body) ∙ ap (λ (s : ℕ). body_if_taken s q.body) is)
 
-  none-taken : (q : Question) → q.status ≡ status → taken_of status q.body ≡ [] → next (Some q) ≡ head
+  none-taken : (q : Question) → q.status ≡ status → body_if_taken status q.body ≡ [] → next (Some q) ≡ head
   none-taken q is e = ap (λ l. head_after opening l 0) (one_more q is ∙ ap (λ l. bodies_of before ++ l) e ∙ append-nil (bodies_of before))
 
-  not-taken : (q : Question) → (status == 204) ≡ false → taken_of status q.body ≡ []
+  not-taken : (q : Question) → (status == 204) ≡ false → body_if_taken status q.body ≡ []
   not-taken q e = ap (λ (b : Bool). cond b (q.body ∷ []) []) e
 
   -- the store after a message that was judged
   judged-next : (q : Question) (m : WriteRequest) → q.status ≡ status → read q.body ≡ Ok m → status ≡ status_of (apply opening.limits head.store m).verdict → (next (Some q)).store ≡ (apply opening.limits head.store m).store
   judged-next q m own reads is = ap (store_after opening) (one_more q own) ∙ by_status (eqb_tells status 204)
     where
-      by_status : (((status == 204) ≡ true) × (status ≡ 204)) ⊎ (((status == 204) ≡ false) × (status ≡ 204 → ⊥)) → store_after opening (bodies_of before ++ taken_of status q.body) ≡ (apply opening.limits head.store m).store
+      by_status : (((status == 204) ≡ true) × (status ≡ 204)) ⊎ (((status == 204) ≡ false) × (status ≡ 204 → ⊥)) → store_after opening (bodies_of before ++ body_if_taken status q.body) ≡ (apply opening.limits head.store m).store
       by_status (inl (e, so)) =
           ap (λ (b : Bool). store_after opening (bodies_of before ++ cond b (q.body ∷ []) [])) e
           ∙ store_after-append opening (bodies_of before) (q.body ∷ [])
@@ -122,8 +119,8 @@ module _ (c : Setup) (opening : State) (before : List Question) (request : List 
     seat-answers = by_status (eqb_tells status 503) (eqb_tells status 429)
       where
         by_status : (((status == 503) ≡ true) × (status ≡ 503)) ⊎ (((status == 503) ≡ false) × (status ≡ 503 → ⊥)) → (((status == 429) ≡ true) × (status ≡ 429)) ⊎ (((status == 429) ≡ false) × (status ≡ 429 → ⊥)) → Receives c (how_of status) request head status (next (Some q))
-        by_status (inl (e, so)) any = subst (λ (h : How). Receives c h request head status (next (Some q))) (sym (how-memory status so)) (so, none-taken q own (ap (λ (s : ℕ). taken_of s q.body) so))
-        by_status (inr free) (inl (e, so)) = subst (λ (h : How). Receives c h request head status (next (Some q))) (sym (how-busy status so)) (so, none-taken q own (ap (λ (s : ℕ). taken_of s q.body) so))
+        by_status (inl (e, so)) any = subst (λ (h : How). Receives c h request head status (next (Some q))) (sym (how-memory status so)) (so, none-taken q own (ap (λ (s : ℕ). body_if_taken s q.body) so))
+        by_status (inr free) (inl (e, so)) = subst (λ (h : How). Receives c h request head status (next (Some q))) (sym (how-busy status so)) (so, none-taken q own (ap (λ (s : ℕ). body_if_taken s q.body) so))
         by_status (inr (e, free)) (inr (f, calm)) = subst (λ (h : How). Receives c h request head status (next (Some q))) (sym (how-plain status e f)) (seat-judged free calm)
 
   none-asked : next None ≡ head

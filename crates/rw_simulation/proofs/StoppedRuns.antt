@@ -15,7 +15,7 @@ use Rattle.rw_wal_tail.specs.Fed.{piece_of}
 use Rattle.rw_wal_tail.specs.declared.piece.Piece as piece
 use Rattle.rw_relabel.specs.declared.choice.Choice.{Choice}
 use Rattle.rw_ledger.specs.declared.ledger.Reason.{Reason}
-use Rattle.rw_series_cache.proofs.KnownLemmas.{series_of-none}
+use Rattle.rw_series_cache.proofs.shared.KnownLemmas.{series_of-none}
 use Rattle.rw_plain_queue.specs.Items.{samples_in, places_in}
 use Rattle.rw_plain_queue.specs.History.{EndIsLast, IsEnded}
 use Rattle.rw_plain_queue.specs.declared.item.Item.{Item}
@@ -34,29 +34,29 @@ use Rattle.rw_fleet.specs.Work.{IsWorked, AreWorked, AreResolved, AreEndedBy, Is
 use Rattle.rw_fleet.specs.declared.joined.StoppedShard.{StoppedShard}
 use Rattle.rw_fleet.specs.declared.joined.Finished.{Finished}
 use Rattle.rw_fleet.specs.Fleets.{EndBy}
-use Rattle.rw_fleet.proofs.LaneLemmas.{same_length}
+use Rattle.rw_fleet.proofs.shared.LaneLemmas.{same_length}
 use Rattle.rw_sender.specs.Feeders.{HasRead}
 use Rattle.rw_sender.specs.Logs.{sent, sent_of, filtered}
-use Rattle.rw_sender.specs.Placement.{IsDealt, IsShardCount, AreTurned, Places, joined}
+use Rattle.rw_sender.specs.Placement.{IsDealt, IsShardCount, AreTurned, Places, joined_epochs}
 use Rattle.rw_sender.specs.Reports.{IsAbandoned}
-use Rattle.rw_sender.specs.Shipping.{Shipping, HasStopped, Ends}
+use Rattle.rw_sender.specs.Shipping.{Shipping, HasStopped, HasEndedAs}
 use Rattle.rw_sender.specs.declared.report.Report.{Report}
-use Rattle.rw_sender.proofs.PlacementLemmas.{whole_is, whole_placed}
-use Rattle.rw_sender.proofs.ShippingLemmas.{all_is, ends_last}
-use Rattle.rw_types.proofs.AllLemmas.{AllByRecursion-left, AllByRecursion-right}
+use Rattle.rw_sender.proofs.shared.PlacementLemmas.{whole_is, whole_placed, joined_push}
+use Rattle.rw_sender.proofs.shared.ShippingLemmas.{all_is, ends_last}
+use Rattle.rw_types.proofs.shared.AllLemmas.{AllByRecursion-left, AllByRecursion-right}
 use Rattle.rw_machine.specs.Shards.{Shard}
 use Rattle.rw_machine.specs.Worlds.{Setup, Request, World, start, log, ended_as, report}
 use Rattle.rw_shard_core.specs.Endings.{Ending, Complete}
 use Rattle.rw_machine.specs.Steps.{happens, unless_over}
 use Rattle.rw_machine.specs.declared.event.Event.TheVariants as event
 use Rattle.rw_machine.specs.Promises.{CanWork}
-use Rattle.rw_machine.proofs.Places.{get_some}
+use Rattle.rw_machine.proofs.shared.Places.{get_some}
 use Rattle.rw_simulation.specs.Freely.{Happening, Of, run_freely}
 use Rattle.rw_simulation.specs.FreeLaws.{world_of}
 use Rattle.rw_simulation.specs.WorkerRuns.{request_in}
 use Rattle.rw_simulation.specs.Tallies.{Past, IsNamedSo, IsTallied}
 use Rattle.rw_simulation.specs.EpochRuns.{ShardFate, end_in, AreUnsent, IsAllPut, Reaches}
-use Rattle.rw_simulation.specs.FleetRuns.{IsShardRun, fate_by, fate_at}
+use Rattle.rw_simulation.specs.FleetRuns.{IsShardRun, shard_fate_by, fate_at}
 use Rattle.rw_simulation.specs.StoppedShards.{IsShardOf}
 use Rattle.rw_shard_core.specs.Endings.{ending_of}
 use Rattle.rw_simulation.specs.StoppedRuns.{IsSetAs, HasNumbers, AreNumbers, EndInTurn, first_number, IsAlike, Tells, IsRun, StopsAsRun, StopsInOrder}
@@ -71,7 +71,7 @@ use Rattle.rw_simulation.proofs.EpochTurns.{Split, split_map, AreBefore, Turns, 
 use Rattle.rw_simulation.proofs.OrderlyEnds.{HasEnded, closed, orderly-run, has-ended}
 use Rattle.rw_simulation.proofs.EndRuns.{HasCome, IsResolvedFate, IsOver}
 use Rattle.rw_simulation.proofs.Tallies.{Names, Passes}
-use Rattle.rw_simulation.proofs.Pasts.{get_map, map_get, past_of, ReportsAt, passes-of, seen-is, names-all, sends-all}
+use Rattle.rw_simulation.proofs.shared.Pasts.{get_map, map_get, past_of, ReportsAt, passes-of, seen-is, names-all, sends-all}
 
 -- ---- an End that was taken
 stays_ended : (st : Step) (c : Core) → c.ended ≡ true → (core_after st c).ended ≡ true
@@ -164,10 +164,6 @@ divide lanes (next ∷ later) some numbers turn = let d = divide next later numb
   some = d.some;
   by = d.by;
 }
-
-pub joined-last : (turned : List (List ShardHistory)) (last : List ShardHistory) → joined (turned ++ last ∷ []) ≡ joined turned ++ last
-joined-last [] last = append-nil last
-joined-last (x ∷ xs) last = ap (λ (ls : List ShardHistory). x ++ ls) (joined-last xs last) ∙ sym (append_assoc x (joined xs) last)
 
 -- of an outcome that leaves nothing the report says the same
 tells-so : (o : Outcome) (found : Option Ending) → (IsAbandoned o → ⊥) → found ≡ Some (ending_of o) → Tells o found
@@ -273,10 +269,10 @@ module _ {T : Type 0} (tells : T → Type 0) (seen : T → List Exchange) (is_fo
         f = find js sound k l e
 
     pub fate-end : (k : ℕ) → k < n → (fates k).end ≡ Some kd
-    fate-end k lt = let l = get_some (map lane_of js) k lt in subst (λ (o : Option ShardHistory). (fate_by o (steps k) []).end ≡ Some kd) (sym l.1) (lane-end k l.0 l.1)
+    fate-end k lt = let l = get_some (map lane_of js) k lt in subst (λ (o : Option ShardHistory). (shard_fate_by o (steps k) []).end ≡ Some kd) (sym l.1) (lane-end k l.0 l.1)
 
     pub fate-resolved : (k : ℕ) → k < n → IsResolvedFate (fates k)
-    fate-resolved k lt = subst (λ (o : Option ShardHistory). IsResolvedFate (fate_by o (steps k) [])) (sym l.1) (
+    fate-resolved k lt = subst (λ (o : Option ShardHistory). IsResolvedFate (shard_fate_by o (steps k) [])) (sym l.1) (
       ended_in (start_of l.0.setup) (steps k) kd own.allowed (sym (ap end_in (own.split ∙ append-nil (items_of (steps k)))) ∙ lane-end k l.0 l.1),
       subst (λ (ss : List Step). length (samples_in l.0.put) ≤ length (after (start_of l.0.setup) ss).core.resolved) f.steps
           (subst (λ (x : ShardHistory). length (samples_in x.put) ≤ length (after (start_of x.setup) f.sound.worked.report.steps).core.resolved) f.lane (all_put_resolved f.j f.sound)),
@@ -313,12 +309,12 @@ module _ {T : Type 0} (tells : T → Type 0) (seen : T → List Exchange) (is_fo
     reports-at k j at = record {
       epoch_is = (dealt.each k (lane_of j) here).0;
       shard_is = (dealt.each k (lane_of j) here).1;
-      part_is = ap (λ (o : Option ShardHistory). (fate_by o (steps k) []).worker.ledger.names) here
+      part_is = ap (λ (o : Option ShardHistory). (shard_fate_by o (steps k) []).worker.ledger.names) here
           ∙ ap (λ (ss : List Step). (after (start_of j.worker.value) ss).ledger.names) (sym g.steps)
           ∙ ap (λ (x : StoppedShard T). (after (start_of x.worker.value) g.sound.worked.report.steps).ledger.names) (sym same)
           ∙ sym g.sound.worked.report.names
           ∙ ap (λ (x : StoppedShard T). x.part.names) same;
-      sent_is = λ told. ap (λ (o : Option ShardHistory). (fate_by o (steps k) []).requests) here
+      sent_is = λ told. ap (λ (o : Option ShardHistory). (shard_fate_by o (steps k) []).requests) here
           ∙ ap (λ (ss : List Step). map request_in (exchanges_of ss)) (sym g.steps)
           ∙ ap (map request_in) (sym (seen-is tells seen is_for g.j g.sound.worked (subst (λ (x : StoppedShard T). tells x.finished.transport) (sym same) told)))
           ∙ ap (λ (x : StoppedShard T). map request_in (seen x.finished.transport)) same;
@@ -338,15 +334,15 @@ module _ {T : Type 0} (tells : T → Type 0) (seen : T → List Exchange) (is_fo
 
     alike : (k : ℕ) (requests : List Request) (part : Names) (m : Shard) (j : StoppedShard T) → k < n → HasCome epoch k requests part m (fates k) → slice_get js k ≡ Some j → IsAlike j.finished m
     alike k requests part m j lt come at = record {
-      put = come.put ∙ ap (λ (o : Option ShardHistory). (fate_by o (steps k) []).put) l.1 ∙ ap (λ (x : ShardHistory). samples_in x.put) (sym g.lane) ∙ ap (λ (y : StoppedShard T). samples_in (put_of y.finished.ends)) same;
+      put = come.put ∙ ap (λ (o : Option ShardHistory). (shard_fate_by o (steps k) []).put) l.1 ∙ ap (λ (x : ShardHistory). samples_in x.put) (sym g.lane) ∙ ap (λ (y : StoppedShard T). samples_in (put_of y.finished.ends)) same;
       taken = ap (λ (y : Core). y.taken) come.core
-          ∙ ap (λ (o : Option ShardHistory). (fate_by o (steps k) []).worker.core.taken) l.1
+          ∙ ap (λ (o : Option ShardHistory). (shard_fate_by o (steps k) []).worker.core.taken) l.1
           ∙ ap (λ (ss : List Step). (after (start_of l.0.setup) ss).core.taken) (sym g.steps)
           ∙ ap (λ (x : ShardHistory). (after (start_of x.setup) g.sound.worked.report.steps).core.taken) (sym g.lane)
           ∙ has-taken tells seen is_for g.j g.sound.worked
           ∙ ap (λ (y : StoppedShard T). samples_in (taken_of y.finished.ends)) same;
       resolved = ap (λ (y : Core). length y.resolved) come.core
-          ∙ ap (λ (o : Option ShardHistory). length (fate_by o (steps k) []).worker.core.resolved) l.1
+          ∙ ap (λ (o : Option ShardHistory). length (shard_fate_by o (steps k) []).worker.core.resolved) l.1
           ∙ ap (λ (ss : List Step). length (after (start_of l.0.setup) ss).core.resolved) (sym g.steps)
           ∙ ap (λ (x : ShardHistory). length (after (start_of x.setup) g.sound.worked.report.steps).core.resolved) (sym g.lane)
           ∙ sym g.sound.worked.report.counted
@@ -455,7 +451,7 @@ module _ {T : Type 0} (tells : T → Type 0) (seen : T → List Exchange) (is_fo
   abbrev ComesHere : List ShardHistory → List (StoppedShard T) → ℕ → List (List ShardHistory) → List Entry → Type 0
   ComesHere = Comes tells seen is_for c s.fleet.config set work (no_more tells seen is_for) s.log.pieces
 
-  finish : (epochs : List (List ShardHistory)) → map lane_of h.joined ≡ joined epochs → Places 0 epochs (sent c.choice s.log.placed) → HasNumbers c epochs → EndInTurn epochs → AreResolved h.joined → (IsAbandoned r.outcome → ⊥) → (found : Option TailFault) → HasRead s.log.pieces s.log.placed found → ending_of r.outcome ≡ ended_as found (length s.log.placed) → IsRun tells seen c s r
+  finish : (epochs : List (List ShardHistory)) → map lane_of h.joined ≡ joined_epochs epochs → Places 0 epochs (sent c.choice s.log.placed) → HasNumbers c epochs → EndInTurn epochs → AreResolved h.joined → (IsAbandoned r.outcome → ⊥) → (found : Option TailFault) → HasRead s.log.pieces s.log.placed found → ending_of r.outcome ≡ ended_as found (length s.log.placed) → IsRun tells seen c s r
   finish [] e p numbers turn resolved left_none found read out = absurd numbers
   finish (lanes ∷ later) e p numbers turn resolved left_none found read out = (
     whole.events,
@@ -478,8 +474,8 @@ module _ {T : Type 0} (tells : T → Type 0) (seen : T → List Exchange) (is_fo
       d : Divided lanes later
       d = divide lanes later (subst (λ (i : ℕ). 1 ≤ i) (sym numbers.0) work.shards) numbers.1 turn
 
-      sp : Split lane_of h.joined (joined d.turned) d.last
-      sp = split_map lane_of h.joined (joined d.turned) d.last (e ∙ ap joined d.are ∙ joined-last d.turned d.last)
+      sp : Split lane_of h.joined (joined_epochs d.turned) d.last
+      sp = split_map lane_of h.joined (joined_epochs d.turned) d.last (e ∙ ap joined_epochs d.are ∙ joined_push d.turned d.last)
 
       sound : AllByRecursion IsSoundHere (sp.first ++ sp.later)
       sound = subst (AllByRecursion IsSoundHere) sp.are (sound-all tells seen is_for c s.fleet.config set work (no_more tells seen is_for) h.joined (known-all tells seen is_for c s.fleet.config set work (no_more tells seen is_for) h.joined h.worked h.setup (none-asked tells seen is_for c s.fleet.config set work h.joined h.worked)) resolved)
@@ -511,7 +507,7 @@ stops-as-run {T} tells seen is_for s r c fed h epochs machine work fed_are e p n
     placed : Places 0 epochs (sent c.choice s.log.placed)
     placed = subst (λ (ch : Choice). Places 0 epochs (sent ch s.log.placed)) (sym machine.1) p
 
-    by_outcome : (o : Outcome) → r.outcome ≡ o → Ends s h.joined o → (IsAbandoned o → ⊥) → IsRun tells seen c s r
+    by_outcome : (o : Outcome) → r.outcome ≡ o → HasEndedAs s h.joined o → (IsAbandoned o → ⊥) → IsRun tells seen c s r
     by_outcome (outcome.Complete end) is ended whole = finish tells seen is_for c s r fed h machine.0 machine.1 work fed_are epochs e placed numbers turn ended.2 left None ended.1 (ap ending_of is ∙ ap Complete ended.0)
     by_outcome (outcome.Damaged f) is ended whole = finish tells seen is_for c s r fed h machine.0 machine.1 work fed_are epochs e placed numbers turn ended.1 left (Some f) ended.0 (ap ending_of is)
     by_outcome (outcome.Abandoned count samples) is ended whole = absurd (whole tt)

@@ -3,14 +3,14 @@ use Rattle.std.proofs.Common.{◌≡◌, ◌⊎◌, inl, inr, ◌&&◌, ◌==◌
 use Rattle.std.specs.List.{AllByRecursion}
 use Rattle.std.specs.Ordering.{nat_cmp}
 use Rattle.std.specs.FinMap.{FinMap, empty, get, get-empty, insert}
-use Rattle.std.proofs.lemmas.Bool.{eq-eqb, ne_eqb, and_right}
+use Rattle.std.proofs.lemmas.Bool.{eq-eqb, ne_eqb, and_right, and_from}
 use Rattle.std.proofs.lemmas.Bool.Decides.{eqb_tells}
 use Rattle.std.proofs.lemmas.List.Elements.{filter-append}
 use Rattle.std.proofs.lemmas.List.Sums.{fold-append}
 use Rattle.std.proofs.lemmas.Option.{none-some}
 use Rattle.rw_types.specs.declared.entry.Entry.{Entry}
-use Rattle.rw_types.proofs.AllLemmas.{AllByRecursion-append, AllByRecursion-weaker}
-use Rattle.rw_types.proofs.GatherLemmas.{gather-push}
+use Rattle.rw_types.proofs.shared.AllLemmas.{AllByRecursion-append, AllByRecursion-weaker}
+use Rattle.rw_types.proofs.shared.GatherLemmas.{gather-push}
 use Rattle.rw_ledger.specs.declared.ledger.Reason.{Reason}
 use Rattle.rw_ledger.specs.declared.ledger.Reason.TheVariants.{Status}
 use Rattle.rw_retry.specs.Judgements.{judgement_of}
@@ -23,11 +23,10 @@ use Rattle.rw_worker.specs.declared.transport.Lost.{Lost}
 use Rattle.rw_worker.specs.Steps.{Working, Step, Takes, Freezes, Sends, Waits, after_step}
 use Rattle.rw_sender.specs.Logs.{named, dropped, dropped_of, with_name}
 use Rattle.rw_machine.specs.Worlds.{Setup, Request, World, start}
-use Rattle.rw_machine.proofs.Lists as lists
-use Rattle.rw_machine.proofs.Names.{ledger_insert}
-use Rattle.rw_machine.proofs.Named.{Unnamed, unnamed_act, unnamed_begins}
-use Rattle.rw_machine.proofs.Steps.{and_both}
-use Rattle.rw_machine.proofs.Views.{Ledger}
+use Rattle.rw_machine.proofs.shared.Lists as lists
+use Rattle.rw_machine.proofs.shared.Names.{ledger_insert}
+use Rattle.rw_machine.proofs.shared.Named.{Unnamed, unnamed_act, unnamed_begins}
+use Rattle.rw_machine.proofs.shared.Views.{Ledger}
 use Rattle.rw_simulation.specs.Freely.{Happening, run_freely}
 use Rattle.rw_simulation.specs.WorkerRuns.{IsIdOf, answer_names, step_names, steps_names, sent_bytes}
 use Rattle.rw_simulation.specs.Tallies.{Past, requests_of, IsNamedSo, IsOwned, IsReached, IsTallied}
@@ -117,7 +116,7 @@ is_of epoch k r = (r.id.epoch == epoch) && (r.id.shard == k)
 pub own-requests : (epoch k : ℕ) (rs more : List Request) → AllByRecursion (IsIdOf epoch k) more → requests_of epoch k (rs ++ more) ≡ requests_of epoch k rs ++ more
 own-requests epoch k rs more ids =
     filter-append (is_of epoch k) rs more
-    ∙ ap (λ xs. requests_of epoch k rs ++ xs) (filter-all (is_of epoch k) more (AllByRecursion-weaker (IsIdOf epoch k) (λ r. is_of epoch k r ≡ true) (λ r h. and_both (r.id.epoch == epoch) (r.id.shard == k) (eq-eqb r.id.epoch epoch h.0) (eq-eqb r.id.shard k h.1)) more ids))
+    ∙ ap (λ xs. requests_of epoch k rs ++ xs) (filter-all (is_of epoch k) more (AllByRecursion-weaker (IsIdOf epoch k) (λ r. is_of epoch k r ≡ true) (λ r h. and_from (r.id.epoch == epoch) (r.id.shard == k) (eq-eqb r.id.epoch epoch h.0) (eq-eqb r.id.shard k h.1)) more ids))
 
 -- those of another shard, or of another epoch
 none-of : (e j epoch k : ℕ) (rs more : List Request) → ((r : Request) → IsIdOf epoch k r → is_of e j r ≡ false) → AllByRecursion (IsIdOf epoch k) more → requests_of e j (rs ++ more) ≡ requests_of e j rs

@@ -12,9 +12,9 @@ use Rattle.rw_plain_queue.specs.declared.item.Item.TheVariants.{Sample, Flush, E
 use Rattle.rw_shard_core.specs.Shard.{Core, take_item, send, is_empty, settle, lose, again, placed, reply, batch_id}
 use Rattle.rw_worker.specs.declared.transport.Reply.{Reply}
 use Rattle.rw_worker.specs.declared.transport.Lost.{Lost}
-use Rattle.rw_worker.specs.Steps.{Working, working, Step, Takes, Freezes, Sends, Waits, MayStep, AreSteps, after, after_step, answered, items_of}
-use Rattle.rw_machine.specs.Shards.{Shard, Queued, is_drained, samples_in}
-use Rattle.rw_machine.proofs.Others.{no_batch}
+use Rattle.rw_worker.specs.Steps.{Working, working, Step, Takes, Freezes, Sends, Waits, MayStep, AreSteps, after, after_step, after_attempt, items_of}
+use Rattle.rw_machine.specs.Shards.{Shard, Queued, is_drained, samples_waiting}
+use Rattle.rw_machine.proofs.shared.Others.{no_batch}
 use Rattle.rw_simulation.specs.WorkerRuns.{queued, AreOf, IsShardNumbered, CanEnd}
 use Rattle.rw_simulation.proofs.WorkerSteps.{sent-is, sent_core, sent_awaits, sent_answers, send_parts}
 
@@ -40,7 +40,7 @@ after-is Freezes c l may = rw may.1 refl
 after-is Waits c l may = refl
 after-is (Sends e) c l may = by_answer e.answer
   where
-    by_answer : (a : Result Reply Lost) → (answered a (working (send c) l)).core ≡ answered_core a c
+    by_answer : (a : Result Reply Lost) → (after_attempt a (working (send c) l)).core ≡ answered_core a c
     by_answer (Ok r) = ap (λ (k : Core). reply (batch_id k.batch) r.status k) (sent-is c may.0) ∙ rw (sent_answers c may.0) refl
     by_answer (Err lost) = ap lose (sent-is c may.0) ∙ rw (sent_awaits c may.0) refl
 
@@ -88,7 +88,7 @@ epoch-all w (s ∷ ss) h = epoch-all (after_step s w) ss h.1 ∙ epoch-step s w 
 
 -- how many samples a shard holds, by its core and its queue
 abbrev pub count : Core → List Queued → ℕ
-count c q = length c.resolved + (length c.batch + (length c.builder + length (samples_in q)))
+count c q = length c.resolved + (length c.batch + (length c.builder + length (samples_waiting q)))
 
 pub no_items : (x : Item) (xs : List Item) → x ∷ xs ≡ [] → ⊥
 no_items x xs e = cc

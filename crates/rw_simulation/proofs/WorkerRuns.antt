@@ -2,11 +2,11 @@
 use Rattle.std.proofs.Common.{◌≡◌, ℕ, List, [], ◌∷◌, ◌++◌, map, None, Some, slice_get, refl, sym, ap, ◌∙◌, subst, append-nil, append_assoc, ◌⊎◌, inl, inr}
 use Rattle.std.specs.List.{AllByRecursion}
 use Rattle.std.proofs.lemmas.List.{map-append}
-use Rattle.rw_types.proofs.AllLemmas.{AllByRecursion-append}
+use Rattle.rw_types.proofs.shared.AllLemmas.{AllByRecursion-append}
 use Rattle.rw_ledger.specs.Names.{Named}
 use Rattle.rw_shard_core.specs.Shard.{Core}
 use Rattle.rw_worker.specs.Steps.{Working, working, Step, Takes, Freezes, Sends, Waits, MayStep, after, after_step, items_of, exchanges_of}
-use Rattle.rw_worker.proofs.StepLemmas.{exchanges-append}
+use Rattle.rw_worker.proofs.shared.StepLemmas.{exchanges-append}
 use Rattle.rw_machine.specs.Shards.{Shard, Queued}
 use Rattle.rw_machine.specs.Worlds.{Setup, World}
 use Rattle.rw_machine.specs.Steps.{change}

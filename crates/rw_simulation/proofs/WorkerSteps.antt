@@ -13,17 +13,17 @@ use Rattle.rw_shard_core.specs.Shard.{Core, can_take, take_item, freeze, can_sen
 use Rattle.rw_worker.specs.declared.transport.Reply.{Reply}
 use Rattle.rw_worker.specs.declared.transport.Lost.{Lost}
 use Rattle.rw_worker.specs.Transcript.{exchange_of}
-use Rattle.rw_worker.specs.Steps.{Working, working, Step, Takes, Freezes, Sends, Waits, MayStep, AreSteps, after, after_step, answered}
+use Rattle.rw_worker.specs.Steps.{Working, working, Step, Takes, Freezes, Sends, Waits, MayStep, AreSteps, after, after_step, after_attempt}
 use Rattle.rw_machine.specs.Shards.{Shard, Queued, shard_take, shard_freeze, shard_send, shard_lost, take_front, with_core}
 use Rattle.rw_machine.specs.Worlds.{Setup, Request, World, is_over}
 use Rattle.rw_machine.specs.Worlds as worlds
-use Rattle.rw_machine.specs.Steps.{change, happens, unless_over, names_after, request_by, send_batch, take_reply, reply_to, turned_away}
+use Rattle.rw_machine.specs.Steps.{change, happens, unless_over, names_after_reply, request_by, send_batch, take_reply, reply_to, turned_away}
 use Rattle.rw_machine.specs.declared.event.Event.TheVariants as event
-use Rattle.rw_machine.proofs.Live.{same_id_own}
 use Rattle.rw_simulation.specs.Freely.{Answered, run_freely, happens_freely}
 use Rattle.rw_simulation.specs.WorkerRuns.{queued, step_happenings, answer_happenings, IsAfter, IsIdOf, IsShardNumbered, AreOf, answer_names, step_names, steps_names}
 use Rattle.rw_simulation.proofs.Changes.{change-is, change-get, change-twice, get-last, Goes, not-over}
-use Rattle.rw_shard_core.proofs.NamingLemmas.{settle_names-room}
+use Rattle.rw_shard_core.proofs.shared.NamingLemmas.{settle_names-room}
+use Rattle.rw_shard_core.proofs.shared.StepGuards.{same_id-self}
 
 pub take-is : (s : Shard) (x : Item) (rest : List Queued) → s.queue ≡ queued x ∷ rest → can_take s.core ≡ true → shard_take s ≡ record s { queue = rest; core = take_item x s.core }
 take-is s x rest q can = rw can (ap (λ xs. take_front xs s) q ∙ front x)
@@ -90,7 +90,7 @@ pub sent_awaits : (c : Core) → can_send c ≡ true → awaits (sent_core c) �
 sent_awaits c can = let p = send_parts c can in rw (p.alive, p.some) refl
 
 pub sent_answers : (c : Core) → can_send c ≡ true → is_answer (batch_id c.batch) (sent_core c) ≡ true
-sent_answers c can = rw (sent_awaits c can) (same_id_own (batch_id c.batch))
+sent_answers c can = rw (sent_awaits c can) (same_id-self (batch_id c.batch))
 
 -- the names of a worker's part, after a step that may be made
 pub ledger-step : (st : Step) (w : Working) → MayStep st w.core → (after_step st w).ledger.names ≡ step_names st w.core w.ledger.names
@@ -99,7 +99,7 @@ ledger-step Freezes w may = rw may.1 refl
 ledger-step Waits w may = refl
 ledger-step (Sends e) w may = by_answer e.answer
   where
-    by_answer : (a : Result Reply Lost) → (answered a (working (send w.core) w.ledger)).ledger.names ≡ answer_names a w.core.batch w.ledger.names
+    by_answer : (a : Result Reply Lost) → (after_attempt a (working (send w.core) w.ledger)).ledger.names ≡ answer_names a w.core.batch w.ledger.names
     by_answer (Ok r) = ap (λ (k : Core). (reply_names (batch_id k.batch) r.status k w.ledger).names) (sent-is w.core may.0) ∙ rw (sent_answers w.core may.0) (settle_names-room (judgement_of r.status) r.status w.core.batch w.ledger)
     by_answer (Err lost) = refl
 
@@ -154,7 +154,7 @@ module _ (c : Setup) (w : World) (i : ℕ) (s : Shard) (e : slice_get w.shards i
   settled_shard status = record s { core = settle (judgement_of status) (sent_core s.core) }
 
   abbrev done : ℕ → World
-  done status = moved w i (settled_shard status) (names_after status s.core.batch w.names) (w.requests ++ request ∷ []) (w.replies ++ answer status ∷ [])
+  done status = moved w i (settled_shard status) (names_after_reply status s.core.batch w.names) (w.requests ++ request ∷ []) (w.replies ++ answer status ∷ [])
 
   reply_is : (status : ℕ) → happens c (back status) (event.Reply (length w.replies)) ≡ done status
   reply_is status =
@@ -162,8 +162,8 @@ module _ (c : Setup) (w : World) (i : ℕ) (s : Shard) (e : slice_get w.shards i
       ∙ ap (take_reply (back status)) (get-last w.replies (answer status))
       ∙ ap (reply_to (back status) (answer status)) (ap (slice_get out.shards) at_own ∙ out_get)
       ∙ rw (sent_answers s.core can) refl
-      ∙ ap (λ (k : ℕ). record (back status) { names = names_after status s.core.batch w.names; shards = change k (with_core (settle (judgement_of status))) out.shards }) at_own
-      ∙ ap (λ ss. record (back status) { names = names_after status s.core.batch w.names; shards = ss })
+      ∙ ap (λ (k : ℕ). record (back status) { names = names_after_reply status s.core.batch w.names; shards = change k (with_core (settle (judgement_of status))) out.shards }) at_own
+      ∙ ap (λ ss. record (back status) { names = names_after_reply status s.core.batch w.names; shards = ss })
       (change-is (with_core (settle (judgement_of status))) i out.shards (sent_shard s) out_get ∙ change-twice (sent_shard s) (settled_shard status) i w.shards)
     where
       at_own : (batch_id s.core.batch).shard ≡ i
@@ -177,7 +177,7 @@ module _ (c : Setup) (w : World) (i : ℕ) (s : Shard) (e : slice_get w.shards i
     is = ap (λ v. run_freely c (answer_happenings w i (Ok r)) v) out_is
         ∙ ap (λ v. happens c v (event.Reply (length w.replies))) (back_is r.status)
         ∙ reply_is r.status
-        ∙ ap (λ (t : Shard). moved w i t (names_after r.status s.core.batch w.names) (w.requests ++ request ∷ []) (w.replies ++ answer r.status ∷ [])) (ap (λ (xs : List Queued). record s { queue = xs; core = settle (judgement_of r.status) (sent_core s.core) }) q ∙ ap (λ (k : Core). record s { queue = rest; core = k }) core_is);
+        ∙ ap (λ (t : Shard). moved w i t (names_after_reply r.status s.core.batch w.names) (w.requests ++ request ∷ []) (w.replies ++ answer r.status ∷ [])) (ap (λ (xs : List Queued). record s { queue = xs; core = settle (judgement_of r.status) (sent_core s.core) }) q ∙ ap (λ (k : Core). record s { queue = rest; core = k }) core_is);
     ledger_is = ledger-step (Sends (exchange_of bytes (Ok r))) (working s.core l) may;
     sent = ap (λ (x : List ℕ). x ∷ []) (sym may.1);
     ids = (own_ids, tt);

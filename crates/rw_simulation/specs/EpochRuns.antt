@@ -24,7 +24,7 @@ use Rattle.rw_simulation.specs.Tallies.{Past, IsTallied, requests_of}
 
 -- its part of the ledger so far, the items that it will yet be put, the steps that its worker will
 -- yet make, and what it never takes
-pub record Coming : Type 0 where
+pub record YetToCome : Type 0 where
   pub ledger : Named
   pub puts : List Item
   pub steps : List Step
@@ -54,7 +54,7 @@ end_in (End kind ∷ xs) = Some kind
 
 -- The shard's worker has taken all that it will take of what was put: its queue is empty, or it
 -- makes no more steps.
-pub record IsReady (c : Setup) (k : ℕ) (s : Shard) (d : Coming) : Type 0 where
+pub record IsReady (c : Setup) (k : ℕ) (s : Shard) (d : YetToCome) : Type 0 where
   pub numbered : IsShardNumbered k s.core
   pub allowed : AreSteps (working s.core d.ledger) d.steps
   pub split : s.queue ++ map queued d.puts ≡ map queued (items_of d.steps) ++ d.left
@@ -75,7 +75,7 @@ pub record ShardFate : Type 0 where
 
 -- on the way there, if these requests were sent in all, with these samples to come
 pub record IsOnTheWay (c : Setup) (epoch k : ℕ) (requests : List Request) (s : Shard) (todo : List Sent) (f : ShardFate) : Type 0 where
-  pub coming : Coming
+  pub coming : YetToCome
   pub ready : IsReady c k s coming
   pub next : AreNext epoch k (length s.put) coming.puts
   pub sent : map as_sent (samples_in coming.puts) ≡ todo
@@ -121,19 +121,19 @@ pub record Reaches (quiet : Type 0) (c : Setup) (w : World) (P : World → Type 
   pub own : quiet → AllByRecursion IsOwn events
 
 -- no mark is left to be put, but for the End
-abbrev pub IsAtEnd : List Item → Type 0
-IsAtEnd [] = ⊤
-IsAtEnd (Sample place t word labels ∷ xs) = ⊥
-IsAtEnd (Flush ∷ xs) = ⊥
-IsAtEnd (End kind ∷ xs) = xs ≡ []
+abbrev pub HasOnlyEnd : List Item → Type 0
+HasOnlyEnd [] = ⊤
+HasOnlyEnd (Sample place t word labels ∷ xs) = ⊥
+HasOnlyEnd (Flush ∷ xs) = ⊥
+HasOnlyEnd (End kind ∷ xs) = xs ≡ []
 
 -- a shard that has been put all but its End
-pub record IsPut (c : Setup) (epoch k : ℕ) (requests : List Request) (part : FinMap nat_cmp Reason) (s : Shard) (f : ShardFate) : Type 0 where
+pub record IsPutAllButEnd (c : Setup) (epoch k : ℕ) (requests : List Request) (part : FinMap nat_cmp Reason) (s : Shard) (f : ShardFate) : Type 0 where
   pub way : IsOnTheWay c epoch k requests s [] f
   pub part_is : way.coming.ledger.names ≡ part
-  pub at_end : IsAtEnd way.coming.puts
+  pub at_end : HasOnlyEnd way.coming.puts
 
 -- and each shard of the epoch
 pub record IsAllPut (c : Setup) (past : Past) (pieces : List Piece) (epoch n : ℕ) (fates : ℕ → ShardFate) (placed : List Entry) (w : World) : Type 0 where
   pub under : IsUnderWay c past pieces epoch n fates placed [] w
-  pub each : (k : ℕ) (s : Shard) → slice_get w.shards k ≡ Some s → IsPut c epoch k w.requests (under.parts k) s (fates k)
+  pub each : (k : ℕ) (s : Shard) → slice_get w.shards k ≡ Some s → IsPutAllButEnd c epoch k w.requests (under.parts k) s (fates k)

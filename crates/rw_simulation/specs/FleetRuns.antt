@@ -34,12 +34,12 @@ pub record IsShardRun (c : Setup) (epoch k : ℕ) (l : ShardHistory) (steps : Li
 abbrev pub fate_of : ShardHistory → List Step → List Item → ShardFate
 fate_of l steps rest = record { put = samples_in l.put; end = end_in l.put; worker = after (start_of l.setup) steps; left = map queued rest; requests = map request_in (exchanges_of steps) }
 
-abbrev pub fate_by : Option ShardHistory → List Step → List Item → ShardFate
-fate_by None steps rest = record { put = []; end = None; worker = new_working (record { host = []; path = [] }) 0 0 0; left = []; requests = [] }
-fate_by (Some l) steps rest = fate_of l steps rest
+abbrev pub shard_fate_by : Option ShardHistory → List Step → List Item → ShardFate
+shard_fate_by None steps rest = record { put = []; end = None; worker = new_working (record { host = []; path = [] }) 0 0 0; left = []; requests = [] }
+shard_fate_by (Some l) steps rest = fate_of l steps rest
 
 abbrev pub fate_at : List ShardHistory → (ℕ → List Step) → (ℕ → List Item) → ℕ → ShardFate
-fate_at lanes steps rest k = fate_by (slice_get lanes k) (steps k) (rest k)
+fate_at lanes steps rest k = shard_fate_by (slice_get lanes k) (steps k) (rest k)
 
 -- The machine is at the start of an epoch, before the entries whose samples the shards of the fleet
 -- were dealt. Nothing was sent in it.

@@ -31,7 +31,7 @@ use Rattle.rw_sender.specs.Reports.{IsAbandoned}
 use Rattle.rw_sender.specs.Shipping.{Shipping, PlacesAll, HasStopped}
 use Rattle.rw_sender.specs.declared.report.Report.{Report}
 use Rattle.rw_machine.specs.Worlds.{Setup}
-use Rattle.rw_machine.specs.Promises.{CanWork, Point, owed, pair_of}
+use Rattle.rw_machine.specs.Promises.{CanWork, LoggedPoint, owed, pair_of}
 use Rattle.rw_simulation.specs.Arrivals.{Arrival, IsOneReceiver}
 use Rattle.rw_simulation.specs.StoppedRuns.{IsMachineOf, NamesAll, first_number}
 
@@ -52,7 +52,7 @@ is_left (Abandoned placed samples) p = list_any (λ (q : ℕ). q == p) samples.i
 is_left (Damaged f) p = false
 
 -- what the report does not name of the samples of a label set that were placed
-abbrev pub owed_of_placed : {T : Type 0} → Shipping T → FinMap nat_cmp Reason → Labels → List Point
+abbrev pub owed_of_placed : {T : Type 0} → Shipping T → FinMap nat_cmp Reason → Labels → List LoggedPoint
 owed_of_placed s names l = owed names (kept_points_below s.log.choice (entries s.log.pieces) l (length s.log.placed))
 
 -- Of each label set the store holds a prefix of its samples in the log that was fed, in log order,

@@ -16,11 +16,11 @@ use Rattle.rw_plain_queue.specs.Items.{samples_in}
 use Rattle.rw_plain_queue.specs.declared.item.Kind.TheVariants.{Orderly, Reshard}
 use Rattle.rw_worker.specs.Transcript.{Exchange}
 use Rattle.rw_fleet.specs.ShardHistories.{ShardHistory, put_into}
-use Rattle.rw_fleet.specs.Work.{AreEndedBy, AreResolved, lane_of, put_of, queue_of, taken_of}
+use Rattle.rw_fleet.specs.Work.{AreEndedBy, AreResolved, lane_of, put_of, queue_of_ends, taken_of}
 use Rattle.rw_fleet.specs.Fleets.{Shards, AreAll, EndBy}
 use Rattle.rw_fleet.specs.declared.joined.Finished.{Finished}
 use Rattle.rw_sender.specs.Logs.{sent}
-use Rattle.rw_sender.specs.Placement.{IsShardCount, Places, joined}
+use Rattle.rw_sender.specs.Placement.{IsShardCount, Places, joined_epochs}
 use Rattle.rw_sender.specs.Reports.{IsAbandoned}
 use Rattle.rw_sender.specs.Shipping.{Shipping, PlacesAll, HasStopped}
 use Rattle.rw_sender.specs.declared.report.Report.{Report}
@@ -82,12 +82,12 @@ NamesAll names parts = (p : ℕ) (reason : Reason) → (get names p ≡ Some rea
 
 -- it is a request of one of these workers' shards
 abbrev pub IsOfOne : {T : Type 0} → List (Finished T) → Request → Type 0
-IsOfOne {T} fs q = (k : ℕ) × (f : Finished T) × (slice_get fs k ≡ Some f) × (q.id.epoch ≡ (queue_of f.ends).epoch) × (q.id.shard ≡ (queue_of f.ends).shard)
+IsOfOne {T} fs q = (k : ℕ) × (f : Finished T) × (slice_get fs k ≡ Some f) × (q.id.epoch ≡ (queue_of_ends f.ends).epoch) × (q.id.shard ≡ (queue_of_ends f.ends).shard)
 
 -- of each worker that records its exchanges the requests are those of its shard, byte by byte and
 -- in order; and there are no others
 pub record SendsAll {T : Type 0} (tells : T → Type 0) (seen : T → List Exchange) (requests : List Request) (fs : List (Finished T)) : Type 0 where
-  pub each : (k : ℕ) (f : Finished T) → slice_get fs k ≡ Some f → tells f.transport → map sent_bytes (requests_of (queue_of f.ends).epoch (queue_of f.ends).shard requests) ≡ map request_in (seen f.transport)
+  pub each : (k : ℕ) (f : Finished T) → slice_get fs k ≡ Some f → tells f.transport → map sent_bytes (requests_of (queue_of_ends f.ends).epoch (queue_of_ends f.ends).shard requests) ≡ map request_in (seen f.transport)
   pub owned : AllByRecursion (IsOfOne fs) requests
 
 -- the machine's report is the outcome; the samples that are left are in rising order, if the
@@ -121,7 +121,7 @@ IsRun tells seen c s r = (hs : List Happening) × ComesTo tells seen c s r (worl
 abbrev pub StopsAsRun : {T : Type 0} → (T → Type 0) → (T → List Exchange) → (ℕ → ℕ → T → Type 0) → Shipping T → Report T → Type 0
 StopsAsRun tells seen is_for s r =
     (c : Setup) (fed : List Piece) (h : HasStopped tells seen is_for s r) (epochs : List (List ShardHistory)) → IsMachineOf c s → CanWork c → s.log.pieces ≡ map piece_of fed
-    → map lane_of h.joined ≡ joined epochs → Places 0 epochs (sent s.log.choice s.log.placed) → HasNumbers c epochs → EndInTurn epochs → (IsAbandoned r.outcome → ⊥) → IsRun tells seen c s r
+    → map lane_of h.joined ≡ joined_epochs epochs → Places 0 epochs (sent s.log.choice s.log.placed) → HasNumbers c epochs → EndInTurn epochs → (IsAbandoned r.outcome → ⊥) → IsRun tells seen c s r
 
 -- how many shards the first epoch had
 abbrev pub first_number : List (List ShardHistory) → List ShardHistory → ℕ

@@ -14,10 +14,10 @@ use Rattle.rw_worker.specs.declared.transport.Reply.{Reply}
 use Rattle.rw_worker.specs.declared.transport.Lost.{Lost}
 use Rattle.rw_worker.specs.Transcript.{Exchange}
 use Rattle.rw_worker.specs.Steps.{Working, working, Step, Takes, Freezes, Sends, Waits, AreSteps, after, after_step, items_of, exchanges_of}
-use Rattle.rw_machine.specs.Shards.{Shard, Queued, One, FlushMark, EndMark, samples_in}
+use Rattle.rw_machine.specs.Shards.{Shard, Queued, One, FlushMark, EndMark, samples_waiting}
 use Rattle.rw_machine.specs.Worlds.{Setup, Request, World}
 use Rattle.rw_machine.specs.Worlds as worlds
-use Rattle.rw_machine.specs.Steps.{change, names_after}
+use Rattle.rw_machine.specs.Steps.{change, names_after_reply}
 use Rattle.rw_machine.specs.declared.event.Event.TheVariants as event
 use Rattle.rw_simulation.specs.Freely.{Happening, Of, Answered, run_freely}
 
@@ -46,7 +46,7 @@ happenings c w i (s ∷ ss) = step_happenings w i s ++ happenings c (run_freely 
 
 -- the names, as a step of a worker with this core leaves them
 abbrev pub answer_names : Result Reply Lost → List Placed → FinMap nat_cmp Reason → FinMap nat_cmp Reason
-answer_names (Ok r) batch names = names_after r.status batch names
+answer_names (Ok r) batch names = names_after_reply r.status batch names
 answer_names (Err lost) batch names = names
 
 abbrev pub step_names : Step → Core → FinMap nat_cmp Reason → FinMap nat_cmp Reason
@@ -98,7 +98,7 @@ pub record IsAfter (w : World) (i : ℕ) (s : Shard) (ledger : Named) (steps : L
 -- The shard's lists are whole, and nothing waits after an End: so it is not drained before the
 -- last step.
 pub record CanEnd (s : Shard) (steps : List Step) : Type 0 where
-  pub kept : length s.put ≡ length s.core.resolved + (length s.core.batch + (length s.core.builder + length (samples_in s.queue)))
+  pub kept : length s.put ≡ length s.core.resolved + (length s.core.batch + (length s.core.builder + length (samples_waiting s.queue)))
   pub ended : s.core.ended ≡ true → items_of steps ≡ []
   pub last : EndIsLast (items_of steps)
 

@@ -62,7 +62,8 @@ pub fn a_stopped_shard_is_a_run<T: Transport>()
 pub fn a_stopped_shipper_is_a_run<T: Transport>()
     ensures orderly { (s : Shipping T) (r : Report T) → StopsInOrder T.tells T.seen T.is_for s r }
     ensures epochs { (s : Shipping T) (r : Report T) → StopsAsRun T.tells T.seen T.is_for s r }
-    ensures abandoned { (s : Shipping T) (r : Report T) → StopsAbandoned T.tells T.seen T.is_for s r }
+    ensures abandoned { (s : Shipping T) (r : Report T)
+        → StopsAbandoned T.tells T.seen T.is_for s r }
     ensures accounts { (s : Shipping T) (r : Report T) → RunAccounts T.tells T.seen T.is_for s r }
 {}
 
@@ -79,7 +80,8 @@ pub fn a_stopped_shipper_is_a_run<T: Transport>()
 /// names. `orderly` and `abandoned` have the premises on the shipper that those of
 /// `a_stopped_shipper_is_a_run` have.
 pub fn one_receiver_holds_the_samples<T: Transport>()
-    ensures orderly { (s : Shipping T) (r : Report T) → ReceivesInOrder T.tells T.seen T.is_for s r }
+    ensures orderly { (s : Shipping T) (r : Report T)
+        → ReceivesInOrder T.tells T.seen T.is_for s r }
     ensures abandoned { (s : Shipping T) (r : Report T)
         → ReceivesAbandoned T.tells T.seen T.is_for s r }
 {}

@@ -1,1 +1,1 @@
-pub mod StateLemmas
+pub mod shared

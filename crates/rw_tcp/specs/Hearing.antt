@@ -3,7 +3,7 @@ use Rattle.std.specs.Prelude.{ℕ, List, Option}
 use Rattle.std.specs.Io.KnownBytes.{Consumes}
 use Rattle.rw_types.specs.declared.transfer.ReadFault.{ReadFault}
 use Rattle.rw_types.specs.declared.transfer.ReadFault.TheVariants as reading
-use Rattle.rw_shard_core.specs.Replies.{Reads}
+use Rattle.rw_shard_core.specs.Replies.{ReadsReply}
 use Rattle.rw_shard_core.specs.declared.replies.ReplyRead.{ReplyRead}
 use Rattle.rw_tcp.specs.declared.reply.NoReply.{NoReply}
 use Rattle.rw_tcp.specs.declared.reply.NoReply.TheVariants as fault
@@ -12,8 +12,8 @@ use Rattle.rw_tcp.specs.declared.reply.NoReply.TheVariants as fault
 pub record Hears (left_before left_after : Option (List ℕ)) (read : ReplyRead) : Type 0 where
   pub text : List ℕ
   pub consumed : Consumes left_before left_after text
-  pub says : Reads 8192 text read
+  pub says : ReadsReply 8192 text read
 
-abbrev pub fault_of_reading : ReadFault → NoReply
-fault_of_reading reading.OutOfMemory = fault.OutOfMemory
-fault_of_reading reading.Failed = fault.Device
+abbrev pub no_reply_of_reading : ReadFault → NoReply
+no_reply_of_reading reading.OutOfMemory = fault.OutOfMemory
+no_reply_of_reading reading.Failed = fault.Device

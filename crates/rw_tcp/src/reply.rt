@@ -69,9 +69,9 @@ impl From<AllocError> for NoReply {
 
 impl From<ReadFault> for NoReply {
     ghost use Rattle.std.specs.Prelude.{◌≡◌};
-    ghost use Rattle.rw_tcp.specs.Hearing.{fault_of_reading};
+    ghost use Rattle.rw_tcp.specs.Hearing.{no_reply_of_reading};
 
-    ghost from_gives = { λ f e. e ≡ fault_of_reading f };
+    ghost from_gives = { λ f e. e ≡ no_reply_of_reading f };
 
     fn from(fault: ReadFault) -> NoReply {
         match fault {

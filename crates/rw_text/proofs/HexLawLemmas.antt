@@ -3,11 +3,11 @@ use Rattle.std.proofs.Common.{◌≡◌, ℕ, ◌+◌, ◌*◌, ◌/◌, ◌%◌
 use Rattle.std.specs.List.{list_any, list_all}
 use Rattle.std.proofs.lemmas.Bool.{and_parts, cases_lt, eqb-true}
 use Rattle.hex.specs.Hex.{IsBytes, encode_with, lower_digits}
-use Rattle.rw_text.specs.HexText.{hex_text, digit_value, is_digit, is_foreign, values, bytes_of}
+use Rattle.rw_text.specs.HexText.{hex_text, hex_digit_value, is_digit, is_foreign, digit_values, bytes_of}
 
 -- the test of one digit that is printed, which computes
 abbrev reads_back : ℕ → Bool
-reads_back d = unwrap_or (digit_value (slice_index lower_digits d)) 99 == d
+reads_back d = unwrap_or (hex_digit_value (slice_index lower_digits d)) 99 == d
 
 abbrev all_read_back : ℕ → Bool
 all_read_back zero = true
@@ -29,10 +29,10 @@ some_from_unwrap (Some v) d lt e = ap Some e
 some_from_unwrap None d lt e = absurd (omega arith)
 
 -- a digit that is printed has its value
-printed : (d : ℕ) → d < 16 → digit_value (slice_index lower_digits d) ≡ Some d
+printed : (d : ℕ) → d < 16 → hex_digit_value (slice_index lower_digits d) ≡ Some d
 printed d lt =
-    some_from_unwrap (digit_value (slice_index lower_digits d)) d lt
-    (eqb-true (unwrap_or (digit_value (slice_index lower_digits d)) 99) d (all_read_back-at 16 d refl lt))
+    some_from_unwrap (hex_digit_value (slice_index lower_digits d)) d lt
+    (eqb-true (unwrap_or (hex_digit_value (slice_index lower_digits d)) 99) d (all_read_back-at 16 d refl lt))
 
 -- a printed text has only digits, and they are those of the bytes
 pub all_digits : (bytes : List ℕ) → IsBytes bytes → list_all is_digit (hex_text bytes) ≡ true
@@ -55,7 +55,7 @@ none_foreign (b ∷ rest) h =
     let ih = none_foreign rest (λ k. h (suc k)) in
     rw (printed (b / 16) high, printed (b % 16) low) ih
 
-pub bytes_back : (bytes : List ℕ) → IsBytes bytes → bytes_of (values (hex_text bytes)) ≡ Some bytes
+pub bytes_back : (bytes : List ℕ) → IsBytes bytes → bytes_of (digit_values (hex_text bytes)) ≡ Some bytes
 unfolding encode_with bytes_of
 bytes_back [] h = refl
 bytes_back (b ∷ rest) h =

@@ -4,7 +4,7 @@ use Rattle.std.specs.List.{All, before_last, suffix_len, EachIndex}
 use Rattle.std.proofs.lemmas.Grind.{get_or_default_zero}
 use Rattle.std.proofs.lemmas.List.Folds.{list_any_at, list_any_none}
 use Rattle.std.proofs.lemmas.List.Sums.{position_or_len_is, suffix_len_is}
-use Rattle.rw_text.specs.HexText.{is_foreign, is_digit, values, bytes_of, line_after, bytes_or_line, read_text}
+use Rattle.rw_text.specs.HexText.{is_foreign, is_digit, digit_values, bytes_of, line_after, bytes_or_line, read_text}
 
 -- the first foreign character
 pub foreign_at : (text : List ℕ) (i : ℕ) → i < length text → is_foreign (get_or text i 0) ≡ true → ((k : ℕ) → k < i → is_foreign (get_or text k 0) ≡ false)
@@ -14,7 +14,7 @@ foreign_at text i lt at before =
     rw (list_any_at is_foreign text i 0 lt at, position_or_len_is is_foreign text i 0 (omega arith) before (λ _. at)) refl
 
 -- without a foreign character the digits decide
-pub no_foreign : (text : List ℕ) → EachIndex text (λ k. is_foreign (get_or text k 0) ≡ false) → read_text text ≡ bytes_or_line (bytes_of (values text)) (line_after (before_last is_digit text))
+pub no_foreign : (text : List ℕ) → EachIndex text (λ k. is_foreign (get_or text k 0) ≡ false) → read_text text ≡ bytes_or_line (bytes_of (digit_values text)) (line_after (before_last is_digit text))
 unfolding read_text
 no_foreign text each =
     let none : All (λ c. is_foreign c ≡ false) text = λ k d lt. rw (get_or_default_zero text k d lt) (each k lt) in

@@ -8,7 +8,7 @@ use Rattle.std.proofs.lemmas.List.Elements.{All-nil, All-cons}
 use Rattle.rw_types.specs.Labels.{Label, Labels, is_metric_name, begins_metric_name, continues_metric_name}
 use Rattle.rw_text.specs.LabelText.{quoted, name_text, label_text, labels_text}
 use Rattle.rw_text.proofs.EscapeLemmas.{quoted-append, quoted_unique, inside}
-use Rattle.rw_text.proofs.SplitLemmas.{split_unique}
+use Rattle.rw_text.proofs.shared.SplitLemmas.{split_unique}
 
 -- ---- names
 

@@ -10,7 +10,7 @@ use Rattle.hex.specs.declared.error.FromHexError.{FromHexError}
 use Rattle.hex.proofs.HexLemmas.{IsDigits-lower_digits, decode_pairs-encode_with, length-encode_with}
 use Rattle.rw_text.specs.HexText.{hex_text}
 use Rattle.rw_types.specs.Words.{word_of_int}
-use Rattle.rw_types.proofs.WordReads.{reads_word}
+use Rattle.rw_types.proofs.shared.WordReads.{reads_word}
 
 byte_small : (k n : ℕ) → byte_at k n < 256
 byte_small zero n = omega arith

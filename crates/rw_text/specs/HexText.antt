@@ -9,14 +9,14 @@ abbrev pub hex_text : List ℕ → List ℕ
 hex_text bytes = encode_lower bytes
 
 -- the value of a digit: `0` to `9` are 48 to 57, and `a` to `f` are 97 to 102
-abbrev pub digit_value : ℕ → Option ℕ
-digit_value c =
+abbrev pub hex_digit_value : ℕ → Option ℕ
+hex_digit_value c =
     if nat_le 48 c && nat_le c 57 then Some (c - 48)
     else if nat_le 97 c && nat_le c 102 then Some (c - 87)
     else None
 
 abbrev pub is_digit : ℕ → Bool
-is_digit c = is_some (digit_value c)
+is_digit c = is_some (hex_digit_value c)
 
 -- space, tab, CR and LF
 abbrev pub is_white_space : ℕ → Bool
@@ -27,8 +27,8 @@ abbrev pub is_foreign : ℕ → Bool
 is_foreign c = not (is_digit c || is_white_space c)
 
 -- the values of the digits of a text
-abbrev pub values : List ℕ → List ℕ
-values text = filter_map digit_value text
+abbrev pub digit_values : List ℕ → List ℕ
+digit_values text = filter_map hex_digit_value text
 
 -- the bytes of pairs of digits, if no digit is left over
 unfoldable pub bytes_of : List ℕ → Option (List ℕ)
@@ -51,8 +51,8 @@ bytes_or_line None line = Err line
 unfoldable pub read_text : List ℕ → Result (List ℕ) ℕ
 read_text text =
     if list_any is_foreign text then Err (line_after (before_first is_foreign text))
-    else bytes_or_line (bytes_of (values text)) (line_after (before_last is_digit text))
+    else bytes_or_line (bytes_of (digit_values text)) (line_after (before_last is_digit text))
 
 -- what a text of digits alone stands for
 unfoldable pub read_digits : List ℕ → Option (List ℕ)
-read_digits text = if list_all is_digit text then bytes_of (values text) else None
+read_digits text = if list_all is_digit text then bytes_of (digit_values text) else None

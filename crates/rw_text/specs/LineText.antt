@@ -18,14 +18,14 @@ pub data Line : Type 0 where
   raw : List ℕ → Line
 
 -- `REF LABELS`
-pub record IsSeries (text : List ℕ) (reference : ℕ) (labels : Labels) : Type 0 where
+pub record IsSeriesLine (text : List ℕ) (reference : ℕ) (labels : Labels) : Type 0 where
   pub number : List ℕ
   pub parts : text ≡ number ++ 32 ∷ labels_text labels
   pub is_number : IsNumber number reference
   pub fits : reference < 2 ^ 64
 
 -- `REF T VALUE`
-pub record IsSample (text : List ℕ) (reference : ℕ) (t : ℤ) (word : ℕ) : Type 0 where
+pub record IsSampleLine (text : List ℕ) (reference : ℕ) (t : ℤ) (word : ℕ) : Type 0 where
   pub number : List ℕ
   pub time : List ℕ
   pub value : List ℕ
@@ -44,8 +44,8 @@ pub record IsRaw (text bytes : List ℕ) : Type 0 where
 
 -- `series REF LABELS`, `sample REF T VALUE` or `raw HEX`, with single spaces
 abbrev pub Says : List ℕ → Line → Type 0
-Says text (series reference labels) = (rest : List ℕ) × (text ≡ codes "series " ++ rest) × IsSeries rest reference labels
-Says text (sample reference t word) = (rest : List ℕ) × (text ≡ codes "sample " ++ rest) × IsSample rest reference t word
+Says text (series reference labels) = (rest : List ℕ) × (text ≡ codes "series " ++ rest) × IsSeriesLine rest reference labels
+Says text (sample reference t word) = (rest : List ℕ) × (text ≡ codes "sample " ++ rest) × IsSampleLine rest reference t word
 Says text (raw bytes) = (rest : List ℕ) × (text ≡ codes "raw " ++ rest) × IsRaw rest bytes
 
 -- a line of log text, which is UTF-8

@@ -2,13 +2,13 @@
 
 ghost use Rattle.std.specs.Prelude.{◌≡◌, ◌<◌, IfOk, IfSome};
 ghost use Rattle.std.specs.Option.{option_map};
-ghost use Rattle.rw_text.specs.HexText.{digit_value, is_digit, is_foreign, values, bytes_of};
+ghost use Rattle.rw_text.specs.HexText.{hex_digit_value, is_digit, is_foreign, digit_values, bytes_of};
 
 use std::alloc::{AllocError, Global};
 
 /// Returns the value of a digit, `0` to `9` or `a` to `f`.
 pub(crate) fn digit_value(c: u8) -> Option<u8>
-    ensures value { result ≡ digit_value c }
+    ensures value { result ≡ hex_digit_value c }
     ensures small { IfSome result (λ v. v < 16) }
 {
     match c {
@@ -34,7 +34,7 @@ pub(crate) fn is_foreign(c: u8) -> bool
 /// Returns the bytes of the pairs of digits, if no digit is left over. All other characters are
 /// skipped.
 pub(crate) fn pairs(alloc: Global, text: &[u8]) -> Result<Option<Vec<u8>>, AllocError>
-    ensures { IfOk result (λ r. option_map (λ v. v.items) r ≡ bytes_of (values text.now)) }
+    ensures { IfOk result (λ r. option_map (λ v. v.items) r ≡ bytes_of (digit_values text.now)) }
 {
     let mut bytes = Vec::with_capacity(alloc, text.len() / 2)?;
     let mut high = None;

@@ -4,7 +4,7 @@ ghost use Rattle.std.specs.Prelude.{◌≡◌, ◌+◌, ◌^◌, ◌<◌, ℕ, O
 ghost use Rattle.std.specs.List.{list_all, before_last};
 ghost use Rattle.std.specs.Option.{option_map};
 ghost use Rattle.rw_text.specs.HexText.{is_digit, is_foreign, line_after, read_text, read_digits};
-ghost use Rattle.rw_text.specs.HexFaults.{IsFaultOf};
+ghost use Rattle.rw_text.specs.HexFaults.{IsFaultOfHex};
 
 use crate::hex_digits::{is_digit, is_foreign, pairs};
 use crate::hex_fault::HexFault;
@@ -56,7 +56,7 @@ fn are_digits(text: &[u8]) -> bool
 /// be anywhere in it.
 pub fn read_hex(alloc: Global, text: &[u8]) -> Result<Vec<u8>, HexFault>
     ensures bytes { IfOk result (λ v. read_text text.now ≡ Ok v.items) }
-    ensures fault { IfErr result (IsFaultOf text.now) }
+    ensures fault { IfErr result (IsFaultOfHex text.now) }
 {
     if let Some(at) = first_foreign(text) {
         return Err(HexFault::Line(line_after(&text[..at])));

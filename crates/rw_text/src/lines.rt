@@ -3,7 +3,7 @@
 ghost use Rattle.std.specs.Prelude.{◌≡◌, ◌++◌, ℕ, ℤ, List, codes, Err, IfOk, MatchOption};
 ghost use Rattle.std.specs.Str.{is_utf8};
 ghost use Rattle.rw_types.specs.Labels.{Labels};
-ghost use Rattle.rw_text.specs.LineText.{Line, IsSeries, IsSample, IsRaw, Says, IsLine, line_of};
+ghost use Rattle.rw_text.specs.LineText.{Line, IsSeriesLine, IsSampleLine, IsRaw, Says, IsLine, line_of};
 
 use crate::bytes::{after, split_at_byte};
 use crate::fault::TextFault;
@@ -24,7 +24,7 @@ fn is_utf8_text(bytes: &[u8]) -> bool
 fn read_series(alloc: Global, text: &[u8]) -> Result<LogLine, TextFault>
     ensures ok { IfOk result (λ line. Says (codes "series " ++ text.now) (line_of line)) }
     ensures err { result ≡ Err TextFault.NotOfForm → (reference : ℕ) (labels : Labels)
-        → IsSeries text.now reference labels → ⊥ }
+        → IsSeriesLine text.now reference labels → ⊥ }
 {
     let Some((number, braces)) = split_at_byte(text, b' ') else {
         return Err(TextFault::NotOfForm);
@@ -39,7 +39,7 @@ fn read_series(alloc: Global, text: &[u8]) -> Result<LogLine, TextFault>
 /// Returns what follows `sample `.
 fn read_sample(text: &[u8]) -> Option<LogLine>
     ensures { MatchOption result
-        ((reference : ℕ) (t : ℤ) (word : ℕ) → IsSample text.now reference t word → ⊥)
+        ((reference : ℕ) (t : ℤ) (word : ℕ) → IsSampleLine text.now reference t word → ⊥)
         (λ line. Says (codes "sample " ++ text.now) (line_of line)) }
 {
     let Some((number, rest)) = split_at_byte(text, b' ') else {

@@ -1,9 +1,7 @@
 pub use Rattle.rw_text.specs.ToolFaults
 pub use Rattle.rw_text.specs.Printed
 pub use Rattle.rw_log_commands.specs.Labelled
-pub use Rattle.rw_log_commands.specs.Labelling
 pub use Rattle.rw_log_commands.specs.Body
-pub use Rattle.rw_log_commands.specs.Filling
 pub use Rattle.rw_log_commands.specs.Logging
 pub use Rattle.rw_log_commands.specs.LogText
 pub use Rattle.rw_log_commands.specs.Planning
@@ -11,7 +9,6 @@ pub use Rattle.rw_log_commands.specs.Running
 pub use Rattle.rw_log_commands.specs.Taking
 pub use Rattle.rw_replay.specs.Played
 pub use Rattle.rw_replay.specs.Runs
-pub use Rattle.rw_replay.specs.Writing
 pub use Rattle.rw_send.specs.FeedErrors
 pub use Rattle.rw_send.specs.Segments
 pub use Rattle.rw_send.specs.Steps

@@ -6,13 +6,13 @@ use Rattle.std.proofs.lemmas.List.{append-nil}
 use Rattle.std.proofs.lemmas.Slice.Eq.{bytes_eq-Decides}
 use Rattle.std.specs.Prelude.{Result}
 use Rattle.std.specs.Str.{bytes_eq}
-use Rattle.rw_codes.proofs.VarintLaws.{uvarint_again}
+use Rattle.rw_codes.proofs.shared.VarintLaws.{uvarint_again}
 use Rattle.rw_codes.specs.Varint.{uvarint, read_uvarint}
 use Rattle.rw_codes.specs.declared.code_fault.CodeFault.{CodeFault}
 use Rattle.rw_types.specs.LabelFields.{bytes_field, string_field, label, label_field, label_fields}
 use Rattle.rw_types.specs.LabelOrder.{labels_eq}
 use Rattle.rw_types.specs.Labels.{Label, Labels}
-use Rattle.rw_types.proofs.OrderLemmas.{equal_if_same, same_if_equal}
+use Rattle.rw_types.proofs.shared.OrderLemmas.{equal_if_same, same_if_equal}
 
 abbrev read : ℕ × List ℕ → Result (ℕ × List ℕ) CodeFault
 read x = Ok x

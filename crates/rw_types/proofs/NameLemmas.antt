@@ -1,7 +1,7 @@
 -- Labels that are taken by their names.
 use Rattle.std.proofs.Common.{◌≡◌, ◌≢◌, List, [], ◌∷◌, Bool, true, false, not, nat_lt, length, Option, Some, None, refl, sym, ap, ◌∙◌, if◌then◌else◌}
 use Rattle.std.specs.List.{list_all}
-use Rattle.rw_types.specs.Labels.{Label, Labels, is_text, is_filled, has_legacy_names, is_well_named, is_sorted, text_len, label_fault}
+use Rattle.rw_types.specs.Labels.{Label, Labels, is_text, is_filled, has_legacy_names, is_well_named, are_sorted, text_len, label_fault}
 use Rattle.rw_types.specs.declared.names.Names.{Names}
 use Rattle.rw_types.specs.declared.names.Names.TheVariants.{Legacy, Utf8}
 use Rattle.rw_types.specs.declared.label_fault.LabelFault.{LabelFault}
@@ -42,7 +42,7 @@ all_true (x ∷ xs) = all_true xs
 -- no test of names is left if any is taken
 utf8_by : (ls : Labels)
     → label_fault Utf8 ls ≡ by_tests (list_all is_text ls) (list_all (λ l. is_filled l.0) ls) true (list_all (λ l. is_filled l.1) ls)
-    (is_sorted ls) (nat_lt 64 (length ls)) (nat_lt 16384 (text_len ls))
+    (are_sorted ls) (nat_lt 64 (length ls)) (nat_lt 16384 (text_len ls))
 utf8_by ls = rw (all_true ls) refl
 
 pub legacy_is_utf8 : (ls : Labels) → label_fault Legacy ls ≡ None → label_fault Utf8 ls ≡ None

@@ -1,11 +1,9 @@
 -- What a label set feeds to a hash function: a hash of its texts that was made once.
-use Rattle.std.specs.Prelude.{◌≡◌, ℕ, IsTrue, ◌++◌}
+use Rattle.std.specs.Prelude.{ℕ, ◌++◌}
 use Rattle.std.specs.List.{fold}
 use Rattle.std.specs.Hash as fed
 use Rattle.std.specs.Hash.FoldHasher as folding
-use Rattle.std.proofs.Common.{ap}
 use Rattle.rw_types.specs.Labels.{Label, Labels}
-use Rattle.rw_types.specs.LabelOrder.{labels_eq, same_if_equal}
 
 -- each label as its name and its value
 abbrev pub label_input : Label → fed.HashWrites
@@ -20,7 +18,3 @@ labels_hash ls = folding.finish (fold folding.write folding.initial (labels_inpu
 
 abbrev pub hash_input : Labels → fed.HashWrites
 hash_input ls = fed.u64 (labels_hash ls)
-
--- labels that compare as equal are fed alike
-pub same_input : (x y : Labels) → IsTrue (labels_eq x y) → hash_input x ≡ hash_input y
-same_input x y e = ap hash_input (same_if_equal x y e)

@@ -75,10 +75,10 @@ abbrev pub rise : Label → Label → Bool
 rise l m = is_lt (slice_cmp nat_cmp l.0 m.0)
 
 -- the names are in strictly ascending order, so none is repeated
-abbrev pub is_sorted : Labels → Bool
-is_sorted [] = true
-is_sorted (l ∷ []) = true
-is_sorted (l ∷ m ∷ ls) = rise l m && is_sorted (m ∷ ls)
+abbrev pub are_sorted : Labels → Bool
+are_sorted [] = true
+are_sorted (l ∷ []) = true
+are_sorted (l ∷ m ∷ ls) = rise l m && are_sorted (m ∷ ls)
 
 -- the bytes of a name and its value, and of all of them
 abbrev pub label_len : Label → ℕ
@@ -95,7 +95,7 @@ label_fault names ls =
     else if not (list_all (λ l. is_filled l.0) ls) then Some EmptyName
     else if not (list_all (is_well_named names) ls) then Some BadName
     else if not (list_all (λ l. is_filled l.1) ls) then Some EmptyValue
-    else if not (is_sorted ls) then Some NotSorted
+    else if not (are_sorted ls) then Some NotSorted
     else if nat_lt 64 (length ls) then Some TooMany
     else if nat_lt 16384 (text_len ls) then Some TooLong
     else None

@@ -8,3 +8,4 @@ pub mod Memory
 pub mod Requests
 pub mod Rising
 pub mod Words
+pub mod inner

@@ -2,7 +2,7 @@
 
 ghost use Rattle.std.specs.Prelude.{◌≡◌, map, nat_lt, sum_by};
 ghost use Rattle.std.specs.List.{list_all};
-ghost use Rattle.rw_types.specs.Labels.{begins_label_name, continues_label_name, begins_metric_name, continues_metric_name, is_label_name, is_metric_name, is_text, has_legacy_names, is_well_named, is_filled, rise, is_sorted, label_len, label_fault};
+ghost use Rattle.rw_types.specs.Labels.{begins_label_name, continues_label_name, begins_metric_name, continues_metric_name, is_label_name, is_metric_name, is_text, has_legacy_names, is_well_named, is_filled, rise, are_sorted, label_len, label_fault};
 
 use crate::label_bytes::LabelBytes;
 use crate::label_fault::{LabelFault, MAX_LABEL_BYTES, MAX_LABELS};
@@ -118,7 +118,7 @@ fn rise<L: LabelBytes>(label: &L, next: &L) -> bool
 }
 
 fn are_sorted<L: LabelBytes>(labels: &[L]) -> bool
-    ensures { result ≡ is_sorted (map L.shown labels.now) }
+    ensures { result ≡ are_sorted (map L.shown labels.now) }
 {
     for i in 1..labels.len() {
         if !rise(&labels[i - 1], &labels[i]) {

@@ -46,7 +46,8 @@ impl fmt::Display for LabelFault {
             LabelFault::EmptyValue => "label fault 4: a value is empty",
             LabelFault::NotSorted => "label fault 5: the names are not sorted, or one is repeated",
             LabelFault::TooMany => "label fault 6: more than 64 labels",
-            LabelFault::TooLong => "label fault 7: names and values together have more than 16384 bytes",
+            LabelFault::TooLong =>
+                "label fault 7: names and values together have more than 16384 bytes",
         })
     }
 }

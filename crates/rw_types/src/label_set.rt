@@ -294,7 +294,7 @@ impl LabelSet {
 
 impl PartialEq for LabelSet {
     ghost use Rattle.rw_types.specs.LabelOrder.{labels_eq};
-    ghost use Rattle.rw_types.specs.LabelOrder.{labels_cmp-total};
+    ghost use Rattle.rw_types.specs.inner.LabelOrder.{labels_cmp-total};
     ghost use Rattle.std.proofs.lemmas.Cmp.{eq_by_cmp_equiv};
     ghost use Rattle.std.specs.Cmp.{partial_equiv_from_equiv};
 
@@ -310,7 +310,7 @@ impl PartialEq for LabelSet {
 }
 
 impl Eq for LabelSet {
-    ghost use Rattle.rw_types.specs.LabelOrder.{labels_cmp-total};
+    ghost use Rattle.rw_types.specs.inner.LabelOrder.{labels_cmp-total};
     ghost use Rattle.std.proofs.lemmas.Cmp.{eq_by_cmp_equiv};
 
     ghost laws = { eq_by_cmp_equiv labels_cmp-total };
@@ -318,7 +318,7 @@ impl Eq for LabelSet {
 
 impl PartialOrd for LabelSet {
     ghost use Rattle.rw_types.specs.LabelOrder.{labels_cmp};
-    ghost use Rattle.rw_types.specs.LabelOrder.{labels_cmp-total};
+    ghost use Rattle.rw_types.specs.inner.LabelOrder.{labels_cmp-total};
     ghost use Rattle.std.proofs.Common.{refl};
     ghost use Rattle.std.specs.Ordering.{as_partial_cmp};
     ghost use Rattle.std.specs.Cmp.{partial_order_from_agreeing_total};
@@ -334,7 +334,7 @@ impl PartialOrd for LabelSet {
 
 impl Ord for LabelSet {
     ghost use Rattle.rw_types.specs.LabelOrder.{labels_cmp};
-    ghost use Rattle.rw_types.specs.LabelOrder.{labels_cmp-total};
+    ghost use Rattle.rw_types.specs.inner.LabelOrder.{labels_cmp-total};
     ghost use Rattle.std.proofs.Common.{refl};
 
     ghost cmp = { labels_cmp };
@@ -351,7 +351,8 @@ impl Ord for LabelSet {
 }
 
 impl Hash for LabelSet {
-    ghost use Rattle.rw_types.specs.Hashing.{hash_input, same_input};
+    ghost use Rattle.rw_types.specs.Hashing.{hash_input};
+    ghost use Rattle.rw_types.specs.inner.Hashing.{same_input};
 
     ghost hash_input = { hash_input };
 

@@ -1,4 +1,3 @@
-pub mod AdditionLemmas
-mod HoldLemmas
 mod PlaceLemmas
 mod ReferenceLemmas
+pub mod shared

@@ -1,17 +1,19 @@
 -- Label sets that come, and their places.
 use Rattle.std.proofs.Common.{◌≡◌, inl, inr, ℕ, zero, suc, ◌+◌, ◌-◌, ◌<◌, ◌≤◌, ℤ, List, [], ◌∷◌, ◌++◌, length, take, get_or, Bool, true, false, cond, not, ◌||◌, Option, Some, None, refl, sym, ap, ◌∙◌, subst, arith, append_assoc, length-take, ltb}
 use Rattle.std.proofs.lemmas.Bool.{le-ltb, ltb-true}
-use Rattle.std.proofs.lemmas.List.{take-append-le}
+use Rattle.std.proofs.lemmas.List.{take-append-le, take_more}
 use Rattle.std.proofs.Math.Seq.{take-suc}
-use Rattle.rw_types.proofs.OrderLemmas.{equal_if_same}
+use Rattle.rw_types.proofs.shared.OrderLemmas.{equal_if_same}
 use Rattle.std.specs.List.{list_any, position, position_or_len, slice_get}
 use Rattle.indexmap.specs.IndexSet.{insert_key}
 use Rattle.rw_types.specs.Labels.{Labels}
-use Rattle.rw_types.specs.LabelOrder.{labels_eq, same_if_equal}
+use Rattle.rw_types.specs.LabelOrder.{labels_eq}
+use Rattle.rw_types.specs.inner.LabelOrder.{same_if_equal}
 use Rattle.rw_wal_format.specs.Series.{has_labels}
 use Rattle.rw_wal_append.specs.Additions.{Point}
 use Rattle.rw_wal_append.proofs.ReferenceLemmas.{at_place}
-use Rattle.rw_wal_append.specs.References.{Named, Grows, labels_at, with_set, only_defined, numbered, AreOf, points_of, with_reference}
+use Rattle.rw_wal_append.specs.References.{Named, Grows, labels_at, with_set, only_defined, numbered, AreOf, points_of}
+use Rattle.rw_wal_append.specs.inner.References.{with_reference}
 
 -- ---- one more label set
 
@@ -157,9 +159,6 @@ stored_at n l k x i r same at eq place =
 
 -- ---- loops
 
-take-one : {A : Type 0} (xs : List A) (i : ℕ) (d : A) → i < length xs → take (i + 1) xs ≡ take i xs ++ get_or xs i d ∷ []
-take-one xs i d lt = let next : i + 1 ≡ suc i = omega arith in ap (λ (n : ℕ). take n xs) next ∙ take-suc xs i d lt
-
 numbered-push : (r : ℕ) (ls : List Labels) (l : Labels) → numbered r (ls ++ l ∷ []) ≡ numbered r ls ++ (r + length ls, l) ∷ []
 numbered-push r [] l = ap (λ (n : ℕ). (n, l) ∷ []) (omega arith)
 numbered-push r (m ∷ ls) l = ap (λ (ds : List (ℕ × Labels)). (r, m) ∷ ds) (numbered-push (suc r) ls l ∙ ap (λ (n : ℕ). numbered (suc r) ls ++ (n, l) ∷ []) (omega arith))
@@ -172,7 +171,7 @@ numbered_next r i q ls l old new lt is e place f =
     f ∙ ap (λ (ds : List (ℕ × Labels)). ds ++ (q, l) ∷ []) e
     ∙ ap (λ (n : ℕ). numbered r (take i ls) ++ (n, l) ∷ []) (place ∙ ap (λ (n : ℕ). r + n) (sym len))
     ∙ sym (numbered-push r (take i ls) l)
-    ∙ ap (numbered r) (ap (λ (x : Labels). take i ls ++ x ∷ []) is ∙ sym (take-one ls i l lt))
+    ∙ ap (numbered r) (ap (λ (x : Labels). take i ls ++ x ∷ []) is ∙ sym (take_more ls i l lt))
 
 with-push : (r : ℕ) (ps : List Point) (p : Point) → with_reference r (ps ++ p ∷ []) ≡ with_reference r ps ++ (r, p.0, p.1) ∷ []
 with-push r [] p = refl
@@ -183,4 +182,4 @@ pub with_next : (r i : ℕ) (ps : List Point) (p : Point) (start old new : List 
     → new ≡ old ++ (r, p.0, p.1) ∷ [] → new ≡ start ++ with_reference r (take (i + 1) ps)
 with_next r i ps p start old new lt is e f =
     f ∙ ap (λ (ss : List (ℕ × ℤ × ℕ)). ss ++ (r, p.0, p.1) ∷ []) e ∙ append_assoc start (with_reference r (take i ps)) ((r, p.0, p.1) ∷ [])
-    ∙ ap (λ (ss : List (ℕ × ℤ × ℕ)). start ++ ss) (sym (with-push r (take i ps) p) ∙ ap (with_reference r) (ap (λ (x : Point). take i ps ++ x ∷ []) is ∙ sym (take-one ps i p lt)))
+    ∙ ap (λ (ss : List (ℕ × ℤ × ℕ)). start ++ ss) (sym (with-push r (take i ps) p) ∙ ap (with_reference r) (ap (λ (x : Point). take i ps ++ x ∷ []) is ∙ sym (take_more ps i p lt)))

@@ -9,8 +9,9 @@ use Rattle.rw_types.specs.declared.entry.Entry.{Entry}
 use Rattle.rw_types.specs.declared.entry.Entry.TheVariants.{Def, Sample}
 use Rattle.rw_wal_format.specs.Laws.{sample_entry}
 use Rattle.rw_wal_format.specs.Series.{defines, has_labels, labels_of, samples_after}
+use Rattle.rw_wal_format.proofs.shared.SeriesRows.{labels_of-push}
 use Rattle.rw_wal_append.specs.Additions.{Point, without_position, samples_in, definition_entry}
-use Rattle.rw_wal_append.proofs.AdditionLemmas.{samples_in-append, labels_of-push}
+use Rattle.rw_wal_append.proofs.shared.AdditionLemmas.{samples_in-append}
 use Rattle.rw_wal_append.specs.References.{Named, labels_at, numbered, undefined, StandFor, AreDefined, AreOf, points_of}
 
 -- ---- what references stand for, as the log goes on

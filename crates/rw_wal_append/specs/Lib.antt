@@ -1,5 +1,4 @@
 pub mod Additions
-pub mod Buffers
 pub mod Ends
 pub mod References
-pub mod Writing
+pub mod inner

@@ -46,11 +46,6 @@ StandFor es r (l ∷ ls) = (labels_of es r (length es) ≡ Some l) × StandFor e
 abbrev pub AreDefined : List Entry → Named → Type 0
 AreDefined es n = StandFor es n.first (take n.defined n.sets)
 
--- samples of one reference
-abbrev pub with_reference : ℕ → List Point → List (ℕ × ℤ × ℕ)
-with_reference r [] = []
-with_reference r (p ∷ ps) = (r, p.0, p.1) ∷ with_reference r ps
-
 -- the reference of each sample is one of these
 abbrev pub AreOf : Named → List (ℕ × ℤ × ℕ) → Type 0
 AreOf n [] = Unit {0}

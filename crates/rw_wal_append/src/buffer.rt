@@ -1,7 +1,7 @@
 //! A writer that keeps what it is given in memory.
 
 ghost use Rattle.std.specs.Prelude.{◌≡◌, [], false, IfOk};
-ghost use Rattle.rw_wal_append.specs.Buffers.{Buffered};
+ghost use Rattle.rw_wal_append.specs.inner.Buffers.{Buffered};
 
 use rw_types::{Failed, Sink};
 use std::alloc::{AllocError, Global};
@@ -16,7 +16,7 @@ pub(crate) struct Buffer {
 }
 
 impl Model for Buffer {
-    ghost use Rattle.rw_wal_append.specs.Buffers.{Buffered};
+    ghost use Rattle.rw_wal_append.specs.inner.Buffers.{Buffered};
 
     ghost Value = { Buffered };
 

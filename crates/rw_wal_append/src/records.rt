@@ -6,7 +6,7 @@ ghost use Rattle.rw_types.specs.declared.entry.Entry.{Entry};
 ghost use Rattle.rw_wal_format.specs.Laws.{AreTexts, AreSamples, sample_entry};
 ghost use Rattle.rw_wal_format.specs.Records.{record_entries};
 ghost use Rattle.rw_wal_append.specs.Additions.{definition_entry};
-ghost use Rattle.rw_wal_append.specs.Writing.{Holds};
+ghost use Rattle.rw_wal_append.specs.inner.Writing.{Holds};
 
 use crate::append_error::AppendError;
 use crate::buffer::Buffer;

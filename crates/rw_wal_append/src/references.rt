@@ -3,7 +3,8 @@
 ghost use Rattle.std.specs.Prelude.{◌≡◌, ℕ, ◌+◌, ◌≤◌, ◌<◌, ◌^◌, ◌++◌, [], length, Some, None, IfSome, IfOk, OnOk, OnErr, if◌then◌else◌};
 ghost use Rattle.rw_types.specs.Labels.{Labels};
 ghost use Rattle.rw_types.specs.LabelOrder.{labels_eq};
-ghost use Rattle.rw_wal_append.specs.References.{Grows, labels_at, only_defined, undefined, AreOf, points_of, with_reference};
+ghost use Rattle.rw_wal_append.specs.References.{Grows, labels_at, only_defined, undefined, AreOf, points_of};
+ghost use Rattle.rw_wal_append.specs.inner.References.{with_reference};
 
 use indexmap::IndexSet;
 use rw_types::{LabelSet, Names, RawLabels, Word};

@@ -1,8 +1,3 @@
-pub mod Growing
-pub mod Items
-pub mod Written
-pub mod Tailing
-pub mod RecordLaws
-pub mod SeriesRows
 mod Rows
 mod Pages
+pub mod shared

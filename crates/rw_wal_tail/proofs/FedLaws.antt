@@ -7,17 +7,18 @@ use Rattle.rw_wal_format.specs.declared.tail_fault.TailFault.{TailFault}
 use Rattle.rw_wal_format.specs.declared.tail_fault.TailFault.TheVariants.{OutOfMemory, BadType, BadLength, BadCrc, Compressed, NonzeroPadding, Sequence, BadRecord, TornSegment}
 use Rattle.rw_wal_format.specs.Segments.{Reading, Stop, between, inside, at_fault, stopped}
 use Rattle.rw_wal_format.specs.Pieces.{Piece, bytes, page_size, reading, entries, skipped, fault, fault_at}
-use Rattle.rw_wal_format.proofs.Growing.{reading-append, reading-cut}
+use Rattle.rw_wal_format.proofs.shared.Growing.{reading-append, reading-cut}
 use Rattle.rw_wal_format.specs.Laws.{Extends}
-use Rattle.rw_wal_format.proofs.Tailing.{read_on, read_on-start}
+use Rattle.rw_wal_format.proofs.shared.Tailing.{read_on, read_on-start}
 use Rattle.rw_wal_tail.specs.declared.reader.Reader.{Reader}
-use Rattle.rw_wal_tail.specs.Held.{Held, waiting}
-use Rattle.rw_wal_tail.specs.Still.{after, still, from_here, open_data}
-use Rattle.rw_wal_tail.specs.Steps.{still_read, still_place, waiting_of, IsOfLog, IsReader, IsUnfed, Same, Takes, Ends}
+use Rattle.rw_wal_tail.specs.inner.Held.{Held, waiting}
+use Rattle.rw_wal_tail.specs.inner.Still.{after, still, from_here, open_data}
+use Rattle.rw_wal_tail.specs.inner.Steps.{still_read, still_place, waiting_of, IsOfLog, IsReader, IsUnfed, Same, Takes, Ends}
 use Rattle.rw_wal_tail.specs.Places.{stop_after, place_of, fault_place}
-use Rattle.rw_wal_tail.specs.Placed.{ends_with, ends_after, front_of, place_from}
-use Rattle.rw_wal_tail.proofs.PlaceLaws.{place_start}
-use Rattle.rw_wal_tail.specs.Fed.{Fed, Follows, CutsDoNotMatter, IsStuck, next_of, answered, end_of}
+use Rattle.rw_wal_tail.specs.inner.Placed.{ends_with, ends_after, front_of, place_from}
+use Rattle.rw_wal_tail.proofs.shared.PlaceLaws.{place_start}
+use Rattle.rw_wal_tail.specs.Fed.{Fed, CutsDoNotMatter, next_of, after_answer, answer_at_end}
+use Rattle.rw_wal_tail.specs.inner.Fed.{Follows, IsStuck}
 use Rattle.rw_wal_tail.proofs.StepLaws.{known_as}
 use Rattle.rw_wal_tail.proofs.StillLaws.{NoFault, still_waits}
 use Rattle.rw_wal_tail.proofs.WaitingLaws.{none_waiting}
@@ -112,11 +113,11 @@ next_end given xs z q =
     rw (q, t) refl
 
 module _ (ps : List Piece) (given : List Entry) where
-  end_entries : (n : List SkippedType) (s : Stop) → reading page_size ps ≡ after given [] (after [] n (stopped s)) → next_of ps (length given) ≡ end_of (fault_at s)
+  end_entries : (n : List SkippedType) (s : Stop) → reading page_size ps ≡ after given [] (after [] n (stopped s)) → next_of ps (length given) ≡ answer_at_end (fault_at s)
   unfolding next_of
   end_entries n s q =
       let e : entries ps ≡ given = ap (λ (r : Reading). r.entries) q ∙ append-nil given in
-      next_end given (entries ps) (end_of (fault ps)) e ∙ ap (λ (r : Reading). end_of (fault_at r.stop)) q
+      next_end given (entries ps) (answer_at_end (fault ps)) e ∙ ap (λ (r : Reading). answer_at_end (fault_at r.stop)) q
 
   end_skipped : (n : List SkippedType) (s : Stop) → reading page_size ps ≡ after given [] (after [] n (stopped s)) → skipped ps ≡ n
   end_skipped n s q = ap (λ (r : Reading). r.skipped) q ∙ append-nil n
@@ -144,7 +145,7 @@ module _ (ps : List Piece) (given : List Entry) (r : Reader) (f : Follows ps giv
   gives_entry e es q =
       let x = from_here r.fault r.left (open_data r.is_open r.begun.items) r.input.rest (waiting_of r ++ []) in
       let a : entries ps ≡ given ++ (e ∷ (es ++ x.entries)) = ap (λ (y : Reading). y.entries) all_read ∙ ap (λ (l : List Entry). given ++ (l ++ x.entries)) q in
-      next_front given (es ++ x.entries) (entries ps) e (end_of (fault ps)) a
+      next_front given (es ++ x.entries) (entries ps) e (answer_at_end (fault ps)) a
 
   ends_at : Ends r → (s : Stop) × (reading page_size ps ≡ after given [] (after [] r.passed (stopped s))) × NoFault s
   ends_at e =
@@ -162,7 +163,7 @@ module _ (ps : List Piece) (given : List Entry) (r : Reader) (f : Follows ps giv
       all_read ∙ ap (after given []) b
 
   pub gives_none : Ends r → next_of ps (length given) ≡ Ok None
-  gives_none e = let x = ends_at e in end_entries ps given r.passed x.0 x.1 ∙ ap end_of (no_fault_at x.0 x.2)
+  gives_none e = let x = ends_at e in end_entries ps given r.passed x.0 x.1 ∙ ap answer_at_end (no_fault_at x.0 x.2)
 
   pub passes_none : Ends r → skipped ps ≡ r.passed
   passes_none e = let x = ends_at e in end_skipped ps given r.passed x.0 x.1
@@ -185,8 +186,8 @@ module _ (ps : List Piece) (given : List Entry) (r : Reader) (f : Follows ps giv
       ap (λ (o : Option TailFault). place_of o ps) (has_fault x e n) ∙ ap Some s
 
 -- what a reader is after a fault
-answered_fault : (t : Fed) (f : TailFault) → IsOfLog (Some f) → answered t (Err f) ≡ record t { skipped = skipped t.pieces; fault = Some f }
-unfolding answered
+answered_fault : (t : Fed) (f : TailFault) → IsOfLog (Some f) → after_answer t (Err f) ≡ record t { skipped = skipped t.pieces; fault = Some f }
+unfolding after_answer
 answered_fault t OutOfMemory h = absurd h
 answered_fault t BadType h = refl
 answered_fault t BadLength h = refl
@@ -205,11 +206,11 @@ module _ (ps : List Piece) (t : Fed) (count : ℕ) (told : Option TailFault) whe
   counted_as : (n m : List SkippedType) → record { pieces = ps; given = count; skipped = n; fault = told } ≡ t → skipped ps ≡ m → record { pieces = ps; given = count; skipped = m; fault = told } ≡ record t { skipped = skipped t.pieces }
   counted_as n m v s = ap (λ (k : List SkippedType). record { pieces = ps; given = count; skipped = k; fault = told }) (sym s) ∙ ap (λ (x : Fed). record x { skipped = skipped x.pieces }) v
 
-  pub counted_none : (n m : List SkippedType) → record { pieces = ps; given = count; skipped = n; fault = told } ≡ t → skipped ps ≡ m → record { pieces = ps; given = count; skipped = m; fault = told } ≡ answered t (Ok None)
-  unfolding answered
+  pub counted_none : (n m : List SkippedType) → record { pieces = ps; given = count; skipped = n; fault = told } ≡ t → skipped ps ≡ m → record { pieces = ps; given = count; skipped = m; fault = told } ≡ after_answer t (Ok None)
+  unfolding after_answer
   counted_none n m v s = counted_as n m v s
 
-  pub counted_fault : (n m : List SkippedType) (f : TailFault) → IsOfLog (Some f) → record { pieces = ps; given = count; skipped = n; fault = told } ≡ t → skipped ps ≡ m → record { pieces = ps; given = count; skipped = m; fault = Some f } ≡ answered t (Err f)
+  pub counted_fault : (n m : List SkippedType) (f : TailFault) → IsOfLog (Some f) → record { pieces = ps; given = count; skipped = n; fault = told } ≡ t → skipped ps ≡ m → record { pieces = ps; given = count; skipped = m; fault = Some f } ≡ after_answer t (Err f)
   counted_fault n m f l v s = ap (λ (x : Fed). record x { fault = Some f }) (counted_as n m v s) ∙ sym (answered_fault t f l)
 
 -- ---- more pieces

@@ -4,7 +4,7 @@ use Rattle.std.specs.Int.{cast_signed, w64}
 use Rattle.rw_types.specs.Labels.{Labels}
 use Rattle.rw_types.specs.declared.entry.Entry.{Entry}
 use Rattle.rw_wal_format.specs.Records.{◌then◌, all_of, label_at, label_list_at, definition_at, sample_at, series_entries, samples_at, sample_entries, eight_at, record_entries, is_skipped}
-use Rattle.rw_wal_tail.specs.Form.{Leaves, HasEntries}
+use Rattle.rw_wal_tail.specs.inner.Form.{Leaves, HasEntries}
 use Rattle.rw_wal_tail.proofs.ItemLaws.{with_labels, labels_start, labels_step, labels_fail, labels_done, Left, left_start, left_step, left_done, left_fails}
 
 -- some labels were read, and then those of the rest

@@ -10,11 +10,11 @@ use Rattle.std.specs.Prelude.{◌&&◌, ◌==◌, ◌||◌, not, nat_le, nat_lt,
 use Rattle.byteorder.specs.Endian.{big_number}
 use Rattle.rw_codes.specs.Crc.{crc32c_of}
 use Rattle.rw_wal_format.specs.declared.tail_fault.TailFault.{TailFault}
-use Rattle.rw_wal_tail.specs.Steps.{IsOfLog}
+use Rattle.rw_wal_tail.specs.inner.Steps.{IsOfLog}
 use Rattle.rw_wal_format.specs.Segments.{Kind, full, first, middle, last, Item, nothing, begun, zeros, fragment, wrong, zeros_at, data_at, fragment_at, item_at}
 use Rattle.rw_wal_format.specs.Writing.{type_byte}
 use Rattle.rw_wal_format.specs.declared.tail_fault.TailFault.TheVariants.{NonzeroPadding, BadLength, BadCrc, Compressed, BadType}
-use Rattle.rw_wal_tail.specs.Found.{wrong_type_of, item_of, KnownZeros}
+use Rattle.rw_wal_tail.specs.inner.Found.{wrong_type_of, item_of, KnownZeros}
 use Rattle.rw_wal_tail.specs.declared.item.Found.{Found}
 use Rattle.rw_wal_tail.proofs.ItemLaws.{after_first}
 

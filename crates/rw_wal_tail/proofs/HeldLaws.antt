@@ -4,7 +4,7 @@ use Rattle.std.proofs.Math.ListN.{set}
 use Rattle.std.proofs.Math.Dec.{eqb-suc-zero}
 use Rattle.std.specs.Prelude.{OnOk, OnErr, is_ok, if◌then◌else◌}
 use Rattle.std.proofs.lemmas.List.{map-append, take_more}
-use Rattle.rw_wal_tail.specs.Held.{Held, extend_last, fed, fed_with, later_bytes}
+use Rattle.rw_wal_tail.specs.inner.Held.{Held, extend_last, fed, fed_with, later_bytes}
 
 -- what an extension says at `Ok` and at `Err`
 pub extended_ok : {T E : Type 0} (r : Result T E) (old new b : List ℕ) → new ≡ (if is_ok r then old ++ b else old) → OnOk r (new ≡ old ++ b)

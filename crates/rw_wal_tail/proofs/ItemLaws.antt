@@ -3,7 +3,7 @@ use Rattle.std.proofs.Common.{◌≡◌, Bool, true, false, ◌==◌, drop, get_
 use Rattle.std.proofs.lemmas.Bool.{ne_eqb}
 use Rattle.std.proofs.Math.Dec.{eqb, eqb-suc-zero}
 use Rattle.rw_wal_format.specs.Records.{◌then◌, all_of, label_at, label_list_at, series_entries, sample_entries, record_entries}
-use Rattle.rw_wal_tail.specs.Unread.{BadFormOnly}
+use Rattle.rw_wal_tail.specs.inner.Unread.{BadFormOnly}
 use Rattle.rw_types.specs.declared.entry.Entry.{Entry}
 use Rattle.rw_types.specs.Labels.{Labels}
 use Rattle.rw_wal_tail.specs.declared.record.Unread.{Unread}

@@ -9,13 +9,14 @@ use Rattle.rw_wal_format.specs.Segments.{Reading, full, last}
 use Rattle.rw_wal_format.specs.Pieces.{Piece, bytes, next_segment, entries}
 use Rattle.rw_wal_format.specs.declared.tail_fault.TailFault.{TailFault}
 use Rattle.rw_wal_tail.specs.declared.reader.Reader.{Reader}
-use Rattle.rw_wal_tail.specs.Held.{Held, has_ended, begun_with, extend_last, fed_with, fed, passed, marked, one_more, can_count, later_bytes, unread}
+use Rattle.rw_wal_tail.specs.inner.Held.{Held, has_ended, begun_with, extend_last, fed_with, fed, passed, marked, one_more, can_count, later_bytes, unread}
 use Rattle.rw_wal_format.specs.Skipped.{skips_of, skipped_type}
 use Rattle.rw_wal_format.specs.declared.skipped_type.SkippedType.{SkippedType}
-use Rattle.rw_wal_tail.specs.Still.{still, from_here, open_data}
-use Rattle.rw_wal_tail.specs.Form.{HasEntries}
-use Rattle.rw_wal_tail.specs.Fed.{Fed, Follows, IsStuck, IsTail, size_of}
-use Rattle.rw_wal_tail.specs.Steps.{still_read, waiting_of, CanStep, FoundAt, IsKept, GivesNext, MayLack, Same, IsOfLog, IsReader}
+use Rattle.rw_wal_tail.specs.inner.Still.{still, from_here, open_data}
+use Rattle.rw_wal_tail.specs.inner.Form.{HasEntries}
+use Rattle.rw_wal_tail.specs.Fed.{Fed, size_of}
+use Rattle.rw_wal_tail.specs.inner.Fed.{Follows, IsStuck, IsTail}
+use Rattle.rw_wal_tail.specs.inner.Steps.{still_read, waiting_of, CanStep, FoundAt, IsKept, GivesNext, MayLack, Same, IsOfLog, IsReader}
 use Rattle.rw_wal_tail.proofs.HeldLaws.{later_bytes-append}
 use Rattle.rw_wal_tail.proofs.StepLaws.{data_length, known_as}
 use Rattle.rw_wal_format.specs.declared.tail_fault.TailFault.TheVariants.{OutOfMemory}

@@ -4,7 +4,6 @@ mod FoundLaws
 mod HeldLaws
 mod StillLaws
 mod WaitingLaws
-mod PlaceLaws
 mod PlaceSteps
 mod StepLaws
 mod FedLaws
@@ -12,4 +11,4 @@ mod KeptLaws
 mod CopyLaws
 mod SkipLaws
 mod TakingLemmas
-pub mod AnswerLemmas
+pub mod shared

@@ -7,12 +7,12 @@ use Rattle.rw_wal_format.specs.Segments.{Kind, fragment, item_at, left_after, in
 use Rattle.rw_wal_format.specs.Pieces.{Piece, next_segment, bytes, page_size}
 use Rattle.rw_wal_format.specs.declared.tail_fault.TailFault.{TailFault}
 use Rattle.rw_wal_tail.specs.declared.reader.Reader.{Reader}
-use Rattle.rw_wal_tail.specs.Held.{Held, has_ended, begun_with, fed_with, fed, passed, one_more, marked, can_count}
-use Rattle.rw_wal_tail.specs.Still.{open_data}
+use Rattle.rw_wal_tail.specs.inner.Held.{Held, has_ended, begun_with, fed_with, fed, passed, one_more, marked, can_count}
+use Rattle.rw_wal_tail.specs.inner.Still.{open_data}
 use Rattle.rw_wal_tail.specs.Places.{opens}
-use Rattle.rw_wal_tail.specs.Placed.{stop_at, place_held, front_of, place_from}
-use Rattle.rw_wal_tail.specs.Steps.{still_place, SamePlace, TakesPlace, CanStep}
-use Rattle.rw_wal_tail.proofs.PlaceLaws.{held_zeros, held_fragment, held_torn, held_begun, held_marked, held_fed, at_nothing, at_begun}
+use Rattle.rw_wal_tail.specs.inner.Placed.{stop_at, place_held, front_of, place_from}
+use Rattle.rw_wal_tail.specs.inner.Steps.{still_place, SamePlace, TakesPlace, CanStep}
+use Rattle.rw_wal_tail.proofs.shared.PlaceLaws.{held_zeros, held_fragment, held_torn, held_begun, held_marked, held_fed, at_nothing, at_begun}
 
 -- what can be counted is small
 pub small : (h : Held) → can_count h ≡ true → (h.offset < 2 ^ 60) × (h.ends < 2 ^ 60)

@@ -6,7 +6,7 @@ use Rattle.std.proofs.lemmas.List.{get_or-replicate, get_or-set_same, get_or-set
 use Rattle.std.proofs.lemmas.List.Sums.{fold_push, count_by-le-length}
 use Rattle.rw_wal_format.specs.Skipped.{type_number}
 use Rattle.rw_wal_format.specs.declared.skipped_type.SkippedType.{SkippedType}
-use Rattle.rw_wal_tail.specs.Skips.{AreCounted}
+use Rattle.rw_wal_tail.specs.inner.Skips.{AreCounted}
 
 -- this many of the types have this number
 abbrev numbered : ℕ → List SkippedType → ℕ

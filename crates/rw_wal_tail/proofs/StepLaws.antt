@@ -8,17 +8,17 @@ use Rattle.rw_wal_format.specs.Records.{record_entries}
 use Rattle.rw_wal_format.specs.declared.tail_fault.TailFault.{TailFault}
 use Rattle.rw_wal_format.specs.declared.tail_fault.TailFault.TheVariants.{BadRecord, Sequence, TornSegment}
 use Rattle.rw_wal_format.specs.Pieces.{Piece, next_segment, bytes, page_size}
-use Rattle.rw_wal_format.proofs.Growing.{left_after_pos}
+use Rattle.rw_wal_format.proofs.shared.Growing.{left_after_pos}
 use Rattle.rw_wal_tail.specs.declared.reader.Reader.{Reader}
-use Rattle.rw_wal_tail.specs.Found.{KnownZeros}
-use Rattle.rw_wal_tail.specs.Held.{Held, waiting, has_ended, begun_with, fed_with, fed, passed, marked, can_count}
-use Rattle.rw_wal_tail.specs.Still.{still, open_data}
+use Rattle.rw_wal_tail.specs.inner.Found.{KnownZeros}
+use Rattle.rw_wal_tail.specs.inner.Held.{Held, waiting, has_ended, begun_with, fed_with, fed, passed, marked, can_count}
+use Rattle.rw_wal_tail.specs.inner.Still.{still, open_data}
 use Rattle.rw_wal_format.specs.Skipped.{skips_of}
 use Rattle.rw_wal_format.specs.declared.skipped_type.SkippedType.{SkippedType}
-use Rattle.rw_wal_tail.specs.Steps.{IsRead, waiting_of, IsOfLog, IsReader, Same, SamePlace, Takes, CanStep, FoundAt, FoundFragment, PausesAt}
+use Rattle.rw_wal_tail.specs.inner.Steps.{IsRead, waiting_of, IsOfLog, IsReader, Same, SamePlace, Takes, CanStep, FoundAt, FoundFragment, PausesAt}
 use Rattle.rw_wal_tail.proofs.StillLaws.{IsInner, IsBegin, still_first, still_middle, still_full, still_last, still_bad_full, still_bad_last, still_closed, still_open, still_zeros, still_wrong}
 use Rattle.rw_wal_tail.specs.Places.{closes, opens}
-use Rattle.rw_wal_tail.proofs.PlaceLaws.{held_bad, held_wrong}
+use Rattle.rw_wal_tail.proofs.shared.PlaceLaws.{held_bad, held_wrong}
 use Rattle.rw_wal_tail.proofs.PlaceSteps.{place_advanced, place_zeros, place_failed, place_begun, place_torn, place_same, place_fed, place_marked}
 use Rattle.rw_wal_tail.proofs.WaitingLaws.{still_begun, still_torn_here, still_fed, still_marked, still_faulted}
 

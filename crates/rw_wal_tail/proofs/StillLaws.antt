@@ -8,10 +8,10 @@ use Rattle.rw_wal_format.specs.declared.skipped_type.SkippedType.{SkippedType}
 use Rattle.rw_wal_format.specs.Pieces.{Piece, bytes, next_segment, then_next, reading_after, page_size}
 use Rattle.rw_wal_format.specs.declared.tail_fault.TailFault.{TailFault}
 use Rattle.rw_wal_format.specs.declared.tail_fault.TailFault.TheVariants.{Sequence, BadRecord, TornSegment}
-use Rattle.rw_wal_format.proofs.Growing.{Stays, item_stays}
-use Rattle.rw_wal_format.proofs.Items.{read_step, read_zeros, read_nothing, read_begun, read_wrong, read_full, read_first, read_middle, read_last}
-use Rattle.rw_wal_format.proofs.Tailing.{read_on, read_on-start, read_on-step, read_on-record, fragment_stays_at, zeros_stay_at}
-use Rattle.rw_wal_tail.specs.Still.{after, open_data, still}
+use Rattle.rw_wal_format.proofs.shared.Growing.{Stays, item_stays}
+use Rattle.rw_wal_format.proofs.shared.Items.{read_step, read_zeros, read_nothing, read_begun, read_wrong, read_full, read_first, read_middle, read_last}
+use Rattle.rw_wal_format.proofs.shared.Tailing.{read_on, read_on-start, read_on-step, read_on-record, fragment_stays_at, zeros_stay_at}
+use Rattle.rw_wal_tail.specs.inner.Still.{after, open_data, still}
 
 abbrev pub NoFault : Stop → Type 0
 NoFault between = Unit {0}

@@ -8,9 +8,9 @@ use Rattle.rw_wal_format.specs.Pieces.{entries, fault, skipped, reading, page_si
 use Rattle.rw_wal_format.specs.Laws.{Extends}
 use Rattle.rw_wal_format.specs.declared.tail_fault.TailFault.{TailFault}
 use Rattle.rw_wal_format.specs.declared.tail_fault.TailFault.TheVariants.{OutOfMemory}
-use Rattle.rw_wal_tail.specs.Fed.{Fed, next_of, answered, is_out_of_memory}
+use Rattle.rw_wal_tail.specs.Fed.{Fed, next_of, after_answer, is_out_of_memory}
 use Rattle.rw_wal_tail.specs.Taking.{HasTaken, HasTakenAll, TakesNext}
-use Rattle.rw_wal_tail.proofs.AnswerLemmas.{next_is, end_is, fault_is, has_some, answered_same}
+use Rattle.rw_wal_tail.proofs.shared.AnswerLemmas.{next_is, end_is, fault_is, has_some, answered_same}
 
 -- what a reader may answer
 abbrev pub Said : Type 0
@@ -36,8 +36,8 @@ all_taken t taken h e =
 same_taken : (t after : Fed) (taken : List Entry) → after.pieces ≡ t.pieces → after.given ≡ t.given → HasTaken t taken → HasTaken after taken
 same_taken t after taken p g h = record { count = g ∙ h.count; rest = h.rest; begins = ap entries p ∙ h.begins }
 
-took_entry : (t after : Fed) (taken : List Entry) (e : Entry) → HasTaken t taken → Ok (Some e) ≡ next_of t.pieces t.given → after ≡ answered t (Ok (Some e)) → HasTaken after (taken ++ e ∷ [])
-unfolding next_of answered
+took_entry : (t after : Fed) (taken : List Entry) (e : Entry) → HasTaken t taken → Ok (Some e) ≡ next_of t.pieces t.given → after ≡ after_answer t (Ok (Some e)) → HasTaken after (taken ++ e ∷ [])
+unfolding next_of after_answer
 took_entry t after taken e h r n =
     let at : slice_get (entries t.pieces) t.given ≡ Some e = next_is (nat_lt t.given (length (entries t.pieces))) (slice_get (entries t.pieces) t.given) (fault t.pieces) e r in
     let there : slice_get (taken ++ h.rest) (length taken) ≡ Some e = ap (λ k. slice_get (taken ++ h.rest) k) (sym h.count) ∙ ap (λ l. slice_get l t.given) (sym h.begins) ∙ at in
@@ -48,8 +48,8 @@ took_entry t after taken e h r n =
       begins = ap (λ (x : Fed). entries x.pieces) n ∙ h.begins ∙ ap (λ r. taken ++ r) more.1 ∙ sym (append_assoc taken (e ∷ []) more.0);
     }
 
-took_none : (t after : Fed) (taken : List Entry) → HasTaken t taken → Ok None ≡ next_of t.pieces t.given → after ≡ answered t (Ok None) → HasTakenAll after taken None
-unfolding next_of answered
+took_none : (t after : Fed) (taken : List Entry) → HasTaken t taken → Ok None ≡ next_of t.pieces t.given → after ≡ after_answer t (Ok None) → HasTakenAll after taken None
+unfolding next_of after_answer
 took_none t after taken h r n =
     let e = end_is (nat_lt t.given (length (entries t.pieces))) (slice_get (entries t.pieces) t.given) (fault t.pieces) r (λ l. has_some (entries t.pieces) t.given (grind (arith, nat_tests))) in
     rw n record {
@@ -59,12 +59,12 @@ took_none t after taken h r n =
     }
 
 -- what was passed over is counted at a fault
-passes_fault : (t : Fed) (f : TailFault) → is_out_of_memory f ≡ false → (answered t (Err f)).skipped ≡ skipped t.pieces
-unfolding answered
+passes_fault : (t : Fed) (f : TailFault) → is_out_of_memory f ≡ false → (after_answer t (Err f)).skipped ≡ skipped t.pieces
+unfolding after_answer
 passes_fault t OutOfMemory e = absurd cc
 passes_fault t f e = refl
 
-took_fault : (t after : Fed) (taken : List Entry) (f : TailFault) → HasTaken t taken → Answers t (Err f) → after ≡ answered t (Err f) → is_out_of_memory f ≡ false → HasTakenAll after taken (Some f)
+took_fault : (t after : Fed) (taken : List Entry) (f : TailFault) → HasTaken t taken → Answers t (Err f) → after ≡ after_answer t (Err f) → is_out_of_memory f ≡ false → HasTakenAll after taken (Some f)
 unfolding next_of
 took_fault t after taken f h (inl r) n plain = let same : f ≡ OutOfMemory = cc in let it_is : is_out_of_memory f ≡ true = ap is_out_of_memory same in absurd cc
 took_fault t after taken f h (inr r) n plain =
@@ -78,7 +78,7 @@ took_fault t after taken f h (inr r) n plain =
     }
 
 -- what was taken after any answer
-pub takes_next : (t after : Fed) (taken : List Entry) (said : Said) → HasTaken t taken → Answers t said → after ≡ answered t said → TakesNext taken said after
+pub takes_next : (t after : Fed) (taken : List Entry) (said : Said) → HasTaken t taken → Answers t said → after ≡ after_answer t said → TakesNext taken said after
 takes_next t after taken (Ok (Some e)) h (inl r) n = absurd cc
 takes_next t after taken (Ok (Some e)) h (inr r) n = took_entry t after taken e h r n
 takes_next t after taken (Ok None) h (inl r) n = absurd cc
@@ -90,8 +90,8 @@ takes_next t after taken (Err f) h a n =
     )
 
 -- no answer changes the pieces
-pub same_pieces : (t after : Fed) (said : Said) → after ≡ answered t said → after.pieces ≡ t.pieces
-unfolding answered
+pub same_pieces : (t after : Fed) (said : Said) → after ≡ after_answer t said → after.pieces ≡ t.pieces
+unfolding after_answer
 same_pieces t after (Ok (Some e)) n = ap (λ (x : Fed). x.pieces) n
 same_pieces t after (Ok None) n = ap (λ (x : Fed). x.pieces) n
 same_pieces t after (Err f) n = ap (λ (x : Fed). x.pieces) n ∙ (answered_same t f).0

@@ -6,9 +6,9 @@ use Rattle.rw_wal_format.specs.Pieces.{Piece, bytes, next_segment, then_next, re
 use Rattle.rw_wal_format.specs.declared.skipped_type.SkippedType.{SkippedType}
 use Rattle.rw_wal_format.specs.declared.tail_fault.TailFault.{TailFault}
 use Rattle.rw_wal_format.specs.declared.tail_fault.TailFault.TheVariants.{TornSegment}
-use Rattle.rw_wal_format.proofs.Tailing.{read_on, read_on-start}
-use Rattle.rw_wal_tail.specs.Held.{Held, waiting, has_ended, begun_with, extend_last, fed_with, fed}
-use Rattle.rw_wal_tail.specs.Still.{after, open_data, still}
+use Rattle.rw_wal_format.proofs.shared.Tailing.{read_on, read_on-start}
+use Rattle.rw_wal_tail.specs.inner.Held.{Held, waiting, has_ended, begun_with, extend_last, fed_with, fed}
+use Rattle.rw_wal_tail.specs.inner.Still.{after, open_data, still}
 use Rattle.rw_wal_tail.proofs.StillLaws.{none_first, still_next, still_torn}
 
 -- if the current segment has ended, the next one is the first that waits

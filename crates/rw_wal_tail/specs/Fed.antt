@@ -1,5 +1,5 @@
 -- What was fed to a reader, and what it answers.
-use Rattle.std.specs.Prelude.{◌≡◌, ℕ, ◌+◌, ◌<◌, ◌^◌, List, [], ◌∷◌, ◌++◌, length, Option, Some, None, Result, Ok, Err, slice_get, nat_lt, Bool, true, false, if◌then◌else◌}
+use Rattle.std.specs.Prelude.{◌≡◌, ℕ, ◌+◌, List, [], ◌∷◌, ◌++◌, length, Option, Some, None, Result, Ok, Err, slice_get, nat_lt, Bool, true, false, if◌then◌else◌}
 use Rattle.rw_types.specs.declared.entry.Entry.{Entry}
 use Rattle.rw_wal_format.specs.Pieces as pieces
 use Rattle.rw_wal_format.specs.Pieces.{page_size, reading, entries, skipped, fault}
@@ -10,11 +10,6 @@ use Rattle.rw_wal_tail.specs.declared.piece.Piece.{Piece}
 use Rattle.rw_wal_tail.specs.declared.piece.Piece.TheVariants as piece
 use Rattle.rw_wal_tail.specs.declared.piece.Told.{Told}
 use Rattle.rw_wal_tail.specs.declared.piece.Told.TheVariants as told
-use Rattle.rw_wal_tail.specs.declared.reader.Reader.{Reader}
-use Rattle.rw_wal_tail.specs.Still.{after}
-use Rattle.rw_wal_tail.specs.Places.{stop_after}
-use Rattle.rw_wal_tail.specs.Placed.{ends_after}
-use Rattle.rw_wal_tail.specs.Steps.{IsReader, still_read, still_place, Counts, IsKept}
 
 -- the pieces that were fed, the number of entries that were returned, and the types of the skipped
 -- records
@@ -27,20 +22,20 @@ pub record Fed : Type 0 where
   pub fault : Option TailFault
 
 -- what comes at the end of the entries
-abbrev pub end_of : Option TailFault → Result (Option Entry) TailFault
-end_of None = Ok None
-end_of (Some f) = Err f
+abbrev pub answer_at_end : Option TailFault → Result (Option Entry) TailFault
+answer_at_end None = Ok None
+answer_at_end (Some f) = Err f
 
 -- the entry after n entries of the pieces, or the fault that follows them
 unfoldable pub next_of : List pieces.Piece → ℕ → Result (Option Entry) TailFault
-next_of ps n = if nat_lt n (length (entries ps)) then Ok (slice_get (entries ps) n) else end_of (fault ps)
+next_of ps n = if nat_lt n (length (entries ps)) then Ok (slice_get (entries ps) n) else answer_at_end (fault ps)
 
 -- what a reader is after an answer: running out of memory changes nothing
-unfoldable pub answered : Fed → Result (Option Entry) TailFault → Fed
-answered t (Ok (Some e)) = record t { given = t.given + 1 }
-answered t (Ok None) = record t { skipped = skipped t.pieces }
-answered t (Err OutOfMemory) = t
-answered t (Err f) = record t { skipped = skipped t.pieces; fault = Some f }
+unfoldable pub after_answer : Fed → Result (Option Entry) TailFault → Fed
+after_answer t (Ok (Some e)) = record t { given = t.given + 1 }
+after_answer t (Ok None) = record t { skipped = skipped t.pieces }
+after_answer t (Err OutOfMemory) = t
+after_answer t (Err f) = record t { skipped = skipped t.pieces; fault = Some f }
 
 -- memory ran out, and the log has no fault
 abbrev pub is_out_of_memory : TailFault → Bool
@@ -66,23 +61,3 @@ piece_of piece.NextSegment = pieces.next_segment
 abbrev pub told_of : Told → pieces.Piece
 told_of (told.Bytes b) = pieces.bytes b
 told_of told.NextSegment = pieces.next_segment
-
--- whatever comes later, the reading is what was given and then what the reader still reads
-pub record Follows (ps : List pieces.Piece) (given : List Entry) (r : Reader) : Type 0 where
-  pub reader : IsReader r
-  pub reads : (later : List pieces.Piece) → reading page_size (ps ++ later) ≡ after given [] (still_read r later)
-  pub counts : Counts (ends_after 0 ps) r
-  pub stops : (later : List pieces.Piece) → stop_after page_size 0 [] (ps ++ later) ≡ still_place r (ends_after 0 ps) later
-
--- nothing is ready, and this is the reader's fault, if there is one
-abbrev pub IsStuck : Reader → Option TailFault → Type 0
-IsStuck r None = Unit {0}
-IsStuck r (Some f) = (r.fault ≡ Some f) × (r.ready.items ≡ [])
-
--- the same of a reader that has counted, and that has answered this fault, if any
-pub record IsTail (r : Reader) (ps : List pieces.Piece) (given : List Entry) (count : ℕ) (told : Option TailFault) : Type 0 where
-  pub follows : Follows ps given r
-  pub counted : count ≡ length given
-  pub bound : count < 2 ^ 60
-  pub stuck : IsStuck r told
-  pub kept : IsKept (size_of ps) r

@@ -1,11 +1,4 @@
-pub mod Unread
-pub mod Form
-pub mod Found
-pub mod Held
 pub mod Places
-pub mod Placed
-pub mod Still
-pub mod Skips
-pub mod Steps
 pub mod Fed
 pub mod Taking
+pub mod inner

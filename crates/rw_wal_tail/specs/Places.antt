@@ -40,14 +40,14 @@ count_from page left so_far text next (fragment kind d) = count_after page left 
 count_from page left so_far text next (wrong f) = 0
 
 -- the same of the items one after the other, of which there are at most k
-abbrev pub count_of : ℕ → ℕ → ℕ → Option (List ℕ) → List ℕ → ℕ
-count_of page zero left so_far text = 0
-count_of page (suc k) left so_far text = count_from page left so_far text (λ l o rest. count_of page k l o rest) (item_at left text)
+abbrev pub counted_items : ℕ → ℕ → ℕ → Option (List ℕ) → List ℕ → ℕ
+counted_items page zero left so_far text = 0
+counted_items page (suc k) left so_far text = count_from page left so_far text (λ l o rest. counted_items page k l o rest) (item_at left text)
 
 -- how many bytes of what is left of a segment are read, if a record may be open, with `left` bytes
 -- of the first page
 abbrev pub read_count : ℕ → ℕ → Option (List ℕ) → List ℕ → ℕ
-read_count page left so_far rest = count_of page (length rest) left so_far rest
+read_count page left so_far rest = counted_items page (length rest) left so_far rest
 
 -- the offset in a segment's text of the item at which reading stops
 unfoldable pub stop_offset : ℕ → List ℕ → ℕ

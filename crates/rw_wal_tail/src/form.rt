@@ -3,7 +3,7 @@
 ghost use Rattle.std.specs.Prelude.{◌≡◌, ◌≤◌, ◌<◌, length, is_some, MatchOption, IfSome, None};
 ghost use Rattle.std.specs.Int.{cast_signed, w64};
 ghost use Rattle.rw_wal_format.specs.Records.{label_list_at, definition_at, series_entries, samples_at, sample_entries, record_entries};
-ghost use Rattle.rw_wal_tail.specs.Form.{Leaves};
+ghost use Rattle.rw_wal_tail.specs.inner.Form.{Leaves};
 
 use crate::read::{eight, label, sample, unsigned};
 use rw_wal_format::RecordType;

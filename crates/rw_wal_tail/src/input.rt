@@ -1,7 +1,7 @@
 //! The bytes of a log that are not read yet.
 
 ghost use Rattle.std.specs.Prelude.{◌≡◌, ◌≤◌, ◌<◌, ◌+◌, ◌*◌, [], true, length, drop, map, IfOk, IfSome, OnOk, OnErr};
-ghost use Rattle.rw_wal_tail.specs.Held.{has_ended, begun_with, extend_last, fed, unfed, passed, marked, can_count, waits_as, later_bytes};
+ghost use Rattle.rw_wal_tail.specs.inner.Held.{has_ended, begun_with, extend_last, fed, unfed, passed, marked, can_count, waits_as, later_bytes};
 
 use std::alloc::{AllocError, Global};
 use std::collections::VecDeque;
@@ -36,7 +36,7 @@ pub(crate) struct Input {
 
 impl Model for Input {
     ghost use Rattle.std.specs.Prelude.{◌≤◌, drop, length, map};
-    ghost use Rattle.rw_wal_tail.specs.Held.{Held, waits_as};
+    ghost use Rattle.rw_wal_tail.specs.inner.Held.{Held, waits_as};
 
     ghost Value = { Held };
 

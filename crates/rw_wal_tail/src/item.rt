@@ -4,7 +4,7 @@ ghost use Rattle.std.specs.Prelude.{◌≡◌, ◌==◌, drop};
 ghost use Rattle.std.specs.List.{list_all};
 ghost use Rattle.rw_wal_format.specs.Segments.{zeros_at, data_at, fragment_at, item_at};
 ghost use Rattle.rw_wal_format.specs.Types.{kind_of};
-ghost use Rattle.rw_wal_tail.specs.Found.{item_of, wrong_type_of, KnownZeros, Fits, FragmentFits, DataFits};
+ghost use Rattle.rw_wal_tail.specs.inner.Found.{item_of, wrong_type_of, KnownZeros, Fits, FragmentFits, DataFits};
 
 use byteorder::{BigEndian, ByteOrder};
 use rw_codes::crc32c;

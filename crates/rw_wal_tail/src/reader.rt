@@ -6,10 +6,10 @@ ghost use Rattle.rw_wal_format.specs.Segments.{left_after, full, first, middle, 
 ghost use Rattle.rw_wal_format.specs.Pieces.{page_size, bytes, next_segment};
 ghost use Rattle.rw_wal_tail.specs.declared.reader.Step.TheVariants.{Failed};
 ghost use Rattle.rw_wal_format.specs.Types.{kind_of};
-ghost use Rattle.rw_wal_tail.specs.Held.{passed, can_count};
-ghost use Rattle.rw_wal_tail.specs.Placed.{front_of};
-ghost use Rattle.rw_wal_tail.specs.Steps.{Same, Takes, Stepped, PausesAt, FoundAt, FoundFragment, IsReader, IsUnfed, IsRead, Ran, is_failed_by, IsKept, MayLack};
-ghost use Rattle.rw_wal_tail.specs.Form.{HasEntries};
+ghost use Rattle.rw_wal_tail.specs.inner.Held.{passed, can_count};
+ghost use Rattle.rw_wal_tail.specs.inner.Placed.{front_of};
+ghost use Rattle.rw_wal_tail.specs.inner.Steps.{Same, Takes, Stepped, PausesAt, FoundAt, FoundFragment, IsReader, IsUnfed, IsRead, Ran, is_failed_by, IsKept, MayLack};
+ghost use Rattle.rw_wal_tail.specs.inner.Form.{HasEntries};
 
 use crate::form::is_record;
 use crate::input::{COUNT_END, Input, copy_of};

@@ -4,7 +4,7 @@ ghost use Rattle.std.specs.Prelude.{◌≡◌, ◌≤◌, ◌<◌, [], length, I
 ghost use Rattle.std.specs.Int.{cast_signed, w64};
 ghost use Rattle.rw_wal_format.specs.Records.{label_list_at, definition_at, series_entries, samples_at, sample_entries, record_entries};
 ghost use Rattle.rw_wal_tail.specs.declared.record.Unread.TheVariants.{OutOfMemory};
-ghost use Rattle.rw_wal_tail.specs.Unread.{BadFormOnly};
+ghost use Rattle.rw_wal_tail.specs.inner.Unread.{BadFormOnly};
 
 use crate::read::{eight, label, sample, unsigned};
 use rw_types::{Entry, RawLabels};

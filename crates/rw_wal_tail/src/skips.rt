@@ -19,7 +19,7 @@ pub(crate) struct Skips {
 impl Model for Skips {
     ghost use Rattle.std.specs.Prelude.{List};
     ghost use Rattle.rw_wal_format.specs.declared.skipped_type.SkippedType.{SkippedType};
-    ghost use Rattle.rw_wal_tail.specs.Skips.{AreCounted};
+    ghost use Rattle.rw_wal_tail.specs.inner.Skips.{AreCounted};
 
     ghost Value = { List SkippedType };
 

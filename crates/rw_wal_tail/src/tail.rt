@@ -7,7 +7,7 @@ ghost use Rattle.rw_wal_format.specs.Pieces.{bytes, next_segment, entries, fault
 ghost use Rattle.rw_wal_format.specs.Skipped.{count_of};
 ghost use Rattle.rw_wal_format.specs.declared.tail_fault.TailFault.{TailFault};
 ghost use Rattle.rw_wal_format.specs.declared.tail_fault.TailFault.TheVariants.{OutOfMemory};
-ghost use Rattle.rw_wal_tail.specs.Fed.{next_of, answered, size_of, piece_of, is_out_of_memory, CutsDoNotMatter};
+ghost use Rattle.rw_wal_tail.specs.Fed.{next_of, after_answer, size_of, piece_of, is_out_of_memory, CutsDoNotMatter};
 ghost use Rattle.rw_wal_tail.specs.Places.{told_place};
 ghost use Rattle.rw_wal_tail.specs.Taking.{HasTaken, TakesNext};
 
@@ -54,7 +54,8 @@ impl Model for Tail {
 
     ghost Value = { Fed };
 
-    ghost use Rattle.rw_wal_tail.specs.Fed.{told_of, IsTail};
+    ghost use Rattle.rw_wal_tail.specs.Fed.{told_of};
+    ghost use Rattle.rw_wal_tail.specs.inner.Fed.{IsTail};
 
     ghost view = { λ t. record {
       pieces = map told_of t.pieces;
@@ -139,7 +140,7 @@ impl Tail {
     pub fn next_entry(&mut self) -> Result<Option<Entry>, TailFault>
         ensures answer { (result ≡ Err OutOfMemory)
             ⊎ (result ≡ next_of self.old.pieces self.old.given) }
-        ensures after { self.new ≡ answered self.old result }
+        ensures after { self.new ≡ after_answer self.old result }
         ensures stays { (f : TailFault) → self.old.fault ≡ Some f → result ≡ Err f }
         ensures takes { (taken : List Entry) → HasTaken self.old taken
             → TakesNext taken result self.new }

@@ -1,5 +1,5 @@
 pub mod Taking
 pub mod Padding
 pub mod Underway
-pub mod Fitting
 pub mod Reading
+pub mod shared

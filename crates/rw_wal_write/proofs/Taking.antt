@@ -5,12 +5,8 @@ use Rattle.std.proofs.lemmas.List.{take-append-le}
 use Rattle.std.proofs.Math.Seq.{take-append-add}
 use Rattle.std.proofs.lemmas.Result.{MatchResult-from_err, MatchResult-at_ok, MatchResult-at_err}
 use Rattle.std.specs.Io.KnownBytes.{Appends}
-use Rattle.rw_types.proofs.KnownLemmas.{appends_appends}
+use Rattle.std.proofs.KnownBytes.{Appends-trans, Appends-nil}
 use Rattle.rw_wal_write.specs.Sinks.{TakesAll, TakesPart, Takes}
-
-pub appends-none : (a : Option (List ℕ)) → Appends a a []
-appends-none None = tt
-appends-none (Some x) = sym (append-nil x)
 
 no_ok : {E : Type 0} (e : E) → IsOk {T = Unit {0}} (Err e) → ⊥
 no_ok e h = cc
@@ -36,12 +32,12 @@ module _ {W : Type 0} (contents : W → Option (List ℕ)) (has_failed : W → B
 
   -- no byte at all
   pub takes_none : (a : W) → TakesAll contents has_failed room a a []
-  takes_none a = record { appended = appends-none (contents a); sound = λ h. h; room_left = omega arith }
+  takes_none a = record { appended = Appends-nil (contents a); sound = λ h. h; room_left = omega arith }
 
   -- one text, and then another
   pub takes_both : (a b c : W) (x y : List ℕ) → TakesAll contents has_failed room a b x → TakesAll contents has_failed room b c y → TakesAll contents has_failed room a c (x ++ y)
   takes_both a b c x y p q = record {
-    appended = appends_appends (contents a) (contents b) (contents c) x y p.appended q.appended;
+    appended = Appends-trans (contents a) (contents b) (contents c) x y p.appended q.appended;
     sound = λ h. q.sound (p.sound h);
     room_left = omega (arith, p.room_left, q.room_left, length-append x y);
   }
@@ -51,7 +47,7 @@ module _ {W : Type 0} (contents : W → Option (List ℕ)) (has_failed : W → B
   takes_part_after a b c x y p q = record {
     taken = length x + q.taken;
     within = omega (arith, q.within, length-append x y);
-    appended = rw (take-append-add x y q.taken) (appends_appends (contents a) (contents b) (contents c) x (take q.taken y) p.appended q.appended);
+    appended = rw (take-append-add x y q.taken) (Appends-trans (contents a) (contents b) (contents c) x (take q.taken y) p.appended q.appended);
     failed = q.failed;
     lacked = λ h. let l = q.lacked (p.sound h) in omega (arith, l, p.room_left, length-append x y);
   }

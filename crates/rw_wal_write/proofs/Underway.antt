@@ -7,7 +7,7 @@ use Rattle.rw_wal_format.specs.Pieces.{page_size}
 use Rattle.rw_wal_format.specs.Writing.{frame, padding, frames, log_bytes}
 use Rattle.rw_wal_write.specs.Sinks.{TakesAll, TakesPart, Takes}
 use Rattle.rw_wal_write.proofs.Taking.{takes_none, takes_both, takes_more, takes_part_after, takes_part_before}
-use Rattle.rw_wal_format.proofs.Written.{length-frame}
+use Rattle.rw_wal_format.proofs.shared.Written.{length-frame}
 
 -- the bytes left in the page at an offset
 abbrev pub left_at : ℕ → ℕ

@@ -24,8 +24,8 @@ pub record IsPlace (pages offset : ℕ) : Type 0 where
   pub header : 7 ≤ page_size - offset % page_size
 
 -- why a record of this length is refused, if it is
-abbrev pub refusal : {W : Type 0} → Segment W → ℕ → Option LogFault
-refusal s len =
+abbrev pub log_refusal : {W : Type 0} → Segment W → ℕ → Option LogFault
+log_refusal s len =
     if s.closed then Some Device
     else if nat_lt (16 * 1024 * 1024) len then Some RecordTooLong
     else if nat_lt (room page_size s.pages s.offset) len then Some SegmentFull
@@ -44,7 +44,7 @@ AreLogged {W = W} contents has_failed room old new (rec ∷ recs) =
     (next : Segment W) × IsLogged contents has_failed room old next rec × AreLogged contents has_failed room next new recs
 
 -- a record that may be written, of bytes and not empty, and the entries that it holds
-pub record HasEntries (r : List ℕ × List Entry) : Type 0 where
+pub record HoldsEntries (r : List ℕ × List Entry) : Type 0 where
   pub are_bytes : (i : ℕ) → get_or r.0 i 0 < 256
   pub some : 0 < length r.0
   pub entries : record_entries r.0 ≡ Some r.1

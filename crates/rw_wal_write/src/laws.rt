@@ -4,7 +4,7 @@ ghost use Rattle.std.specs.Prelude.{◌≡◌, ℕ, List, [], ◌∷◌, None, A
 ghost use Rattle.std.specs.Io.KnownBytes.{Appends};
 ghost use Rattle.rw_types.specs.declared.entry.Entry.{Entry};
 ghost use Rattle.rw_wal_format.specs.Pieces.{bytes, entries, fault};
-ghost use Rattle.rw_wal_write.specs.Segment.{Segment, AreLogged, HasEntries};
+ghost use Rattle.rw_wal_write.specs.Segment.{Segment, AreLogged, HoldsEntries};
 
 use rw_types::Sink;
 
@@ -12,7 +12,7 @@ use rw_types::Sink;
 /// entries in their order, and no fault.
 pub fn entries_are_read<W: Sink>()
     ensures { (old new : Segment W) (records : List (List ℕ × List Entry)) → old.offset ≡ 0
-        → All HasEntries records
+        → All HoldsEntries records
         → AreLogged W.contents W.has_failed W.room old new (map (λ r. r.0) records)
         → (text : List ℕ) × Appends (W.contents old.sink) (W.contents new.sink) text
         × (entries (bytes text ∷ []) ≡ flat_map (λ r. r.1) records)

@@ -3,7 +3,7 @@
 ghost use Rattle.std.specs.Prelude.{◌≡◌, ◌<◌, ◌≤◌, length, false, true, IfSome, None, Err, IfErr, OnOk};
 ghost use Rattle.rw_wal_format.specs.Pieces.{page_size};
 ghost use Rattle.rw_wal_format.specs.Writing.{log_bytes, room};
-ghost use Rattle.rw_wal_write.specs.Segment.{IsPlace, IsLogged, refusal};
+ghost use Rattle.rw_wal_write.specs.Segment.{IsPlace, IsLogged, log_refusal};
 ghost use Rattle.rw_wal_write.specs.Sinks.{TakesPart};
 
 use crate::fragment::put_record;
@@ -112,9 +112,9 @@ impl<W: Sink> SegmentWriter<W> {
         requires { 0 < length rec.now }
 
         // A refused record writes nothing and leaves the writer as it was.
-        ensures refused { IfSome (refusal self.old (length rec.now)) (λ fault. (result ≡ Err fault)
+        ensures refused { IfSome (log_refusal self.old (length rec.now)) (λ fault. (result ≡ Err fault)
             × (self.new ≡ self.old)) }
-        ensures taken { refusal self.old (length rec.now) ≡ None
+        ensures taken { log_refusal self.old (length rec.now) ≡ None
             → IfErr result (λ fault. fault ≡ LogFault.Device) }
 
         ensures ok { OnOk result

@@ -17,15 +17,15 @@ use Rattle.rw_shard_core.specs.Shard.{Core, is_empty, is_due, can_take, take_ite
 use Rattle.rw_shard_core.specs.declared.config.Target.{Target}
 use Rattle.rw_worker.specs.declared.transport.Reply.{Reply}
 use Rattle.rw_worker.specs.declared.transport.Lost.{Lost}
-use Rattle.rw_worker.specs.Cut.{cutting, close, one_of, cut_by}
-use Rattle.rw_worker.specs.Transcript.{Exchange, IsAgain, exchange_of, status_of, with_names, names_after}
-use Rattle.rw_worker.specs.Steps.{Working, working, new_working, Step, Takes, Freezes, Sends, Waits, MayStep, AreSteps, after, after_step, items_of, exchanges_of, answered, unsettled, growing, IsTranscriptOf, IsWorked}
-use Rattle.rw_worker.proofs.StepLemmas.{items-append, exchanges-append}
+use Rattle.rw_worker.specs.Cut.{cutting, close_batch, one_of, cut_by}
+use Rattle.rw_worker.specs.Transcript.{Exchange, IsAgain, exchange_of, reply_of_status, with_names, names_after}
+use Rattle.rw_worker.specs.Steps.{Working, working, new_working, Step, Takes, Freezes, Sends, Waits, MayStep, AreSteps, after, after_step, items_of, exchanges_of, after_attempt, unsettled, growing, IsTranscriptOf, HasWorked}
+use Rattle.rw_worker.proofs.shared.StepLemmas.{items-append, exchanges-append}
 use Rattle.rw_worker.proofs.CutLemmas.{fill}
 use Rattle.rw_worker.proofs.TranscriptLemmas.{transcript-take, transcript-again, transcript-settle}
-use Rattle.rw_shard_core.proofs.EmptyLemmas.{nil_from_empty, is_empty-push}
-use Rattle.rw_shard_core.proofs.StepGuards.{take_parts, freeze_parts, send_parts, sent_core, send-is, sent-awaits, sent-answers}
-use Rattle.rw_plain_queue.proofs.Histories.{samples_in-append}
+use Rattle.rw_shard_core.proofs.shared.EmptyLemmas.{nil_from_empty, is_empty-push}
+use Rattle.rw_shard_core.proofs.shared.StepGuards.{take_parts, freeze_parts, send_parts, sent_core, send-is, sent-awaits, sent-answers}
+use Rattle.rw_plain_queue.proofs.shared.Histories.{samples_in-append}
 
 -- what no step touches
 pub record Untouched (target : Target) (epoch shard n : ℕ) (its : Target) (its_epoch its_shard full : ℕ) (killed : Bool) : Type 0 where
@@ -45,7 +45,7 @@ pub record Keeps (target : Target) (epoch shard n : ℕ) (items : List Item) (ex
   pub one : is_empty w.core.batch ≡ false → w.core.builder ≡ []
   pub due_some : is_due w.core ≡ true → is_empty w.core.builder ≡ false
   pub room : w.ledger.room ≡ length w.core.batch
-  pub worked : IsWorked n items exchanges w
+  pub worked : HasWorked n items exchanges w
 
 -- the samples that are not settled, and those that wait for more
 pub unsettled-due : (c : Core) → is_empty c.batch ≡ true → is_due c ≡ true → unsettled c ≡ c.builder
@@ -100,7 +100,7 @@ mark_growing : (c : Core) (ended : Bool) → is_empty c.batch ≡ true → nat_l
 mark_growing c ended e f = rw e (ap (λ b. cond b [] c.builder) (mark_due c ended f) ∙ closed_rest c.builder)
 
 -- the transcript if nothing is due
-still : (n : ℕ) (items : List Item) (es : List Exchange) (w : Working) → IsWorked n items es w → can_take w.core ≡ true → IsTranscriptOf w.core.target n items es [] w.core.builder w.core.resolved w.ledger.names
+still : (n : ℕ) (items : List Item) (es : List Exchange) (w : Working) → HasWorked n items es w → can_take w.core ≡ true → IsTranscriptOf w.core.target n items es [] w.core.builder w.core.resolved w.ledger.names
 still n items es w h can =
     let p = take_parts w.core can in
     subst (λ (r : List Placed). IsTranscriptOf w.core.target n items es [] r w.core.resolved w.ledger.names) (growing-not w.core p.none p.not_due)
@@ -110,7 +110,7 @@ module _ (target : Target) (epoch shard n : ℕ) (items : List Item) (es : List 
   abbrev Before : Type 0
   Before = Keeps target epoch shard n items es (working c l)
 
-  keeps_mark : (x : Item) (ended : Bool) → Before → can_take c ≡ true → samples_in (x ∷ []) ≡ [] → ((bs : List (List Placed)) (r : List Placed) → cut_by n (cutting bs r) x ≡ close (cutting bs r))
+  keeps_mark : (x : Item) (ended : Bool) → Before → can_take c ≡ true → samples_in (x ∷ []) ≡ [] → ((bs : List (List Placed)) (r : List Placed) → cut_by n (cutting bs r) x ≡ close_batch (cutting bs r))
       → Keeps target epoch shard n (items ++ x ∷ []) es (working (with_mark c ended) l)
   keeps_mark x ended h can none by =
       let p = take_parts c can in record {
@@ -127,7 +127,7 @@ module _ (target : Target) (epoch shard n : ℕ) (items : List Item) (es : List 
       }
 
   keeps_sample : (x : Item) (y : Placed) → Before → can_take c ≡ true → samples_in (x ∷ []) ≡ y ∷ []
-      → ((bs : List (List Placed)) (r : List Placed) → cut_by n (cutting bs r) x ≡ cond (nat_le n (length (r ++ y ∷ []))) (close (cutting bs (r ++ y ∷ []))) (cutting bs (r ++ y ∷ [])))
+      → ((bs : List (List Placed)) (r : List Placed) → cut_by n (cutting bs r) x ≡ cond (nat_le n (length (r ++ y ∷ []))) (close_batch (cutting bs (r ++ y ∷ []))) (cutting bs (r ++ y ∷ [])))
       → Keeps target epoch shard n (items ++ x ∷ []) es (working (with_sample c y) l)
   keeps_sample x y h can sample by =
       let p = take_parts c can in
@@ -192,7 +192,7 @@ module _ (target : Target) (epoch shard n : ℕ) (items : List Item) (es : List 
   replied status can = rw (sent-answers c can) refl
 
   -- the transcript if a batch is open
-  open' : IsWorked n items es (working c l) → is_empty c.batch ≡ false → IsTranscriptOf c.target n items es c.batch [] c.resolved l.names
+  open' : HasWorked n items es (working c l) → is_empty c.batch ≡ false → IsTranscriptOf c.target n items es c.batch [] c.resolved l.names
   open' h e =
       subst (λ (r : List Placed). IsTranscriptOf c.target n items es c.batch r c.resolved l.names) (growing-open c e)
       (subst (λ (u : List Placed). IsTranscriptOf c.target n items es u (growing c) c.resolved l.names) (unsettled-open c e) h)
@@ -204,7 +204,7 @@ module _ (target : Target) (epoch shard n : ℕ) (items : List Item) (es : List 
   settled_core = record c { resolved = c.resolved ++ c.batch; batch = []; waiting = false }
 
   keeps_settle : (status room : ℕ) (names : FinMap nat_cmp Reason) → Before → can_send c ≡ true → (judgement_of status ≡ Again → ⊥) → room ≡ l.room - length c.batch → names ≡ with_names l.names (record { samples = c.batch; status = status })
-      → Keeps target epoch shard n items (es ++ exchange (status_of status) ∷ []) (working settled_core (record { names = names; room = room }))
+      → Keeps target epoch shard n items (es ++ exchange (reply_of_status status) ∷ []) (working settled_core (record { names = names; room = room }))
   keeps_settle status room names h can final room_is names_is =
       let p = send_parts c can in
       let none = h.one p.some in
@@ -218,19 +218,19 @@ module _ (target : Target) (epoch shard n : ℕ) (items : List Item) (es : List 
         one = λ e. absurd (true≢false e);
         due_some = idle;
         room = room_is ∙ (let r = h.room in omega arith);
-        worked = worked_at none (subst (λ (m : FinMap nat_cmp Reason). IsTranscriptOf c.target n items (es ++ exchange (status_of status) ∷ []) [] [] (c.resolved ++ c.batch) m) (sym names_is) later);
+        worked = worked_at none (subst (λ (m : FinMap nat_cmp Reason). IsTranscriptOf c.target n items (es ++ exchange (reply_of_status status) ∷ []) [] [] (c.resolved ++ c.batch) m) (sym names_is) later);
       }
     where
       at_none : c.builder ≡ [] → (b : Bool) → (cond b c.builder [] ≡ []) × (cond b [] c.builder ≡ [])
       at_none e true = (e, refl)
       at_none e false = (refl, e)
 
-      worked_at : c.builder ≡ [] → IsTranscriptOf c.target n items (es ++ exchange (status_of status) ∷ []) [] [] (c.resolved ++ c.batch) names
-          → IsTranscriptOf c.target n items (es ++ exchange (status_of status) ∷ []) (unsettled settled_core) (growing settled_core) (c.resolved ++ c.batch) names
+      worked_at : c.builder ≡ [] → IsTranscriptOf c.target n items (es ++ exchange (reply_of_status status) ∷ []) [] [] (c.resolved ++ c.batch) names
+          → IsTranscriptOf c.target n items (es ++ exchange (reply_of_status status) ∷ []) (unsettled settled_core) (growing settled_core) (c.resolved ++ c.batch) names
       worked_at e t =
           let s = at_none e (is_due settled_core) in
-          subst (λ (u : List Placed). IsTranscriptOf c.target n items (es ++ exchange (status_of status) ∷ []) u (growing settled_core) (c.resolved ++ c.batch) names) (sym s.0)
-          (subst (λ (r : List Placed). IsTranscriptOf c.target n items (es ++ exchange (status_of status) ∷ []) [] r (c.resolved ++ c.batch) names) (sym s.1) t)
+          subst (λ (u : List Placed). IsTranscriptOf c.target n items (es ++ exchange (reply_of_status status) ∷ []) u (growing settled_core) (c.resolved ++ c.batch) names) (sym s.0)
+          (subst (λ (r : List Placed). IsTranscriptOf c.target n items (es ++ exchange (reply_of_status status) ∷ []) [] r (c.resolved ++ c.batch) names) (sym s.1) t)
 
   abbrev AfterAnswer : Result Reply Lost → Working → Type 0
   AfterAnswer answer w = Keeps target epoch shard n items (es ++ exchange answer ∷ []) w
@@ -253,7 +253,7 @@ module _ (target : Target) (epoch shard n : ℕ) (items : List Item) (es : List 
             (transcript-again c.target n items es c.batch [] c.resolved l.names answer (open' h.worked p.some) p.some again));
       }
 
-  keeps_judged : (status : ℕ) (j : Judgement) → judgement_of status ≡ j → Before → can_send c ≡ true → AfterAnswer (status_of status) (settled_by j status)
+  keeps_judged : (status : ℕ) (j : Judgement) → judgement_of status ≡ j → Before → can_send c ≡ true → AfterAnswer (reply_of_status status) (settled_by j status)
   keeps_judged status Done e h can = keeps_settle status (l.room - length c.batch) l.names h can (λ a. not_again (sym a ∙ e)) refl (rw e refl)
     where
       not_again : Again ≡ Done → ⊥
@@ -262,9 +262,9 @@ module _ (target : Target) (epoch shard n : ℕ) (items : List Item) (es : List 
     where
       not_again : Again ≡ Refused → ⊥
       not_again x = cc
-  keeps_judged status Again e h can = keeps_lost (status_of status) e h can
+  keeps_judged status Again e h can = keeps_lost (reply_of_status status) e h can
 
-  keeps_answered : (answer : Result Reply Lost) → Before → can_send c ≡ true → AfterAnswer answer (answered answer (working (sent_core c) l))
+  keeps_answered : (answer : Result Reply Lost) → Before → can_send c ≡ true → AfterAnswer answer (after_attempt answer (working (sent_core c) l))
   keeps_answered (Ok r) h can = subst (λ (w : Working). AfterAnswer (Ok r) w) (sym (replied r.status can)) (keeps_judged r.status (judgement_of r.status) refl h can)
   keeps_answered (Err lost) h can = subst (λ (w : Working). AfterAnswer (Err lost) w) (sym (lost_is can)) (keeps_lost (Err lost) tt h can)
     where
@@ -272,10 +272,10 @@ module _ (target : Target) (epoch shard n : ℕ) (items : List Item) (es : List 
       lost_is s = rw (sent-awaits c s) refl
 
   -- the request of the open batch was sent
-  pub keeps-send : (e : Exchange) → Before → can_send c ≡ true → e.request ≡ request_for c → Keeps target epoch shard n items (es ++ e ∷ []) (answered e.answer (working (send c) l))
+  pub keeps-send : (e : Exchange) → Before → can_send c ≡ true → e.request ≡ request_for c → Keeps target epoch shard n items (es ++ e ∷ []) (after_attempt e.answer (working (send c) l))
   keeps-send e h can request =
-      subst (λ (s : Core). Keeps target epoch shard n items (es ++ e ∷ []) (answered e.answer (working s l))) (sym (send-is c can))
-      (subst (λ (r : List ℕ). Keeps target epoch shard n items (es ++ exchange_of r e.answer ∷ []) (answered e.answer (working (sent_core c) l))) (sym request) (keeps_answered e.answer h can))
+      subst (λ (s : Core). Keeps target epoch shard n items (es ++ e ∷ []) (after_attempt e.answer (working s l))) (sym (send-is c can))
+      (subst (λ (r : List ℕ). Keeps target epoch shard n items (es ++ exchange_of r e.answer ∷ []) (after_attempt e.answer (working (sent_core c) l))) (sym request) (keeps_answered e.answer h can))
 
 pub frozen-builder : (c : Core) → can_freeze c ≡ true → (freeze c).builder ≡ []
 frozen-builder c can = rw can refl
@@ -295,7 +295,7 @@ sent_builder true c = refl
 sent_builder false c = refl
 
 -- an attempt leaves the builder
-pub answered-builder : (answer : Result Reply Lost) (w : Working) → (answered answer (working (send w.core) w.ledger)).core.builder ≡ w.core.builder
+pub answered-builder : (answer : Result Reply Lost) (w : Working) → (after_attempt answer (working (send w.core) w.ledger)).core.builder ≡ w.core.builder
 answered-builder (Ok r) w = let c = send w.core in settled_builder (is_answer (batch_id c.batch) c) (judgement_of r.status) c ∙ sent_builder (can_send w.core) w.core
 answered-builder (Err lost) w = let c = send w.core in lost_builder (awaits c) c ∙ sent_builder (can_send w.core) w.core
 

@@ -1,4 +1,3 @@
-pub mod StepLemmas
 pub mod PauseLemmas
 pub mod CutLemmas
 pub mod TranscriptLemmas
@@ -6,3 +5,4 @@ pub mod KeepsLemmas
 pub mod NameLemmas
 pub mod TakeLemmas
 pub mod StateLemmas
+pub mod shared

@@ -11,9 +11,9 @@ use Rattle.rw_retry.specs.declared.judgement.Judgement.{Judgement}
 use Rattle.rw_retry.specs.declared.judgement.Judgement.TheVariants.{Done, Again, Refused}
 use Rattle.rw_plain_queue.specs.Items.{Placed}
 use Rattle.rw_shard_core.specs.Shard.{AreInRow, positions, name_all}
-use Rattle.rw_worker.specs.Transcript.{Settled, samples_of, names_after, with_names}
-use Rattle.rw_types.proofs.TimeLemmas.{nat_cmp-apart}
-use Rattle.rw_shard_core.proofs.NamingLemmas.{AreInRow-rest}
+use Rattle.rw_worker.specs.Transcript.{Settled, samples_settled, names_after, with_names}
+use Rattle.rw_types.proofs.shared.TimeLemmas.{nat_cmp-apart}
+use Rattle.rw_shard_core.proofs.shared.NamingLemmas.{AreInRow-rest}
 
 -- all these samples are before this position
 abbrev pub AreBelow : ℕ → List Placed → Type 0
@@ -55,10 +55,10 @@ settled_before Done p b names h none = none
 settled_before Again p b names h none = none
 settled_before Refused p b names h none = name_before b.status p b.samples names h none
 
-pub names_before : (p : ℕ) (bs : List Settled) (names : FinMap nat_cmp Reason) → AreBelow p (samples_of bs) → get names p ≡ None → get (fold with_names names bs) p ≡ None
+pub names_before : (p : ℕ) (bs : List Settled) (names : FinMap nat_cmp Reason) → AreBelow p (samples_settled bs) → get names p ≡ None → get (fold with_names names bs) p ≡ None
 names_before p [] names h none = none
 names_before p (b ∷ bs) names h none =
-    names_before p bs (with_names names b) (below_rest p b.samples (samples_of bs) h) (settled_before (judgement_of b.status) p b names (below_front p b.samples (samples_of bs) h) none)
+    names_before p bs (with_names names b) (below_rest p b.samples (samples_settled bs) h) (settled_before (judgement_of b.status) p b names (below_front p b.samples (samples_settled bs) h) none)
 
 all_unnamed : (done : List Placed) (names : FinMap nat_cmp Reason) → ((p : ℕ) → AreBelow p done → get names p ≡ None) → (y : Placed) (ys rest : List Placed) → AreBelow y.place.pos done → AreInRow (y ∷ (ys ++ rest))
     → (k d : ℕ) → k < length (positions (y ∷ ys)) → get names (slice_index_or (positions (y ∷ ys)) k d) ≡ None

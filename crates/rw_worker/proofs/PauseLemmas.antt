@@ -3,7 +3,7 @@ use Rattle.std.proofs.Common.{◌≡◌, ℕ, zero, suc, ◌+◌, ◌-◌, ◌^�
 use Rattle.std.proofs.lemmas.Bool.Decides.{nat_tests}
 use Rattle.std.proofs.Math.Nat.{min-eq_left, min-eq_right, zero-mul}
 use Rattle.rw_retry.specs.Backoff.{delay_of}
-use Rattle.rw_retry.proofs.BackoffLemmas.{late}
+use Rattle.rw_retry.proofs.shared.BackoffLemmas.{late}
 use Rattle.rw_worker.specs.Transcript.{is_again}
 use Rattle.rw_worker.specs.Steps.{Step, Takes, Freezes, Sends, Waits}
 use Rattle.rw_worker.specs.Pauses.{pause_after, retries_after, retries_of, pauses_of}

@@ -11,7 +11,7 @@ use Rattle.rw_plain_queue.specs.declared.item.Item.{Item}
 use Rattle.rw_plain_queue.specs.declared.item.Item.TheVariants as item
 use Rattle.rw_plain_queue.specs.declared.item.Kind.{Kind}
 use Rattle.rw_plain_queue.specs.declared.item.Kind.TheVariants.{Orderly, Reshard, Hard}
-use Rattle.rw_plain_queue.proofs.Histories.{history-nil}
+use Rattle.rw_plain_queue.proofs.shared.Histories.{history-nil}
 use Rattle.rw_shard_queue.specs.Ends.{QueueId, Draining}
 use Rattle.rw_shard_core.specs.Shard.{Core, IsCore, AreInRow, HasRoomFor, is_empty, is_due, can_take, can_freeze, can_send, freeze, freeze_room, take_item, pending, places_of, request_for, MayTake}
 use Rattle.rw_worker.specs.declared.report.TakingEnd.{TakingEnd}
@@ -24,19 +24,21 @@ use Rattle.rw_worker.specs.declared.state.Sending.{Sending}
 use Rattle.rw_worker.specs.declared.state.Progress.TheVariants.{Stops}
 use Rattle.rw_worker.specs.Stops.{StopRead, IsStill, HasReason}
 use Rattle.rw_worker.specs.Transcript.{Exchange, exchange_of, Adds}
-use Rattle.rw_worker.specs.Steps.{Working, working, Step, Takes, Freezes, Sends, Waits, MayStep, after, after_step, items_of, exchanges_of, WasSent}
+use Rattle.rw_worker.specs.Steps.{Working, working, Step, Takes, Freezes, Sends, Waits, MayStep, after, after_step, items_of, exchanges_of}
+use Rattle.rw_worker.specs.inner.Steps.{WasSent}
 use Rattle.rw_worker.specs.Pauses.{pause_after, retries_after, retries_of}
 use Rattle.rw_retry.specs.Backoff.{delay_of}
-use Rattle.rw_worker.specs.Setups.{Setup, start_of}
-use Rattle.rw_worker.specs.Report.{is_hard, drain_of, IsOrderly, StopsAtHard, IsLast, intake_drain, given_back, report_of, IsClosed, counted_to, HasMade, HasStepped, HasPaused, IsSending, IsState, HasRun, IsStoppedAt}
-use Rattle.rw_worker.proofs.StepLemmas.{steps-push, after-push, items-append, exchanges-append}
+use Rattle.rw_worker.specs.Setups.{WorkerSetup, start_of}
+use Rattle.rw_worker.specs.Report.{is_hard, drain_of, IsOrderly, StopsAtHard, IsLast, intake_drain, given_back, report_of, IsClosed, counted_to, HasMade, HasStepped, HasPaused, IsSending, IsState, HasRun}
+use Rattle.rw_worker.specs.inner.Report.{IsStoppedAt}
+use Rattle.rw_worker.proofs.shared.StepLemmas.{steps-push, after-push, items-append, exchanges-append}
 use Rattle.rw_worker.proofs.PauseLemmas.{pauses-push, retries-push, same-pause, counted-after, counted-same}
 use Rattle.rw_worker.proofs.TranscriptLemmas.{adds-append}
 use Rattle.rw_worker.proofs.KeepsLemmas.{Keeps, keeps-steps, keeps-start, answered-builder, frozen-builder}
 use Rattle.rw_worker.proofs.NameLemmas.{unnamed, names_before, AreBelow}
 use Rattle.rw_worker.proofs.TakeLemmas.{may-take, few}
-use Rattle.rw_shard_core.proofs.EmptyLemmas.{nil_from_empty}
-use Rattle.rw_shard_core.proofs.StepGuards.{take_parts, due_if_full}
+use Rattle.rw_shard_core.proofs.shared.EmptyLemmas.{nil_from_empty}
+use Rattle.rw_shard_core.proofs.shared.StepGuards.{take_parts, due_if_full}
 
 -- nothing was added
 pub adds-none : {X : Type 0} (a : Type 0) (old : List X) → Adds a a old old []
@@ -62,7 +64,7 @@ few_left n resolved c items taken whole fits counted =
     let waits = length-append c.batch c.builder in
     omega arith
 
-module _ {T P : Type 0} (tells : T → Type 0) (seen : T → List Exchange) (waits : P → Type 0) (paused : P → List ℕ) (setup : Setup) (begun : T) (first : P) where
+module _ {T P : Type 0} (tells : T → Type 0) (seen : T → List Exchange) (waits : P → Type 0) (paused : P → List ℕ) (setup : WorkerSetup) (begun : T) (first : P) where
   abbrev Going : Draining → Sending T → P → Type 0
   Going drain s p = IsSending tells seen waits paused setup begun first drain s p
 

@@ -3,13 +3,13 @@ use Rattle.std.proofs.Common.{◌≡◌, ℕ, suc, ◌<◌, ◌≤◌, ◌^◌, 
 use Rattle.std.proofs.lemmas.List.{map-append, length-map}
 use Rattle.std.specs.Prelude.{slice_get}
 use Rattle.rw_types.specs.declared.place.Place.{Place}
-use Rattle.rw_types.proofs.RisingLemmas.{Rises-get}
+use Rattle.rw_types.proofs.shared.RisingLemmas.{Rises-get}
 use Rattle.rw_plain_queue.specs.Items.{Placed, samples_in, places_in}
 use Rattle.rw_plain_queue.specs.History.{IsHistory, StandsBefore}
 use Rattle.rw_plain_queue.specs.declared.item.Item.{Item}
 use Rattle.rw_plain_queue.specs.declared.item.Item.TheVariants.{Sample, Flush, End}
-use Rattle.rw_plain_queue.proofs.Histories.{places_in-append}
-use Rattle.rw_shard_core.specs.Shard.{Core, MayTake, last_of, places_of, placed, IsNext}
+use Rattle.rw_plain_queue.proofs.shared.Histories.{places_in-append}
+use Rattle.rw_shard_core.specs.Shard.{Core, MayTake, last_sample, places_of, placed, IsNext}
 
 pub places_are : (xs : List Item) → places_of (samples_in xs) ≡ places_in xs
 places_are [] = refl
@@ -29,7 +29,7 @@ get_after : (ps : List Place) (p q : Place) → slice_get (ps ++ p ∷ q ∷ [])
 get_after [] p q = refl
 get_after (r ∷ rs) p q = get_after rs p q
 
-last_split : (xs : List Placed) (y : Placed) → last_of xs ≡ Some y → (ys : List Placed) × (xs ≡ ys ++ y ∷ [])
+last_split : (xs : List Placed) (y : Placed) → last_sample xs ≡ Some y → (ys : List Placed) × (xs ≡ ys ++ y ∷ [])
 last_split [] y e = absurd (cc)
 last_split (x ∷ []) y e = ([], ap (λ z. z ∷ []) (let same : x ≡ y = cc in same))
 last_split (x ∷ z ∷ zs) y e = let h = last_split (z ∷ zs) y e in (x ∷ h.0, ap (λ ws. x ∷ ws) h.1)
@@ -52,9 +52,9 @@ may-take epoch shard items (Sample p t w l) c taken in_epoch in_shard h =
     let ps = places_in items in
     let at : slice_get (places_in (items ++ Sample p t w l ∷ [])) (length ps) ≡ Some p = ap (λ qs. slice_get qs (length ps)) (places_in-append items (Sample p t w l ∷ [])) ∙ get_last ps p in
     let named = h.named (length ps) p at in
-    (named.0 ∙ sym in_epoch, named.1 ∙ sym in_shard, next (last_of c.taken) refl)
+    (named.0 ∙ sym in_epoch, named.1 ∙ sym in_shard, next (last_sample c.taken) refl)
   where
-    next : (o : Option Placed) → last_of c.taken ≡ o → IfSome o (λ y. IsNext y (placed p t w l.value))
+    next : (o : Option Placed) → last_sample c.taken ≡ o → IfSome o (λ y. IsNext y (placed p t w l.value))
     next None e = tt
     next (Some y) e = let s = last_split c.taken y e in follows epoch shard items (Sample p t w l) (placed p t w l.value) y s.0 h refl (sym taken ∙ s.1)
 may-take epoch shard items Flush c taken in_epoch in_shard h = tt

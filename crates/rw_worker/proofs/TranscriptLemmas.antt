@@ -14,7 +14,7 @@ use Rattle.rw_shard_core.specs.declared.config.Target.{Target}
 use Rattle.rw_worker.specs.declared.transport.Reply.{Reply}
 use Rattle.rw_worker.specs.declared.transport.Lost.{Lost}
 use Rattle.rw_worker.specs.Cut.{Cutting, cutting, one_of, cut_by}
-use Rattle.rw_worker.specs.Transcript.{Exchange, exchange_of, status_of, IsAgain, batch_request, AreTries, AreTriesOf, Settled, Settles, IsTranscript, samples_of, with_names, Adds}
+use Rattle.rw_worker.specs.Transcript.{Exchange, exchange_of, reply_of_status, IsAgain, batch_request, AreTries, AreTriesOf, Settled, Settles, IsTranscript, samples_settled, with_names, Adds}
 use Rattle.rw_worker.specs.Steps.{IsTranscriptOf}
 use Rattle.rw_worker.proofs.CutLemmas.{cut-push}
 
@@ -31,9 +31,9 @@ transcript-push : (target : Target) (bs : List Settled) (es fs : List Exchange) 
 transcript-push target [] es fs b h s = (fs, [], ap (λ xs. xs ++ fs) h ∙ sym (append-nil fs), s, refl)
 transcript-push target (x ∷ xs) es fs b h s = (h.0, h.1 ++ fs, ap (λ ys. ys ++ fs) h.2 ∙ append_assoc h.0 h.1 fs, h.3, transcript-push target xs h.1 fs b h.4 s)
 
-samples-push : (bs : List Settled) (b : Settled) → samples_of (bs ++ b ∷ []) ≡ samples_of bs ++ b.samples
+samples-push : (bs : List Settled) (b : Settled) → samples_settled (bs ++ b ∷ []) ≡ samples_settled bs ++ b.samples
 samples-push [] b = append-nil b.samples
-samples-push (x ∷ xs) b = ap (λ ys. x.samples ++ ys) (samples-push xs b) ∙ sym (append_assoc x.samples (samples_of xs) b.samples)
+samples-push (x ∷ xs) b = ap (λ ys. x.samples ++ ys) (samples-push xs b) ∙ sym (append_assoc x.samples (samples_settled xs) b.samples)
 
 names-push : (names : FinMap nat_cmp Reason) (bs : List Settled) (b : Settled) → fold with_names names (bs ++ b ∷ []) ≡ with_names (fold with_names names bs) b
 names-push names [] b = refl
@@ -83,11 +83,11 @@ transcript-again target n items es (x ∷ xs) rest resolved names answer h some 
 -- the batch was settled
 pub transcript-settle : (target : Target) (n : ℕ) (items : List Item) (es : List Exchange) (unsent resolved : List Placed) (names : FinMap nat_cmp Reason) (status : ℕ)
     → IsTranscriptOf target n items es unsent [] resolved names → is_empty unsent ≡ false → (judgement_of status ≡ Again → ⊥)
-    → IsTranscriptOf target n items (es ++ exchange_of (batch_request target unsent) (status_of status) ∷ []) [] [] (resolved ++ unsent) (with_names names (record { samples = unsent; status = status }))
+    → IsTranscriptOf target n items (es ++ exchange_of (batch_request target unsent) (reply_of_status status) ∷ []) [] [] (resolved ++ unsent) (with_names names (record { samples = unsent; status = status }))
 transcript-settle target n items es [] resolved names status h some final = absurd (cc)
 transcript-settle target n items es (x ∷ xs) resolved names status h some final =
     let b : Settled = record { samples = x ∷ xs; status = status } in
-    let e = exchange_of (batch_request target (x ∷ xs)) (status_of status) in
+    let e = exchange_of (batch_request target (x ∷ xs)) (reply_of_status status) in
     let settles : Settles target b (h.tries ++ e ∷ []) = record { some = refl; tries = h.tries; tried = h.tried; is = refl; final = final } in record {
       settled = h.settled ++ b ∷ [];
       batches = h.batches ∙ ap (λ bs. cutting bs []) (sym (map-append (λ (s : Settled). s.samples) h.settled (b ∷ [])) ∙ sym (append-nil (map (λ (s : Settled). s.samples) (h.settled ++ b ∷ []))));

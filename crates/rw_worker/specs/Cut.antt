@@ -20,17 +20,17 @@ one_of [] = []
 one_of (x ∷ xs) = (x ∷ xs) ∷ []
 
 -- the samples after the batches are one batch more
-abbrev pub close : Cutting → Cutting
-close c = cutting (c.batches ++ one_of c.rest) []
+abbrev pub close_batch : Cutting → Cutting
+close_batch c = cutting (c.batches ++ one_of c.rest) []
 
 abbrev pub close_if_full : ℕ → Cutting → Cutting
-close_if_full n c = if nat_le n (length c.rest) then close c else c
+close_if_full n c = if nat_le n (length c.rest) then close_batch c else c
 
 -- with one item more
 abbrev pub cut_by : ℕ → Cutting → Item → Cutting
 cut_by n c (Sample place t word labels) = close_if_full n (cutting c.batches (c.rest ++ placed place t word labels.value ∷ []))
-cut_by n c Flush = close c
-cut_by n c (End kind) = close c
+cut_by n c Flush = close_batch c
+cut_by n c (End kind) = close_batch c
 
 -- the items cut into batches of n samples
 abbrev pub cut : ℕ → List Item → Cutting

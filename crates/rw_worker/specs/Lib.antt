@@ -5,3 +5,4 @@ pub mod Pauses
 pub mod Setups
 pub mod Stops
 pub mod Report
+pub mod inner

@@ -1,5 +1,5 @@
 -- How far a worker is, and what it reports of its run.
-use Rattle.std.specs.Prelude.{◌≡◌, ℕ, ◌+◌, ◌-◌, ◌^◌, ◌<◌, ◌≤◌, min, Bool, true, false, List, [], ◌∷◌, ◌++◌, length, Option, None, IfSome, ⊤}
+use Rattle.std.specs.Prelude.{◌≡◌, ℕ, ◌+◌, ◌-◌, ◌^◌, ◌<◌, ◌≤◌, min, Bool, true, false, List, [], ◌∷◌, ◌++◌, length, Option, None, ⊤}
 use Rattle.rw_plain_queue.specs.Items.{samples_in}
 use Rattle.rw_plain_queue.specs.declared.item.Item.{Item}
 use Rattle.rw_plain_queue.specs.History.{IsHistory}
@@ -19,8 +19,8 @@ use Rattle.rw_worker.specs.declared.state.Progress.{Progress}
 use Rattle.rw_worker.specs.declared.state.Progress.TheVariants.{Goes, Stops}
 use Rattle.rw_worker.specs.Stops.{StopRead, IsStill, HasReason}
 use Rattle.rw_worker.specs.Transcript.{Exchange, Adds}
-use Rattle.rw_worker.specs.Setups.{Setup, start_of}
-use Rattle.rw_worker.specs.Steps.{Step, Takes, working, MayStep, AreSteps, after_step, after, items_of, exchanges_of, IsWorked}
+use Rattle.rw_worker.specs.Setups.{WorkerSetup, start_of}
+use Rattle.rw_worker.specs.Steps.{Step, Takes, working, MayStep, AreSteps, after_step, after, items_of, exchanges_of, HasWorked}
 use Rattle.rw_worker.specs.Pauses.{pause_after, retries_after, retries_of, pauses_of}
 
 abbrev pub is_hard : Kind → Bool
@@ -72,7 +72,7 @@ IsClosed (intake.Ended Hard d) c = ⊥
 IsClosed (intake.Ended Orderly d) c = is_due c ≡ false → c.builder ≡ []
 IsClosed (intake.Ended Reshard d) c = is_due c ≡ false → c.builder ≡ []
 
-module _ {T : Type 0} (tells : T → Type 0) (seen : T → List Exchange) (setup : Setup) (begun : T) where
+module _ {T : Type 0} (tells : T → Type 0) (seen : T → List Exchange) (setup : WorkerSetup) (begun : T) where
   -- these steps were made: they took what the end of the queue gave, and added their exchanges to
   -- those of the transport
   pub record HasMade (drain : Draining) (transport : T) (steps : List Step) : Type 0 where
@@ -87,7 +87,7 @@ module _ {T : Type 0} (tells : T → Type 0) (seen : T → List Exchange) (setup
   pub record IsReport (r : WorkerReport T) : Type 0 where
     pub steps : List Step
     pub made : HasMade (drain_of r.end) r.transport steps
-    pub worked : IsWorked setup.batch (drain_of r.end).taken (exchanges_of steps) (after (start_of setup) steps)
+    pub worked : HasWorked setup.batch (drain_of r.end).taken (exchanges_of steps) (after (start_of setup) steps)
     pub target : (after (start_of setup) steps).core.target ≡ setup.target
     pub counted : r.resolved ≡ length (after (start_of setup) steps).core.resolved
     pub few : length (samples_in (drain_of r.end).taken) ≤ r.resolved + setup.batch
@@ -118,7 +118,7 @@ module _ {T P : Type 0} (tells : T → Type 0) (seen : T → List Exchange) (wai
   StepsOn s (Goes i) v p q = HasStepped s v p q
   StepsOn s (Stops end stopped _) v p q = ⊤
 
-  module _ (setup : Setup) (begun : T) (first : P) where
+  module _ (setup : WorkerSetup) (begun : T) (first : P) where
     -- these pauses were made, which are those after the steps
     abbrev pub HasPaused : P → List Step → Type 0
     HasPaused pause steps = Adds (waits first) (waits pause) (paused first) (paused pause) (pauses_of setup.min_backoff setup.max_backoff 0 steps)
@@ -159,13 +159,3 @@ module _ {T P : Type 0} (tells : T → Type 0) (seen : T → List Exchange) (wai
 
   abbrev pub IsProgressFrom : Start T P → Progress → Sending T → P → Type 0
   IsProgressFrom b n s pause = IsProgress b.worker.value b.transport.value b.pause.value n s pause
-
--- no stop flag was read as set
-abbrev pub IsNotStopped : Progress → Type 0
-IsNotStopped (Goes i) = ⊤
-IsNotStopped (Stops end stopped _) = stopped ≡ None
-
--- a worker that reports a stop flag read this one, and has done nothing since
-abbrev pub IsStoppedAt : {T : Type 0} → ℕ → Intake → Sending T → Progress → Sending T → Type 0
-IsStoppedAt flag i s (Goes j) v = ⊤
-IsStoppedAt flag i s (Stops end stopped _) v = IfSome stopped (λ (f : StopRead). (f ≡ record { flag = flag; resolved = s.resolved }) × (end ≡ given_back i) × (v ≡ s))

@@ -4,7 +4,7 @@ use Rattle.rw_shard_queue.specs.Ends.{QueueId}
 use Rattle.rw_shard_core.specs.declared.config.Target.{Target}
 use Rattle.rw_worker.specs.Steps.{Working, new_working}
 
-pub record Setup : Type 0 where
+pub record WorkerSetup : Type 0 where
   pub queue : QueueId
   pub target : Target
   pub batch : ℕ  -- the samples of a full batch
@@ -12,5 +12,5 @@ pub record Setup : Type 0 where
   pub max_backoff : ℕ
 
 -- the state of its shard before anything was taken
-abbrev pub start_of : Setup → Working
+abbrev pub start_of : WorkerSetup → Working
 start_of s = new_working s.target s.queue.epoch s.queue.shard s.batch

@@ -1,5 +1,5 @@
 -- What a worker does to the state of its shard, step by step.
-use Rattle.std.specs.Prelude.{◌≡◌, ℕ, Bool, true, false, not, List, [], ◌∷◌, ◌++◌, map, Result, Ok, Err, ⊤, if◌then◌else◌}
+use Rattle.std.specs.Prelude.{◌≡◌, ℕ, true, false, List, [], ◌∷◌, ◌++◌, map, Result, Ok, Err, ⊤, if◌then◌else◌}
 use Rattle.std.specs.Ordering.{nat_cmp}
 use Rattle.std.specs.FinMap.{FinMap, empty}
 use Rattle.rw_ledger.specs.declared.ledger.Reason.{Reason}
@@ -10,7 +10,7 @@ use Rattle.rw_shard_core.specs.Shard.{Core, new_core, is_empty, can_take, MayTak
 use Rattle.rw_shard_core.specs.declared.config.Target.{Target}
 use Rattle.rw_worker.specs.declared.transport.Reply.{Reply}
 use Rattle.rw_worker.specs.declared.transport.Lost.{Lost}
-use Rattle.rw_worker.specs.Transcript.{Exchange, exchange_of, is_again, Adds, Settled, IsTranscript, AreTriesOf, samples_of, names_of}
+use Rattle.rw_worker.specs.Transcript.{Exchange, Settled, IsTranscript, AreTriesOf, samples_settled, names_of}
 use Rattle.rw_worker.specs.Cut.{cut, cutting, one_of}
 
 -- a shard and its part of the ledger
@@ -41,14 +41,14 @@ MayStep (Sends e) c = (can_send c ≡ true) × (e.request ≡ request_for c) × 
 MayStep Waits c = can_take c ≡ false
 
 -- an attempt ends with a reply, or is lost
-abbrev pub answered : Result Reply Lost → Working → Working
-answered (Ok r) w = working (reply (batch_id w.core.batch) r.status w.core) (reply_names (batch_id w.core.batch) r.status w.core w.ledger)
-answered (Err lost) w = working (lose w.core) w.ledger
+abbrev pub after_attempt : Result Reply Lost → Working → Working
+after_attempt (Ok r) w = working (reply (batch_id w.core.batch) r.status w.core) (reply_names (batch_id w.core.batch) r.status w.core w.ledger)
+after_attempt (Err lost) w = working (lose w.core) w.ledger
 
 abbrev pub after_step : Step → Working → Working
 after_step (Takes x) w = working (take_item x w.core) w.ledger
 after_step Freezes w = working (freeze w.core) (freeze_room w.core w.ledger)
-after_step (Sends e) w = answered e.answer (working (send w.core) w.ledger)
+after_step (Sends e) w = after_attempt e.answer (working (send w.core) w.ledger)
 after_step Waits w = w
 
 -- steps one after the other, each if it may be made
@@ -93,22 +93,8 @@ pub record IsTranscriptOf (target : Target) (n : ℕ) (items : List Item) (excha
   pub exchanges_are : exchanges ≡ settling ++ tries
   pub transcript : IsTranscript target settled settling
   pub tried : AreTriesOf target unsent tries
-  pub resolved_are : resolved ≡ samples_of settled
+  pub resolved_are : resolved ≡ samples_settled settled
   pub names_are : names ≡ names_of settled
 
-abbrev pub IsWorked : ℕ → List Item → List Exchange → Working → Type 0
-IsWorked n items exchanges w = IsTranscriptOf w.core.target n items exchanges (unsettled w.core) (growing w.core) w.core.resolved w.ledger.names
-
--- a batch is settled or not
-abbrev pub resolved_after : Bool → Core → List Placed
-resolved_after true c = c.resolved ++ c.batch
-resolved_after false c = c.resolved
-
--- The request of the open batch, whose body reads again as its message, was sent and answered.
-pub record WasSent (before now : Type 0) (old new : List Exchange) (w v : Working) (settled : Bool) : Type 0 where
-  pub answer : Result Reply Lost
-  pub told : Adds before now old new (exchange_of (request_for w.core) answer ∷ [])
-  pub becomes : v ≡ after_step (Sends (exchange_of (request_for w.core) answer)) w
-  pub resolved : v.core.resolved ≡ resolved_after settled w.core
-  pub again : is_again answer ≡ not settled
-  pub read : IsReadAgain w.core.batch
+abbrev pub HasWorked : ℕ → List Item → List Exchange → Working → Type 0
+HasWorked n items exchanges w = IsTranscriptOf w.core.target n items exchanges (unsettled w.core) (growing w.core) w.core.resolved w.ledger.names

@@ -1,10 +1,5 @@
 -- What makes a worker stop before its End.
 use Rattle.std.specs.Prelude.{◌≡◌, ◌⊎◌, ℕ, Option, IfSome, IsSome, ⊤}
-use Rattle.rw_shard_queue.specs.Ends.{Draining}
-use Rattle.rw_shard_queue.specs.Taken.{TakesFront}
-use Rattle.rw_shard_queue.specs.declared.ends.Taken.TheVariants as taken
-use Rattle.rw_worker.specs.declared.gone.Next.{Next}
-use Rattle.rw_worker.specs.declared.gone.Next.TheVariants.{Item, End, Gone}
 use Rattle.rw_worker.specs.declared.report.TakingEnd.{TakingEnd}
 use Rattle.rw_worker.specs.declared.report.TakingEnd.TheVariants.{Ended, Killed}
 
@@ -12,12 +7,6 @@ use Rattle.rw_worker.specs.declared.report.TakingEnd.TheVariants.{Ended, Killed}
 pub record StopRead : Type 0 where
   pub flag : ℕ
   pub resolved : ℕ
-
--- the front of the queue is taken; or the feeder is gone, and this many samples are resolved
-abbrev pub TakesNext : Draining → ℕ → Next → Type 0
-TakesNext d resolved (Item x after) = TakesFront d (taken.Item x after)
-TakesNext d resolved (End kind after) = TakesFront d (taken.End kind after)
-TakesNext d resolved (Gone after gone) = (after ≡ d) × (gone ≡ resolved)
 
 -- nothing was resolved since the stop flag was read as set, or since the feeder was found gone
 abbrev pub IsStill : Option StopRead → Option ℕ → ℕ → Type 0

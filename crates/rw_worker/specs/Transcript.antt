@@ -22,8 +22,8 @@ pub record Exchange : Type 0 where
 abbrev pub exchange_of : List ℕ → Result Reply Lost → Exchange
 exchange_of request answer = record { request = request; answer = answer }
 
-abbrev pub status_of : ℕ → Result Reply Lost
-status_of status = Ok (record { status = status })
+abbrev pub reply_of_status : ℕ → Result Reply Lost
+reply_of_status status = Ok (record { status = status })
 
 -- the request is to be sent again
 abbrev pub IsAgain : Result Reply Lost → Type 0
@@ -63,7 +63,7 @@ pub record Settles (target : Target) (b : Settled) (es : List Exchange) : Type 0
   pub some : is_empty b.samples ≡ false
   pub tries : List Exchange
   pub tried : AreTries (batch_request target b.samples) tries
-  pub is : es ≡ tries ++ exchange_of (batch_request target b.samples) (status_of b.status) ∷ []
+  pub is : es ≡ tries ++ exchange_of (batch_request target b.samples) (reply_of_status b.status) ∷ []
   pub final : judgement_of b.status ≡ Again → ⊥
 
 -- the exchanges of these batches, one after the other
@@ -72,9 +72,9 @@ IsTranscript target [] es = es ≡ []
 IsTranscript target (b ∷ bs) es = (first : List Exchange) × (rest : List Exchange) × (es ≡ first ++ rest) × Settles target b first × IsTranscript target bs rest
 
 -- the samples of these batches
-abbrev pub samples_of : List Settled → List Placed
-samples_of [] = []
-samples_of (b ∷ bs) = b.samples ++ samples_of bs
+abbrev pub samples_settled : List Settled → List Placed
+samples_settled [] = []
+samples_settled (b ∷ bs) = b.samples ++ samples_settled bs
 
 abbrev pub names_after : Judgement → Settled → FinMap nat_cmp Reason → FinMap nat_cmp Reason
 names_after Done b names = names

@@ -1,6 +1,6 @@
 //! The end of a worker whose feeder is gone.
 
-ghost use Rattle.rw_worker.specs.Stops.{TakesNext};
+ghost use Rattle.rw_worker.specs.inner.Stops.{TakesNext};
 
 use crate::state::Sending;
 use rw_shard_queue::{Drain, Ended, Item, Killed, Kind, Open, Taken};

@@ -3,7 +3,8 @@
 ghost use Rattle.std.specs.Prelude.{◌≡◌, true, false, not, IfOk, OnErr};
 ghost use Rattle.rw_shard_core.specs.Shard.{HasRoomFor, awaits, can_send, batch_id};
 ghost use Rattle.rw_worker.specs.Transcript.{is_again};
-ghost use Rattle.rw_worker.specs.Steps.{working, answered, resolved_after, WasSent};
+ghost use Rattle.rw_worker.specs.Steps.{working, after_attempt};
+ghost use Rattle.rw_worker.specs.inner.Steps.{resolved_after, WasSent};
 
 use crate::transport::{Lost, Reply, Transport};
 use rw_batch::BatchId;
@@ -17,7 +18,8 @@ fn note(core: &mut ShardCore, ledger: &mut Ledger, id: BatchId, answer: Result<R
     requires waiting { awaits core.old ≡ true }
     requires id { id ≡ batch_id core.old.batch }
     requires room { HasRoomFor core.old ledger.old }
-    ensures becomes { working core.new ledger.new ≡ answered answer (working core.old ledger.old) }
+    ensures becomes { working core.new ledger.new
+        ≡ after_attempt answer (working core.old ledger.old) }
     ensures resolved { core.new.resolved ≡ resolved_after result core.old }
     ensures again { is_again answer ≡ not result }
 {

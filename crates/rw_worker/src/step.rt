@@ -2,7 +2,8 @@
 
 ghost use Rattle.std.specs.Prelude.{◌≡◌, None, Some, true, false};
 ghost use Rattle.rw_shard_core.specs.Shard.{IsCore, can_take, is_empty};
-ghost use Rattle.rw_worker.specs.Report.{is_hard, given_back, IsSendingFrom, IsStateFrom, IsProgressFrom, HasStepped, StepsOn, IsNotStopped, IsStoppedAt};
+ghost use Rattle.rw_worker.specs.Report.{is_hard, given_back, IsSendingFrom, IsStateFrom, IsProgressFrom, HasStepped, StepsOn};
+ghost use Rattle.rw_worker.specs.inner.Report.{IsNotStopped, IsStoppedAt};
 ghost use Rattle.rw_worker.specs.declared.state.Progress.TheVariants as progress;
 
 use crate::gone::{Next, take_next};

@@ -33,9 +33,9 @@ impl Model for Worker {
     ghost use Rattle.std.specs.Prelude.{◌≡◌, ◌<◌, ◌^◌, []};
     ghost use Rattle.std.specs.FinMap.{empty};
     ghost use Rattle.rw_shard_core.specs.Shard.{new_core};
-    ghost use Rattle.rw_worker.specs.Setups.{Setup};
+    ghost use Rattle.rw_worker.specs.Setups.{WorkerSetup};
 
-    ghost Value = { Setup };
+    ghost Value = { WorkerSetup };
 
     ghost view = { λ w. record {
       queue = w.drain.queue;

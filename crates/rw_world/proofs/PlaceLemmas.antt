@@ -8,8 +8,9 @@ use Rattle.rw_machine.specs.Shards.{Shard, has_room, shard_put}
 use Rattle.rw_machine.specs.Worlds.{Setup, World}
 use Rattle.rw_machine.specs.Steps.{change, next_sample, place, place_entry, put_if_room}
 use Rattle.rw_plain_queue.specs.Items.{Placed}
-use Rattle.rw_world_parts.specs.Sending.{Sending, room_at, sample_at, put_to}
-use Rattle.rw_world.specs.Machine.{Machine, next_entry}
+use Rattle.rw_world_parts.specs.Sending.{Sending, has_room_at, next_sample_at, put_to}
+use Rattle.rw_world.specs.Machine.{Machine}
+use Rattle.rw_world.specs.inner.Machine.{next_entry}
 
 -- the next entry is placed, while no shards are drained
 pub place_is : (m : Machine) (e : Entry) → is_some m.world.draining ≡ false → next_entry m ≡ Some e → record m { world = place m.setup m.world } ≡ record m { world = place_entry m.setup m.world (Some e) }
@@ -18,13 +19,13 @@ place_is m e draining at =
     ∙ ap (λ o. record m { world = place_entry m.setup m.world o }) at
 
 -- without room all stays
-pub no_room : (c : Setup) (w : World) (i : ℕ) (l : Labels) (t : ℤ) (word : ℕ) (o : Option Shard) → room_at c.capacity o ≡ false → put_if_room c w i l t word o ≡ w
+pub no_room : (c : Setup) (w : World) (i : ℕ) (l : Labels) (t : ℤ) (word : ℕ) (o : Option Shard) → has_room_at c.capacity o ≡ false → put_if_room c w i l t word o ≡ w
 no_room c w i l t word None e = refl
 no_room c w i l t word (Some s) e = cond-false (has_room c.capacity s) _ w e
 
-pub put_next_is : (v : Sending) (i pos series : ℕ) (t : ℤ) (word : ℕ) (l : Labels) (o : Option Shard) → room_at v.capacity o ≡ true → (put_to v i pos series t word l o).next ≡ pos + 1
+pub put_next_is : (v : Sending) (i pos series : ℕ) (t : ℤ) (word : ℕ) (l : Labels) (o : Option Shard) → has_room_at v.capacity o ≡ true → (put_to v i pos series t word l o).next ≡ pos + 1
 put_next_is v i pos series t word l None e = absurd (cc)
-put_next_is v i pos series t word l (Some s) e = ap (λ (x : Sending). x.next) (cond-true (has_room v.capacity s) (record v { shards = change i (shard_put (sample_at v i pos series t word l s)) v.shards; next = pos + 1 }) v e)
+put_next_is v i pos series t word l (Some s) e = ap (λ (x : Sending). x.next) (cond-true (has_room v.capacity s) (record v { shards = change i (shard_put (next_sample_at v i pos series t word l s)) v.shards; next = pos + 1 }) v e)
 
 put_target_if : (b : Bool) (v w : Sending) → w.target ≡ v.target → (cond b w v).target ≡ v.target
 put_target_if true v w e = e
@@ -32,10 +33,10 @@ put_target_if false v w e = refl
 
 pub put_target : (v : Sending) (i pos series : ℕ) (t : ℤ) (word : ℕ) (l : Labels) (o : Option Shard) → (put_to v i pos series t word l o).target ≡ v.target
 put_target v i pos series t word l None = refl
-put_target v i pos series t word l (Some s) = put_target_if (has_room v.capacity s) v (record v { shards = change i (shard_put (sample_at v i pos series t word l s)) v.shards; next = pos + 1 }) refl
+put_target v i pos series t word l (Some s) = put_target_if (has_room v.capacity s) v (record v { shards = change i (shard_put (next_sample_at v i pos series t word l s)) v.shards; next = pos + 1 }) refl
 
 -- with room the sample is put
-pub put_seen : (u : Machine) (v v' : Sending) (i number : ℕ) (t : ℤ) (word : ℕ) (l : Labels) (o : Option Shard) → room_at v.capacity o ≡ true → v' ≡ put_to v i u.world.placed number t word l o → number ≡ number_of u.world.series l →
+pub put_seen : (u : Machine) (v v' : Sending) (i number : ℕ) (t : ℤ) (word : ℕ) (l : Labels) (o : Option Shard) → has_room_at v.capacity o ≡ true → v' ≡ put_to v i u.world.placed number t word l o → number ≡ number_of u.world.series l →
     u.setup.target ≡ v.target → u.setup.capacity ≡ v.capacity → u.setup.batch ≡ v.batch → u.world.epoch ≡ v.epoch → u.world.shards ≡ v.shards → u.world.names ≡ v.names →
     ◌≡◌ {A = Machine} (record {
       setup = record u.setup { target = v'.target; capacity = v'.capacity; batch = v'.batch };
@@ -43,8 +44,8 @@ pub put_seen : (u : Machine) (v v' : Sending) (i number : ℕ) (t : ℤ) (word :
     }) (record u { world = put_if_room u.setup u.world i l t word o })
 put_seen u v v' i number t word l None room e n tg cp bt ep sh nm = absurd (cc)
 put_seen u v v' i number t word l (Some s) room e n tg cp bt ep sh nm =
-    let made : v' ≡ record v { shards = change i (shard_put (sample_at v i u.world.placed number t word l s)) v.shards; next = u.world.placed + 1 } = e ∙ cond-true (has_room v.capacity s) (record v { shards = change i (shard_put (sample_at v i u.world.placed number t word l s)) v.shards; next = u.world.placed + 1 }) v room in
-    let same : sample_at v i u.world.placed number t word l s ≡ next_sample u.world i l t word s = rw (sym ep, n) refl in
+    let made : v' ≡ record v { shards = change i (shard_put (next_sample_at v i u.world.placed number t word l s)) v.shards; next = u.world.placed + 1 } = e ∙ cond-true (has_room v.capacity s) (record v { shards = change i (shard_put (next_sample_at v i u.world.placed number t word l s)) v.shards; next = u.world.placed + 1 }) v room in
+    let same : next_sample_at v i u.world.placed number t word l s ≡ next_sample u.world i l t word s = rw (sym ep, n) refl in
     let shards : v'.shards ≡ change i (shard_put (next_sample u.world i l t word s)) u.world.shards =
     ap (λ (x : Sending). x.shards) made ∙ ap (λ (x : Placed). change i (shard_put x) v.shards) same ∙ ap (change i (shard_put (next_sample u.world i l t word s))) (sym sh) in
     let target : v'.target ≡ u.setup.target = ap (λ (x : Sending). x.target) made ∙ sym tg in

@@ -8,6 +8,7 @@ use Rattle.std.specs.Prelude.{◌==◌, filter, is_ok}
 use Rattle.std.specs.List.{list_any}
 use Rattle.std.specs.List.Sorted.{IsNonDecreasing, IsBinarySearchResult}
 use Rattle.std.specs.Ordering.{nat_cmp}
+use Rattle.std.proofs.lemmas.List.Elements.{filter-append}
 use Rattle.rw_machine.specs.Worlds.{up_to}
 
 absent : (xs : List ℕ) (pos : ℕ) → ((k : ℕ) → k < length xs → get_or xs k 0 ≡ pos → ⊥) → list_any (λ (p : ℕ). p == pos) xs ≡ false
@@ -29,13 +30,6 @@ searched_is xs pos (Ok i) up h =
 searched_is xs pos (Err i) up h =
     let m = searched xs pos (Err i) h (λ a b le lt. up a b 0 le lt) in
     sym (absent xs pos (λ k lt e. not_there i k (length xs) pos (get_or xs k 0) (m.1 k) (m.2 k) lt e))
-
-filter-append : {X : Type 0} (p : X → Bool) (xs ys : List X) → filter p (xs ++ ys) ≡ filter p xs ++ filter p ys
-filter-append p [] ys = refl
-filter-append p (x ∷ xs) ys = filter_if p (p x) x xs ys (filter-append p xs ys) where
-  filter_if : {X : Type 0} (p : X → Bool) (b : Bool) (x : X) (xs ys : List X) → filter p (xs ++ ys) ≡ filter p xs ++ filter p ys → cond b (x ∷ filter p (xs ++ ys)) (filter p (xs ++ ys)) ≡ cond b (x ∷ filter p xs) (filter p xs) ++ filter p ys
-  filter_if p true x xs ys e = ap (λ zs. x ∷ zs) e
-  filter_if p false x xs ys e = e
 
 filter_one : {X : Type 0} (p : X → Bool) (b : Bool) (x : X) → p x ≡ b → filter p (x ∷ []) ≡ cond b (x ∷ []) []
 filter_one p b x e = ap (λ c. cond c (x ∷ []) []) e

@@ -13,18 +13,19 @@ use Rattle.rw_types.specs.declared.entry.Entry.{Entry}
 use Rattle.rw_types.specs.declared.entry.Entry.TheVariants.{Def, Sample}
 use Rattle.rw_shard_core.specs.Shard.{is_empty, batch_id, same_id}
 use Rattle.rw_machine.specs.Shards.{Shard}
-use Rattle.rw_machine.specs.Steps.{shard_of}
+use Rattle.rw_machine.specs.Steps.{shard_of_labels}
 use Rattle.rw_machine.specs.Worlds.{Setup, Request, World, log, is_finished}
 use Rattle.rw_machine.specs.Settling.{newest_from, exchange_at, first_of_these, made_at, at_first, can_place, can_place_as, can_place_entry, can_place_known, next_events}
 use Rattle.rw_machine.specs.Settling as settling
 use Rattle.rw_machine.specs.declared.event.How.TheVariants.{Plain}
 use Rattle.rw_machine.specs.declared.event.Event.{Event}
 use Rattle.rw_machine.specs.declared.event.Event.TheVariants as event
-use Rattle.rw_world_parts.specs.Sending.{room_at}
-use Rattle.rw_world_parts.specs.Guards.{is_open, is_ready, may_take, may_flush, IsOpen, waiting_id_at}
+use Rattle.rw_world_parts.specs.Sending.{has_room_at}
+use Rattle.rw_world_parts.specs.Guards.{is_open, is_ready, may_take, may_flush, waiting_id_at}
+use Rattle.rw_world_parts.specs.inner.Guards.{IsOpen}
 use Rattle.rw_world_parts.specs.Positions.{ahead_of}
 use Rattle.rw_world_parts.specs.declared.log.Ahead.TheVariants as ahead
-use Rattle.rw_machine.proofs.Settles.{hit}
+use Rattle.rw_machine.proofs.shared.Settles.{hit}
 
 newest_snoc : (id : BatchId) (k : ℕ) (rs : List Request) (r : Request) (f : ℕ) → newest_from id k (rs ++ r ∷ []) f ≡ cond (same_id id r.id) (k + length rs) (newest_from id k rs f)
 newest_snoc id k [] r f = let n : k ≡ k + 0 = omega arith in ap (λ m. cond (same_id id r.id) m f) n
@@ -91,7 +92,7 @@ exchange_rests w i None opened h = absurd opened
 exchange_rests w i (Some s) opened h =
     sym (ap (λ b. cond b (event.Arrive (newest_from (batch_id s.core.batch) 0 w.requests 0) Plain ∷ event.Reply (length w.replies) ∷ []) (event.Send i ∷ [])) (rests_if s.core.waiting (is_empty s.core.batch) (batch_id s.core.batch) opened h))
 
-room_same : (c : Setup) (o : Option Shard) → room_at c.capacity o ≡ settling.room_at c o
+room_same : (c : Setup) (o : Option Shard) → has_room_at c.capacity o ≡ settling.room_at c o
 room_same c None = refl
 room_same c (Some s) = refl
 
@@ -103,10 +104,10 @@ unsent_placed c w (Sends l) none = absurd (none l refl)
 
 -- one that is sent needs room in the queue of its series' shard
 pub sent_placed : (c : Setup) (w : World) (f : Fate) (l : Labels) (number n : ℕ) (b : Bool) → f ≡ Sends l → number ≡ number_of w.series l → n ≡ length w.shards →
-    b ≡ room_at c.capacity (slice_get w.shards (number % n)) → b ≡ can_place_as c w f
+    b ≡ has_room_at c.capacity (slice_get w.shards (number % n)) → b ≡ can_place_as c w f
 sent_placed c w f l number n b sends is len room =
-    let here : number % n ≡ shard_of w l = ap (λ k. k % n) is ∙ ap (λ k. number_of w.series l % k) len in
-    room ∙ ap (λ k. room_at c.capacity (slice_get w.shards k)) here ∙ room_same c (slice_get w.shards (shard_of w l)) ∙ ap (can_place_as c w) (sym sends)
+    let here : number % n ≡ shard_of_labels w l = ap (λ k. k % n) is ∙ ap (λ k. number_of w.series l % k) len in
+    room ∙ ap (λ k. has_room_at c.capacity (slice_get w.shards k)) here ∙ room_same c (slice_get w.shards (shard_of_labels w l)) ∙ ap (can_place_as c w) (sym sends)
 
 entry_none : (c : Setup) (w : World) (o : Option Entry) → ahead_of o ≡ ahead.Nothing → can_place_entry c w o ≡ false
 entry_none c w None e = refl

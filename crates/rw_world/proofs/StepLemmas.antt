@@ -6,9 +6,10 @@ use Rattle.rw_machine.specs.Steps.{act, unless_over, happens, run}
 use Rattle.rw_machine.specs.Promises.{CanWork}
 use Rattle.rw_machine.specs.declared.event.Event.{Event}
 use Rattle.rw_machine.specs.declared.event.Event.TheVariants as event
-use Rattle.rw_world.specs.Machine.{Machine, is_arrive}
-use Rattle.rw_world.specs.Reached.{IsReached}
-use Rattle.rw_machine.proofs.Settles.{run_append}
+use Rattle.rw_world.specs.Machine.{Machine}
+use Rattle.rw_world.specs.inner.Machine.{is_arrive}
+use Rattle.rw_world.specs.inner.Reached.{IsReached}
+use Rattle.rw_machine.proofs.shared.Settles.{run_append}
 
 stays : (c : Setup) (w : World) (e : Event) (b : Bool) → is_arrive e ≡ false → b ≡ true → unless_over c w e b ≡ w
 stays c w (event.Arrive k how) b a o = absurd (cc)

@@ -12,7 +12,7 @@ use Rattle.rw_relabel.specs.declared.choice.Choice.{Choice}
 use Rattle.rw_series_cache.specs.Known.{standing_of}
 use Rattle.rw_series_cache.specs.Numbers.{with_series, with_entry, series_of}
 use Rattle.rw_series_cache.specs.Cached.{Taken}
-use Rattle.rw_series_cache.proofs.KnownLemmas.{series_of-definitions_of, series_of-none}
+use Rattle.rw_series_cache.proofs.shared.KnownLemmas.{series_of-definitions_of, series_of-none}
 use Rattle.rw_series_cache.specs.Routing.{Routing, Knows}
 use Rattle.rw_shard_core.specs.Shard.{can_send, new_core}
 use Rattle.rw_shard_core.specs.declared.config.Target.{Target}
@@ -26,8 +26,9 @@ use Rattle.rw_shard_core.specs.Configs.{choice_of}
 use Rattle.rw_shard_core.specs.declared.config.ConfigFields.{ConfigFields}
 use Rattle.rw_world_parts.specs.Held.{Held}
 use Rattle.rw_world_parts.specs.Sending.{Sending, new_held, sent_at}
-use Rattle.rw_world.specs.Machine.{Machine, IsWorld, label_limits, setup_of}
-use Rattle.rw_world_parts.proofs.ReadingLemmas.{taken_more}
+use Rattle.rw_world.specs.Machine.{Machine, label_limits, setup_of}
+use Rattle.rw_world.specs.inner.Machine.{IsWorld}
+use Rattle.rw_world_parts.proofs.shared.ReadingLemmas.{taken_more}
 
 fold_snoc : {A B : Type 0} (f : A → B → A) (z : A) (xs : List B) (x : B) → fold f z (xs ++ x ∷ []) ≡ f (fold f z xs) x
 fold_snoc f z [] x = refl

@@ -1,20 +1,12 @@
 -- The requests of a sender, and the answers of a receiver to them.
-use Rattle.std.specs.Prelude.{◌≡◌, ℕ, ◌<◌, ◌^◌, ◌⊎◌, List, length, All, Some, slice_get}
-use Rattle.rw_shard_core.specs.declared.config.Target.{Target}
+use Rattle.std.specs.Prelude.{◌≡◌, ℕ, ◌<◌, ◌^◌, ◌⊎◌, List, length, Some, slice_get}
 use Rattle.rw_shard_core.specs.Shard.{IsReadAgain}
 use Rattle.rw_head.specs.Head.{State, Answer, answer}
 use Rattle.rw_endpoint.specs.Alone.{IsOneRequest, IsOneRefusal}
 use Rattle.rw_machine.specs.Worlds.{Setup, World, Request}
-use Rattle.rw_machine.specs.Steps.{answered, happens}
+use Rattle.rw_machine.specs.Steps.{with_answer, happens}
 use Rattle.rw_machine.specs.declared.event.Event.TheVariants as event
 use Rattle.rw_machine.specs.declared.event.How.TheVariants.{Plain}
-use Rattle.rw_world_parts.specs.Answering.{IsSentTo}
-
--- the receiver is where requests are sent, and all of them are requests to it
-pub record IsServed (target : Target) (host path : List ℕ) (requests : List Request) : Type 0 where
-  pub host_is : target.host ≡ host
-  pub path_is : target.path ≡ path
-  pub sent : All (IsSentTo host path) requests
 
 -- what the endpoint answers to these bytes: they are one request, and the head answers its body; or
 -- its head is refused with a status
@@ -25,7 +17,7 @@ IsAnswerTo path limit h bytes a =
 
 -- the request of this number, which arrives, is answered as the endpoint answers its bytes
 abbrev pub IsAnsweredAsBytes : Setup → World → ℕ → Request → Type 0
-IsAnsweredAsBytes c w k r = (a : Answer) × IsAnswerTo c.target.path c.max_body w.head r.bytes a × (happens c w (event.Arrive k Plain) ≡ answered w r.id a)
+IsAnsweredAsBytes c w k r = (a : Answer) × IsAnswerTo c.target.path c.max_body w.head r.bytes a × (happens c w (event.Arrive k Plain) ≡ with_answer w r.id a)
 
 -- so is each one of fewer than 2^63 bytes
 abbrev pub AnswersBytes : Setup → World → Type 0

@@ -4,15 +4,8 @@ use Rattle.rw_head.specs.Growth.{EachRises}
 use Rattle.rw_machine.specs.declared.event.Event.{Event}
 use Rattle.rw_machine.specs.Worlds.{Setup, World, start}
 use Rattle.rw_machine.specs.Steps.{run}
-use Rattle.rw_machine.specs.Promises.{CanWork, IsInOrder, IsOfPlaced, OwedRises, IsWhole, IsWholeBeforeDamage, HoldsNothingElse, IsClosedForGood, HasOneClassEach, CountsFiltered, NamesRefusals, HasOneBatchEachId, CarriesEachBatch, SendsSameBytes, NeverTakesAndRefuses, StoresResolved, HasShardLists}
+use Rattle.rw_machine.specs.Promises.{IsInOrder, IsOfPlaced, OwedRises, IsWhole, IsWholeBeforeDamage, HoldsNothingElse, IsClosedForGood, HasOneClassEach, CountsFiltered, NamesRefusals, HasOneBatchEachId, CarriesEachBatch, SendsSameBytes, NeverTakesAndRefuses, StoresResolved, HasShardLists}
 use Rattle.rw_world.specs.Arriving.{AnswersBytes}
-use Rattle.rw_world.specs.Machine.{Machine}
-
--- there are events that led to it, from a start that leaves room to work
-pub record IsReached (m : Machine) : Type 0 where
-  pub can : CanWork m.setup
-  pub events : List Event
-  pub reached : m.world ≡ run m.setup events (start m.setup)
 
 -- Events led to it. Whichever led to it, the statuses that are named are those of the replies among
 -- them that refused a batch.

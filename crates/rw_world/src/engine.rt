@@ -42,8 +42,9 @@ impl Model for Engine {
     ghost use Rattle.std.specs.Coded.{codes};
     ghost use Rattle.std.specs.FinMap as map;
     ghost use Rattle.rw_series_cache.specs.Numbers.{series_of};
-    ghost use Rattle.rw_world.specs.Machine.{Machine, label_limits, IsWorld};
-    ghost use Rattle.rw_world.specs.Arriving.{IsServed};
+    ghost use Rattle.rw_world.specs.Machine.{Machine, label_limits};
+    ghost use Rattle.rw_world.specs.inner.Machine.{IsWorld};
+    ghost use Rattle.rw_world.specs.inner.Arriving.{IsServed};
 
     ghost Value = { Machine };
 

@@ -3,7 +3,7 @@
 ghost use Rattle.std.specs.Prelude.{◌≡◌, ◌<◌, ◌^◌, suc, OnOk, OnErr};
 ghost use Rattle.std.specs.FinMap.{insert};
 ghost use Rattle.rw_machine.specs.Steps.{place};
-ghost use Rattle.rw_world.specs.Machine.{IsDroppedNext, IsSampleNext, with_sample};
+ghost use Rattle.rw_world.specs.inner.Machine.{IsDroppedNext, IsSampleNext, with_sample};
 
 use crate::engine::Engine;
 use rw_ledger::Reason;

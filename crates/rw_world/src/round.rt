@@ -8,9 +8,10 @@ ghost use Rattle.rw_machine.specs.Steps.{happens, run};
 ghost use Rattle.rw_machine.specs.Worlds.{is_finished, is_over};
 ghost use Rattle.rw_machine.specs.declared.event.Event.TheVariants as event;
 ghost use Rattle.rw_shard_core.specs.Shard.{same_id};
-ghost use Rattle.rw_world_parts.specs.Guards.{is_open, is_ready, may_take, may_flush, IsOpen};
-ghost use Rattle.rw_world.specs.Machine.{placed_entries};
-ghost use Rattle.rw_world.specs.Rounds.{events_of, HasSettled};
+ghost use Rattle.rw_world_parts.specs.Guards.{is_open, is_ready, may_take, may_flush};
+ghost use Rattle.rw_world_parts.specs.inner.Guards.{IsOpen};
+ghost use Rattle.rw_world.specs.inner.Machine.{placed_entries};
+ghost use Rattle.rw_world.specs.inner.Rounds.{events_of, HasSettled};
 
 use crate::engine::Engine;
 use rw_batch::BatchId;

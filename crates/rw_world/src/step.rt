@@ -4,7 +4,8 @@ ghost use Rattle.std.specs.Prelude.{◌≡◌, true, false, not, ◌&&◌, Some,
 ghost use Rattle.rw_machine.specs.Shards.{shard_take, shard_freeze, shard_lost};
 ghost use Rattle.rw_machine.specs.Worlds.{is_finished, all_drained};
 ghost use Rattle.rw_machine.specs.Steps.{changed, flush_shard, send_batch, take_reply, reshard, restart, close, feed, happens, act};
-ghost use Rattle.rw_world.specs.Machine.{is_arrive, takes_memory, mark_kind};
+ghost use Rattle.rw_world.specs.Machine.{takes_memory};
+ghost use Rattle.rw_world.specs.inner.Machine.{is_arrive, mark_kind};
 
 use crate::engine::Engine;
 use rw_machine::Event;

@@ -37,7 +37,7 @@ impl Model for World {
     ghost use Rattle.std.specs.Coded.{codes};
     ghost use Rattle.std.specs.FinMap as map;
     ghost use Rattle.rw_world.specs.Machine.{Machine};
-    ghost use Rattle.rw_world.specs.Reached.{IsReached};
+    ghost use Rattle.rw_world.specs.inner.Reached.{IsReached};
 
     ghost Value = { Machine };
 

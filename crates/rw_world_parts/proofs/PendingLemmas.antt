@@ -12,9 +12,10 @@ use Rattle.rw_plain_queue.specs.declared.item.Item.{Item}
 use Rattle.rw_plain_queue.specs.declared.item.Item.TheVariants.{Sample, Flush, End}
 use Rattle.rw_shard_core.specs.Shard.{Core, places_of, positions_of, positions}
 use Rattle.rw_shard_core.specs.Shard as core
-use Rattle.rw_machine.specs.Shards.{samples_in, pending}
-use Rattle.rw_world_parts.specs.Held.{Held, queued_of}
-use Rattle.rw_world_parts.specs.Sending.{all_pending}
+use Rattle.rw_machine.specs.Shards.{samples_waiting, pending_in_shard}
+use Rattle.rw_world_parts.specs.Held.{Held}
+use Rattle.rw_world_parts.specs.inner.Held.{queued_of}
+use Rattle.rw_world_parts.specs.inner.Sending.{all_pending}
 use Rattle.rw_world_parts.proofs.SendingLemmas.{positions-append}
 
 pub none_more : (xs : List ℕ) → xs ≡ xs ++ []
@@ -40,28 +41,28 @@ items_more old items i x lt e =
 
 pending_join : (hs gs : List Held) → all_pending (hs ++ gs) ≡ all_pending hs ++ all_pending gs
 pending_join [] gs = refl
-pending_join (h ∷ hs) gs = ap (λ ps. positions (pending h.shard) ++ ps) (pending_join hs gs) ∙ sym (append_assoc (positions (pending h.shard)) (all_pending hs) (all_pending gs))
+pending_join (h ∷ hs) gs = ap (λ ps. positions (pending_in_shard h.shard) ++ ps) (pending_join hs gs) ∙ sym (append_assoc (positions (pending_in_shard h.shard)) (all_pending hs) (all_pending gs))
 
 -- one more shard
-shards_more : (old : List ℕ) (hs : List Held) (i : ℕ) (h : Held) → i < length hs → h ≡ get_or hs i h → (old ++ all_pending (take i hs)) ++ positions (pending h.shard) ≡ old ++ all_pending (take (i + 1) hs)
+shards_more : (old : List ℕ) (hs : List Held) (i : ℕ) (h : Held) → i < length hs → h ≡ get_or hs i h → (old ++ all_pending (take i hs)) ++ positions (pending_in_shard h.shard) ≡ old ++ all_pending (take (i + 1) hs)
 shards_more old hs i h lt e =
-    append_assoc old (all_pending (take i hs)) (positions (pending h.shard))
-    ∙ ap (λ xs. old ++ xs) (ap (λ ps. all_pending (take i hs) ++ ps) (none_more (positions (pending h.shard))) ∙ ap (λ (g : Held). all_pending (take i hs) ++ all_pending (g ∷ [])) e ∙ sym (pending_join (take i hs) (get_or hs i h ∷ [])) ∙ ap all_pending (sym (take_more hs i h lt)))
+    append_assoc old (all_pending (take i hs)) (positions (pending_in_shard h.shard))
+    ∙ ap (λ xs. old ++ xs) (ap (λ ps. all_pending (take i hs) ++ ps) (none_more (positions (pending_in_shard h.shard))) ∙ ap (λ (g : Held). all_pending (take i hs) ++ all_pending (g ∷ [])) e ∙ sym (pending_join (take i hs) (get_or hs i h ∷ [])) ∙ ap all_pending (sym (take_more hs i h lt)))
 
-pub shard_step : (now so_far old : List ℕ) (hs : List Held) (i : ℕ) (h : Held) → i < length hs → h ≡ get_or hs i h → now ≡ so_far ++ positions (pending h.shard) → so_far ≡ old ++ all_pending (take i hs) → now ≡ old ++ all_pending (take (i + 1) hs)
-shard_step now so_far old hs i h lt at e so = e ∙ ap (λ xs. xs ++ positions (pending h.shard)) so ∙ shards_more old hs i h lt at
+pub shard_step : (now so_far old : List ℕ) (hs : List Held) (i : ℕ) (h : Held) → i < length hs → h ≡ get_or hs i h → now ≡ so_far ++ positions (pending_in_shard h.shard) → so_far ≡ old ++ all_pending (take i hs) → now ≡ old ++ all_pending (take (i + 1) hs)
+shard_step now so_far old hs i h lt at e so = e ∙ ap (λ xs. xs ++ positions (pending_in_shard h.shard)) so ∙ shards_more old hs i h lt at
 
-queued_positions : (items : List Item) → positions (samples_in (map queued_of items)) ≡ positions_of (places_in items)
+queued_positions : (items : List Item) → positions (samples_waiting (map queued_of items)) ≡ positions_of (places_in items)
 queued_positions [] = refl
 queued_positions (Sample place t word labels ∷ items) = ap (λ ps. place.pos ∷ ps) (queued_positions items)
 queued_positions (Flush ∷ items) = queued_positions items
 queued_positions (End kind ∷ items) = queued_positions items
 
 -- what a shard has: in its core, and then in its queue
-pending_positions : (c : Core) (items : List Item) → positions (core.pending c ++ samples_in (map queued_of items)) ≡ positions_of (places_of (core.pending c)) ++ positions_of (places_in items)
-pending_positions c items = positions-append (core.pending c) (samples_in (map queued_of items)) ∙ ap (λ ps. positions (core.pending c) ++ ps) (queued_positions items)
+pending_positions : (c : Core) (items : List Item) → positions (core.pending c ++ samples_waiting (map queued_of items)) ≡ positions_of (places_of (core.pending c)) ++ positions_of (places_in items)
+pending_positions c items = positions-append (core.pending c) (samples_waiting (map queued_of items)) ∙ ap (λ ps. positions (core.pending c) ++ ps) (queued_positions items)
 
-pub both_added : {X E : Type 0} (r : Result X E) (old middle now : List ℕ) (c : Core) (ps : List Place) (items : List Item) → middle ≡ old ++ positions_of ps → ps ≡ places_of (core.pending c) → OnOk r (now ≡ middle ++ positions_of (places_in items)) → OnOk r (now ≡ old ++ positions (core.pending c ++ samples_in (map queued_of items)))
+pub both_added : {X E : Type 0} (r : Result X E) (old middle now : List ℕ) (c : Core) (ps : List Place) (items : List Item) → middle ≡ old ++ positions_of ps → ps ≡ places_of (core.pending c) → OnOk r (now ≡ middle ++ positions_of (places_in items)) → OnOk r (now ≡ old ++ positions (core.pending c ++ samples_waiting (map queued_of items)))
 both_added (Ok x) old middle now c ps items m p e =
     let queued = positions_of (places_in items) in
     e ∙ ap (λ xs. xs ++ queued) m ∙ append_assoc old (positions_of ps) queued
@@ -72,13 +73,13 @@ any_position : (pos : ℕ) (xs : List Placed) → list_any (λ (p : ℕ). p == p
 any_position pos [] = refl
 any_position pos (x ∷ xs) = ap (λ b. (x.place.pos == pos) || b) (any_position pos xs)
 
-any_pending : (pos : ℕ) (hs : List Held) → list_any (λ (p : ℕ). p == pos) (all_pending hs) ≡ list_any (λ s. list_any (λ (x : Placed). x.place.pos == pos) (pending s)) (map (λ (h : Held). h.shard) hs)
+any_pending : (pos : ℕ) (hs : List Held) → list_any (λ (p : ℕ). p == pos) (all_pending hs) ≡ list_any (λ s. list_any (λ (x : Placed). x.place.pos == pos) (pending_in_shard s)) (map (λ (h : Held). h.shard) hs)
 any_pending pos [] = refl
 any_pending pos (h ∷ hs) =
-    list_any-append (λ (p : ℕ). p == pos) (positions (pending h.shard)) (all_pending hs)
-    ∙ ap (λ b. b || list_any (λ (p : ℕ). p == pos) (all_pending hs)) (any_position pos (pending h.shard))
-    ∙ ap (λ b. list_any (λ (x : Placed). x.place.pos == pos) (pending h.shard) || b) (any_pending pos hs)
+    list_any-append (λ (p : ℕ). p == pos) (positions (pending_in_shard h.shard)) (all_pending hs)
+    ∙ ap (λ b. b || list_any (λ (p : ℕ). p == pos) (all_pending hs)) (any_position pos (pending_in_shard h.shard))
+    ∙ ap (λ b. list_any (λ (x : Placed). x.place.pos == pos) (pending_in_shard h.shard) || b) (any_pending pos hs)
 
 -- in whatever order, a position is among them if a shard has it
-pub all_found : (pos : ℕ) (hs : List Held) (xs ys : List ℕ) → xs ≡ all_pending hs → IsPermutation xs ys → list_any (λ (p : ℕ). p == pos) ys ≡ list_any (λ s. list_any (λ (x : Placed). x.place.pos == pos) (pending s)) (map (λ (h : Held). h.shard) hs)
+pub all_found : (pos : ℕ) (hs : List Held) (xs ys : List ℕ) → xs ≡ all_pending hs → IsPermutation xs ys → list_any (λ (p : ℕ). p == pos) ys ≡ list_any (λ s. list_any (λ (x : Placed). x.place.pos == pos) (pending_in_shard s)) (map (λ (h : Held). h.shard) hs)
 all_found pos hs xs ys e moved = sym (list_any-IsPermutation (λ (p : ℕ). p == pos) xs ys moved) ∙ ap (list_any (λ (p : ℕ). p == pos)) e ∙ any_pending pos hs

@@ -17,13 +17,15 @@ use Rattle.rw_ledger.specs.declared.ledger.Reason.{Reason}
 use Rattle.rw_ledger.specs.declared.ledger.Reason.TheVariants as why
 use Rattle.rw_plain_queue.specs.Items.{Placed}
 use Rattle.rw_shard_core.specs.declared.config.Target.{Target}
-use Rattle.rw_shard_core.specs.Shard.{HasRoomFor, positions, last_of, is_answer, settle, resolve, again, reply, reply_names, settle_names, name_all}
-use Rattle.rw_machine.specs.Shards.{Shard, One, samples_in, pending, has_room, shard_put, with_core}
+use Rattle.rw_shard_core.specs.Shard.{HasRoomFor, positions, last_sample, is_answer, settle, resolve, again, reply, reply_names, settle_names, name_all}
+use Rattle.rw_machine.specs.Shards.{Shard, One, samples_waiting, pending_in_shard, has_room, shard_put, with_core}
 use Rattle.rw_machine.specs.Steps.{change}
-use Rattle.rw_world_parts.specs.Held.{Held, sample_for}
-use Rattle.rw_world_parts.specs.Sending.{Sending, times, waiting, allowed, replied, room_at, sample_at, put_to, IsShardAt, IsSending}
+use Rattle.rw_world_parts.specs.Held.{Held}
+use Rattle.rw_world_parts.specs.inner.Held.{sample_for}
+use Rattle.rw_world_parts.specs.Sending.{Sending, replied, has_room_at, next_sample_at, put_to}
+use Rattle.rw_world_parts.specs.inner.Sending.{times, waiting, allowed, IsShardAt, IsSending}
 use Rattle.rw_world_parts.proofs.SendingLemmas.{positions-append, times-append, here, waiting-set, waiting-get, open-set, open-get, samples_in-queue, same_at, each-set, quiet_kept, changed_is, still_quiet, again_quiet}
-use Rattle.rw_shard_core.proofs.NamingLemmas.{settle_names-room}
+use Rattle.rw_shard_core.proofs.shared.NamingLemmas.{settle_names-room}
 
 shard_times : (p : ℕ) (b u q : List Placed) → times p (positions ((b ++ u) ++ q)) ≡ times p (positions b) + (times p (positions u) + times p (positions q))
 shard_times p b u q =
@@ -56,8 +58,8 @@ times-at [] k d lt = absurd (omega arith)
 times-at (x ∷ xs) zero d lt = let t : nat_eq x x ≡ true = grind (arith, nat_tests) in rw t (omega arith)
 times-at (x ∷ xs) (suc k) d lt = let r = times-at xs k d (omega arith) in omega (arith, r)
 
-batch_times : (p : ℕ) (s : Shard) → times p (positions s.core.batch) ≤ times p (positions (pending s))
-batch_times p s = let e = shard_times p s.core.batch s.core.builder (samples_in s.queue) in omega (arith, e)
+batch_times : (p : ℕ) (s : Shard) → times p (positions s.core.batch) ≤ times p (positions (pending_in_shard s))
+batch_times p s = let e = shard_times p s.core.batch s.core.builder (samples_waiting s.queue) in omega (arith, e)
 
 -- the names have room for the open batch, and none of its samples
 pub has_room_for : (target : Target) (capacity batch epoch : ℕ) (hs : List Held) (next : ℕ) (l : Named) (i : ℕ) (h : Held) → IsSending target capacity batch epoch hs next l → slice_get hs i ≡ Some h → HasRoomFor h.shard.core l
@@ -110,8 +112,8 @@ resolve_kept target capacity batch epoch hs next l l' i h h' s at e names room =
           (same_at target capacity batch epoch next i h g (s.each i h at) (record { target = refl; capacity = refl; full = refl; epoch = refl; number = refl; put = refl })) s.each;
       once = λ p.
           let w = waiting-set p hs i h g at in
-          let old = shard_times p h.shard.core.batch h.shard.core.builder (samples_in h.shard.queue) in
-          let new = shard_times p [] h.shard.core.builder (samples_in h.shard.queue) in
+          let old = shard_times p h.shard.core.batch h.shard.core.builder (samples_waiting h.shard.queue) in
+          let new = shard_times p [] h.shard.core.builder (samples_waiting h.shard.queue) in
           let o = s.once p in
           once_at (times p (positions h.shard.core.batch)) (waiting p hs) (waiting p (set hs i g)) (here p g) (allowed (nat_lt p next) (get l.names p)) (allowed (nat_lt p next) (get l'.names p))
           (omega (arith, w, old, new)) o (allowed_most (nat_lt p next) (get l.names p)) (λ z. ap (allowed (nat_lt p next)) (names p z));
@@ -234,18 +236,18 @@ put_kept target capacity batch epoch hs next l i pos h h' x s at e is np =
       once = λ p.
           let w = waiting-set p hs i h g at in
           let o = s.once p in
-          let q : positions (pending g.shard) ≡ positions (pending h.shard) ++ x.place.pos ∷ [] =
+          let q : positions (pending_in_shard g.shard) ≡ positions (pending_in_shard h.shard) ++ x.place.pos ∷ [] =
           ap (λ ys. positions ((h.shard.core.batch ++ h.shard.core.builder) ++ ys)) (samples_in-queue h.shard.queue (One x ∷ []))
-          ∙ ap positions (sym (append_assoc (h.shard.core.batch ++ h.shard.core.builder) (samples_in h.shard.queue) (x ∷ []))) ∙ positions-append (pending h.shard) (x ∷ []) in
+          ∙ ap positions (sym (append_assoc (h.shard.core.batch ++ h.shard.core.builder) (samples_waiting h.shard.queue) (x ∷ []))) ∙ positions-append (pending_in_shard h.shard) (x ∷ []) in
           let f : here p g ≡ here p h + (cond (nat_eq p pos) 1 0 + 0) =
-          ap (times p) q ∙ times-append p (positions (pending h.shard)) (x.place.pos ∷ []) ∙ ap (λ n. here p h + (cond (nat_eq p n) 1 0 + 0)) is in
+          ap (times p) q ∙ times-append p (positions (pending_in_shard h.shard)) (x.place.pos ∷ []) ∙ ap (λ n. here p h + (cond (nat_eq p n) 1 0 + 0)) is in
           put_at (nat_eq p pos) p pos next (waiting p hs) (waiting p (set hs i g)) (here p h) (here p g) (get l.names p) refl w f o (s.later p) np;
       later = λ p le. s.later p (omega arith);
       room = let o = open-set hs i h g at in omega (arith, o, s.room);
     } in
     rw e kept
 
-last_below : (n : ℕ) (xs : List Placed) → All (λ (x : Placed). x.place.pos < n) xs → IfSome (last_of xs) (λ (y : Placed). y.place.pos < n)
+last_below : (n : ℕ) (xs : List Placed) → All (λ (x : Placed). x.place.pos < n) xs → IfSome (last_sample xs) (λ (y : Placed). y.place.pos < n)
 last_below n [] h = tt
 last_below n (x ∷ []) h = h 0 x (omega arith)
 last_below n (x ∷ y ∷ ys) h = last_below n (y ∷ ys) (λ k d lt. h (suc k) d (omega arith))
@@ -255,18 +257,18 @@ some_below next m None le h = tt
 some_below next m (Some y) le h = omega arith
 
 pub last_put : (target : Target) (capacity batch epoch : ℕ) (hs : List Held) (next : ℕ) (l : Named) (i pos : ℕ) (h : Held) → IsSending target capacity batch epoch hs next l → slice_get hs i ≡ Some h → next ≤ pos →
-    IfSome (last_of h.shard.put) (λ (y : Placed). y.place.pos < pos)
-last_put target capacity batch epoch hs next l i pos h s at le = some_below next pos (last_of h.shard.put) le (last_below next h.shard.put (s.each i h at).below)
+    IfSome (last_sample h.shard.put) (λ (y : Placed). y.place.pos < pos)
+last_put target capacity batch epoch hs next l i pos h s at le = some_below next pos (last_sample h.shard.put) le (last_below next h.shard.put (s.each i h at).below)
 
 -- what the machine sees of it
 pub put_is : (hs : List Held) (i pos series : ℕ) (t : ℤ) (word : ℕ) (ls : Labels) (h h' : Held) (u v : Sending) → slice_get hs i ≡ Some h → h'.shard ≡ shard_put (sample_for h.shard pos series t word ls) h.shard →
-    u ≡ v → u.shards ≡ map (λ (x : Held). x.shard) hs → h.shard.core.epoch ≡ u.epoch → h.shard.core.shard ≡ i → room_at v.capacity (slice_get v.shards i) ≡ true →
+    u ≡ v → u.shards ≡ map (λ (x : Held). x.shard) hs → h.shard.core.epoch ≡ u.epoch → h.shard.core.shard ≡ i → has_room_at v.capacity (slice_get v.shards i) ≡ true →
     record u { shards = map (λ (x : Held). x.shard) (set hs i h'); next = pos + 1 } ≡ put_to v i pos series t word ls (slice_get v.shards i)
 put_is hs i pos series t word ls h h' u v at e same is epoch number room =
     let seen : slice_get v.shards i ≡ Some h.shard = shard_seen hs v.shards i h at (sym is ∙ ap (λ (w : Sending). w.shards) same) in
     let has : has_room v.capacity h.shard ≡ true = rw seen at room in
-    let f = shard_put (sample_at v i pos series t word ls h.shard) in
-    let x : sample_for h.shard pos series t word ls ≡ sample_at v i pos series t word ls h.shard = rw (epoch ∙ ap (λ (w : Sending). w.epoch) same, number) refl in
+    let f = shard_put (next_sample_at v i pos series t word ls h.shard) in
+    let x : sample_for h.shard pos series t word ls ≡ next_sample_at v i pos series t word ls h.shard = rw (epoch ∙ ap (λ (w : Sending). w.epoch) same, number) refl in
     let made = changed_is f hs i h h' u v at (e ∙ ap (λ y. shard_put y h.shard) x) same is in
     rw (seen, has) (ap (λ (w : Sending). record w { next = pos + 1 }) made)
 

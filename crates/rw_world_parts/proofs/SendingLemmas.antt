@@ -10,13 +10,14 @@ use Rattle.rw_ledger.specs.declared.ledger.Reason.{Reason}
 use Rattle.rw_plain_queue.specs.Items.{Placed}
 use Rattle.rw_shard_core.specs.declared.config.Target.{Target}
 use Rattle.rw_shard_core.specs.Shard.{Core, positions, new_core, can_take, can_freeze, freeze_room, can_send, awaits, send, lose, again}
-use Rattle.rw_machine.specs.Shards.{Shard, Queued, One, FlushMark, EndMark, samples_in, pending, new_shard, has_room, shard_flush, shard_end, take_queued, take_front, shard_take, shard_freeze, shard_send, shard_lost, is_drained}
+use Rattle.rw_machine.specs.Shards.{Shard, Queued, One, FlushMark, EndMark, samples_waiting, pending_in_shard, new_shard, has_room, shard_flush, shard_end, take_queued, take_front, shard_take, shard_freeze, shard_send, shard_lost, is_drained}
 use Rattle.rw_plain_queue.specs.declared.item.Kind.{Kind}
 use Rattle.rw_machine.specs.Steps.{change}
 use Rattle.rw_world_parts.specs.Held.{Held, put_mark, flushed}
-use Rattle.rw_world_parts.specs.Sending.{Sending, new_held, times, waiting, open_samples, IsShardAt, IsSending}
-use Rattle.rw_shard_core.proofs.EmptyLemmas.{nil_from_empty}
-use Rattle.rw_shard_core.proofs.StepGuards.{freeze_parts}
+use Rattle.rw_world_parts.specs.Sending.{Sending, new_held}
+use Rattle.rw_world_parts.specs.inner.Sending.{times, waiting, open_samples, IsShardAt, IsSending}
+use Rattle.rw_shard_core.proofs.shared.EmptyLemmas.{nil_from_empty}
+use Rattle.rw_shard_core.proofs.shared.StepGuards.{freeze_parts}
 
 pub positions-append : (xs ys : List Placed) → positions (xs ++ ys) ≡ positions xs ++ positions ys
 positions-append [] ys = refl
@@ -28,7 +29,7 @@ times-append p (x ∷ xs) ys = let r = times-append p xs ys in rw r (omega arith
 
 -- how often a position waits in a shard
 abbrev pub here : ℕ → Held → ℕ
-here p h = times p (positions (pending h.shard))
+here p h = times p (positions (pending_in_shard h.shard))
 
 pub waiting-set : (p : ℕ) (hs : List Held) (i : ℕ) (h h' : Held) → slice_get hs i ≡ Some h → waiting p (set hs i h') + here p h ≡ waiting p hs + here p h'
 waiting-set p [] i h h' e = absurd (cc)
@@ -120,23 +121,23 @@ pub record Quiet (s t : Shard) : Type 0 where
   pub epoch : t.core.epoch ≡ s.core.epoch
   pub number : t.core.shard ≡ s.core.shard
   pub put : t.put ≡ s.put
-  pub fewer : (p : ℕ) → times p (positions (pending t)) ≤ times p (positions (pending s))
+  pub fewer : (p : ℕ) → times p (positions (pending_in_shard t)) ≤ times p (positions (pending_in_shard s))
 
 pub still_quiet : (s : Shard) → Quiet s s
 still_quiet s = record { target = refl; full = refl; epoch = refl; number = refl; put = refl; fewer = λ p. omega arith }
 
-pub samples_in-queue : (xs ys : List Queued) → samples_in (xs ++ ys) ≡ samples_in xs ++ samples_in ys
+pub samples_in-queue : (xs ys : List Queued) → samples_waiting (xs ++ ys) ≡ samples_waiting xs ++ samples_waiting ys
 samples_in-queue [] ys = refl
 samples_in-queue (One x ∷ xs) ys = ap (λ zs. x ∷ zs) (samples_in-queue xs ys)
 samples_in-queue (FlushMark ∷ xs) ys = samples_in-queue xs ys
 samples_in-queue (EndMark kind ∷ xs) ys = samples_in-queue xs ys
 
-same_pending : (s t : Shard) → pending t ≡ pending s → (p : ℕ) → times p (positions (pending t)) ≤ times p (positions (pending s))
-same_pending s t e p = let q : times p (positions (pending t)) ≡ times p (positions (pending s)) = ap (λ xs. times p (positions xs)) e in omega (arith, q)
+same_pending : (s t : Shard) → pending_in_shard t ≡ pending_in_shard s → (p : ℕ) → times p (positions (pending_in_shard t)) ≤ times p (positions (pending_in_shard s))
+same_pending s t e p = let q : times p (positions (pending_in_shard t)) ≡ times p (positions (pending_in_shard s)) = ap (λ xs. times p (positions xs)) e in omega (arith, q)
 
-mark_pending : (s : Shard) (m : Queued) → samples_in (m ∷ []) ≡ [] → (s.core.batch ++ s.core.builder) ++ samples_in (s.queue ++ m ∷ []) ≡ (s.core.batch ++ s.core.builder) ++ samples_in s.queue
+mark_pending : (s : Shard) (m : Queued) → samples_waiting (m ∷ []) ≡ [] → (s.core.batch ++ s.core.builder) ++ samples_waiting (s.queue ++ m ∷ []) ≡ (s.core.batch ++ s.core.builder) ++ samples_waiting s.queue
 mark_pending s m none =
-    ap (λ zs. (s.core.batch ++ s.core.builder) ++ zs) (samples_in-queue s.queue (m ∷ []) ∙ ap (λ zs. samples_in s.queue ++ zs) none ∙ append-nil (samples_in s.queue))
+    ap (λ zs. (s.core.batch ++ s.core.builder) ++ zs) (samples_in-queue s.queue (m ∷ []) ∙ ap (λ zs. samples_waiting s.queue ++ zs) none ∙ append-nil (samples_waiting s.queue))
 
 mark_quiet : (kind : Option Kind) (s : Shard) → Quiet s (put_mark kind s)
 mark_quiet None s = record {
@@ -166,8 +167,8 @@ flushed_quiet capacity kind s = if_quiet (not s.end_put && has_room capacity s) 
 taken_pending : (b u q : List Placed) (x : Placed) → (b ++ (u ++ x ∷ [])) ++ q ≡ (b ++ u) ++ x ∷ q
 taken_pending b u q x = ap (λ zs. zs ++ q) (sym (append_assoc b u (x ∷ []))) ∙ append_assoc (b ++ u) (x ∷ []) q
 
-front_pending : (x : Queued) (xs : List Queued) (c : Core) → let d = take_queued x c in (d.batch ++ d.builder) ++ samples_in xs ≡ (c.batch ++ c.builder) ++ samples_in (x ∷ xs)
-front_pending (One x) xs c = taken_pending c.batch c.builder (samples_in xs) x
+front_pending : (x : Queued) (xs : List Queued) (c : Core) → let d = take_queued x c in (d.batch ++ d.builder) ++ samples_waiting xs ≡ (c.batch ++ c.builder) ++ samples_waiting (x ∷ xs)
+front_pending (One x) xs c = taken_pending c.batch c.builder (samples_waiting xs) x
 front_pending FlushMark xs c = refl
 front_pending (EndMark kind) xs c = refl
 
@@ -194,7 +195,7 @@ front_quiet (x ∷ xs) s e =
       epoch = k.epoch;
       number = k.number;
       put = refl;
-      fewer = same_pending s t (front_pending x xs s.core ∙ ap (λ ys. (s.core.batch ++ s.core.builder) ++ samples_in ys) (sym e));
+      fewer = same_pending s t (front_pending x xs s.core ∙ ap (λ ys. (s.core.batch ++ s.core.builder) ++ samples_waiting ys) (sym e));
     }
 
 pub take_quiet : (s : Shard) → Quiet s (shard_take s)
@@ -249,7 +250,7 @@ freeze_if : (b : Bool) (s : Shard) (l : Named) → can_freeze s.core ≡ b →
 freeze_if true s l e =
     let none : s.core.batch ≡ [] = nil_from_empty s.core.batch (freeze_parts s.core e).none in
     let t : Shard = record s { core = record s.core { builder = []; marked = false; batch = s.core.builder; waiting = false } } in
-    let same : pending t ≡ pending s = ap (λ zs. zs ++ samples_in s.queue) (append-nil s.core.builder ∙ ap (λ b. b ++ s.core.builder) (sym none)) in
+    let same : pending_in_shard t ≡ pending_in_shard s = ap (λ zs. zs ++ samples_waiting s.queue) (append-nil s.core.builder ∙ ap (λ b. b ++ s.core.builder) (sym none)) in
     (record { target = refl; full = refl; epoch = refl; number = refl; put = refl; fewer = same_pending s t same }, omega arith, refl)
 freeze_if false s l e = (still_quiet s, omega arith, refl)
 

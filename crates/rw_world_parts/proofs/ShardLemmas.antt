@@ -11,23 +11,23 @@ use Rattle.rw_plain_queue.specs.Items.{Placed, samples_in}
 use Rattle.rw_plain_queue.specs.Queue.{Queue, put_in, front, next_item, after_take}
 use Rattle.rw_plain_queue.specs.declared.item.Item.{Item}
 use Rattle.rw_plain_queue.specs.declared.item.Item.TheVariants.{Sample, Flush, End}
-use Rattle.rw_shard_core.specs.Shard.{Core, IsCore, is_empty, pending, last_of, IsNext, AreInRow, MayTake, placed, take_item, is_answer, settle, reply}
-use Rattle.rw_world_parts.specs.Held.{held_of, queued_of, samples_of, IsShard}
-use Rattle.rw_plain_queue.proofs.Histories.{samples_in-append}
-use Rattle.rw_shard_core.proofs.KeptLemmas.{AreInRow-push, All-one}
+use Rattle.rw_shard_core.specs.Shard.{Core, IsCore, is_empty, pending, last_sample, IsNext, AreInRow, MayTake, placed, take_item, is_answer, settle, reply}
+use Rattle.rw_world_parts.specs.inner.Held.{held_of, queued_of, samples_of, IsShard}
+use Rattle.rw_plain_queue.proofs.shared.Histories.{samples_in-append}
+use Rattle.rw_shard_core.proofs.shared.KeptLemmas.{AreInRow-push, All-one}
 
 -- what was put, with All-one more item
 pub put_more : (q q' : Queue) (x : Item) → q' ≡ record q { items = q.items ++ x ∷ [] } → samples_in (put_in q') ≡ samples_in (put_in q) ++ samples_in (x ∷ [])
 put_more q q' x e =
     ap (λ (p : Queue). samples_in (put_in p)) e ∙ ap samples_in (sym (append_assoc q.taken q.items (x ∷ []))) ∙ samples_in-append (put_in q) (x ∷ [])
 
-last_of-append : (xs : List Placed) (y : Placed) → last_of (xs ++ y ∷ []) ≡ Some y
+last_of-append : (xs : List Placed) (y : Placed) → last_sample (xs ++ y ∷ []) ≡ Some y
 last_of-append [] y = refl
 last_of-append (x ∷ []) y = refl
 last_of-append (x ∷ w ∷ ws) y = last_of-append (w ∷ ws) y
 
 -- the row of a beginning, and the step after it
-next_after : (xs : List Placed) (x : Placed) (ys : List Placed) → AreInRow (xs ++ x ∷ ys) → IfSome (last_of xs) (λ y. IsNext y x)
+next_after : (xs : List Placed) (x : Placed) (ys : List Placed) → AreInRow (xs ++ x ∷ ys) → IfSome (last_sample xs) (λ y. IsNext y x)
 next_after [] x ys h = tt
 next_after (y ∷ []) x ys h = h.0
 next_after (y ∷ z ∷ zs) x ys h = next_after (z ∷ zs) x ys h.1
@@ -61,13 +61,13 @@ put_mark_kept q q' c count taken x s e none =
 
 -- a sample is put
 pub put_sample_kept : (q q' : Queue) (c : Core) (count taken : ℕ) (x : Item) (y : Placed) → IsShard q c count taken → q' ≡ record q { items = q.items ++ x ∷ [] } → samples_in (x ∷ []) ≡ y ∷ [] →
-    y.place.epoch ≡ c.epoch → y.place.shard ≡ c.shard → y.place.seq ≡ count → count < 2 ^ 60 → IfSome (last_of (samples_in (put_in q))) (λ (z : Placed). z.place.pos < y.place.pos) →
+    y.place.epoch ≡ c.epoch → y.place.shard ≡ c.shard → y.place.seq ≡ count → count < 2 ^ 60 → IfSome (last_sample (samples_in (put_in q))) (λ (z : Placed). z.place.pos < y.place.pos) →
     IsShard q' c (count + 1) taken × (samples_in (put_in q') ≡ samples_in (put_in q) ++ y ∷ [])
 put_sample_kept q q' c count taken x y s e sample ep sh seq few later =
     let old = samples_in (put_in q) in
     let same : samples_in (put_in q') ≡ old ++ y ∷ [] = put_more q q' x e ∙ ap (λ zs. old ++ zs) sample in
     let len : length (old ++ y ∷ []) ≡ count + 1 = length-append old (y ∷ []) ∙ ap (λ n. n + 1) (sym s.counted) in
-    let next : IfSome (last_of old) (λ z. IsNext z y) = is_next_of (last_of old) y (length old) s.numbered later (seq ∙ s.counted) in
+    let next : IfSome (last_sample old) (λ z. IsNext z y) = is_next_of (last_sample old) y (length old) s.numbered later (seq ∙ s.counted) in
     let kept : IsShard q' c (count + 1) taken = record {
       not_closed = ap (λ (p : Queue). p.closed) e ∙ s.not_closed;
       not_killed = ap (λ (p : Queue). p.killed) e ∙ s.not_killed;

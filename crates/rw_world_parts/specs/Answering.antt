@@ -1,7 +1,5 @@
 -- A request of a sender, and the answer of a receiver to it.
-use Rattle.std.specs.Prelude.{◌≡◌, ℕ, ◌⊎◌, List, map, length, nat_lt, if◌then◌else◌, Result, Ok, Err}
-use Rattle.std.specs.declared.alloc.AllocError.{AllocError}
-use Rattle.http.specs.StatusCode.{IsStatusCode}
+use Rattle.std.specs.Prelude.{◌≡◌, ℕ, List, map, length, nat_lt, if◌then◌else◌, Ok}
 use Rattle.rw_batch.specs.Grouping.{message}
 use Rattle.rw_plain_queue.specs.Items.{Placed}
 use Rattle.rw_shard_core.specs.Shard.{labelled, body_of, IsReadAgain}
@@ -16,12 +14,7 @@ pub record IsSentTo (host path : List ℕ) (s : Request) : Type 0 where
 
 -- a receiver's answer to the body of a batch: 413 Content Too Large over its limit, or what the
 -- head answers to the message
-abbrev pub answer_within : ℕ → State → List Placed → Answer
-answer_within limit h batch =
+abbrev pub answer_to_batch : ℕ → State → List Placed → Answer
+answer_to_batch limit h batch =
     if nat_lt limit (length (body_of batch)) then record { status = 413; head = h }
     else answer_to h (Ok (message (map labelled batch)))
-
--- the answer; or memory ran out, and the head stays as it was
-abbrev pub IsReplied : Answer → State → Result ℕ AllocError → State → Type 0
-IsReplied a old (Ok status) new = ((status ≡ a.status) × (new ≡ a.head) × IsStatusCode status) ⊎ ((status ≡ 503) × (new ≡ old))
-IsReplied a old (Err e) new = new ≡ old

@@ -1,5 +1,5 @@
 -- What a shard may do next.
-use Rattle.std.specs.Prelude.{◌≡◌, ℕ, Bool, true, not, ◌&&◌, Option, None, Some, if◌then◌else◌}
+use Rattle.std.specs.Prelude.{ℕ, Bool, not, ◌&&◌, Option, None, Some, if◌then◌else◌}
 use Rattle.rw_batch.specs.declared.batch.BatchId.{BatchId}
 use Rattle.rw_shard_core.specs.Shard.{is_empty, is_due, can_take, batch_id}
 use Rattle.rw_machine.specs.Shards.{Shard, has_room}
@@ -19,11 +19,6 @@ may_take s = can_take s.core && not (is_empty s.queue)
 -- a mark may be put
 abbrev pub may_flush : ℕ → Shard → Bool
 may_flush capacity s = not s.end_put && has_room capacity s
-
--- there is a shard, and its batch is open
-abbrev pub IsOpen : Option Shard → Type 0
-IsOpen None = ⊥
-IsOpen (Some s) = is_open s ≡ true
 
 -- the id of the open batch that waits for its reply
 abbrev pub waiting_id : Shard → Option BatchId

@@ -3,3 +3,4 @@ pub mod Sending
 pub mod Positions
 pub mod Answering
 pub mod Guards
+pub mod inner

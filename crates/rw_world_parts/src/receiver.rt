@@ -1,7 +1,8 @@
 //! The receiver's answers to requests.
 
 ghost use Rattle.std.specs.Prelude.{◌≡◌, IfOk, OnOk, OnErr};
-ghost use Rattle.rw_world_parts.specs.Answering.{IsSentTo, IsReplied, answer_within};
+ghost use Rattle.rw_world_parts.specs.Answering.{IsSentTo, answer_to_batch};
+ghost use Rattle.rw_world_parts.specs.inner.Answering.{IsReplied};
 
 use crate::sent::Sent;
 use http::StatusCode;
@@ -50,7 +51,7 @@ fn ask(
 ) -> Result<u16, AllocError>
     requires { IsSentTo host.now limits.now.path sent.now }
     ensures { IsReplied
-        (answer_within limits.now.max_body_bytes head.old sent.now.batch) head.old result head.new }
+        (answer_to_batch limits.now.max_body_bytes head.old sent.now.batch) head.old result head.new }
 {
     let _host = host.as_str();
     let _path = limits.path.as_str();
@@ -72,9 +73,9 @@ pub fn answer_to(
 ) -> Result<StatusCode, AllocError>
     requires { IsSentTo host.now limits.now.path sent.now }
     ensures status { IfOk result
-        (λ s. s ≡ (answer_within limits.now.max_body_bytes head.old sent.now.batch).status) }
+        (λ s. s ≡ (answer_to_batch limits.now.max_body_bytes head.old sent.now.batch).status) }
     ensures head { OnOk result
-        (head.new ≡ (answer_within limits.now.max_body_bytes head.old sent.now.batch).head) }
+        (head.new ≡ (answer_to_batch limits.now.max_body_bytes head.old sent.now.batch).head) }
     ensures err { OnErr result (head.new ≡ head.old) }
 {
     let status = ask(alloc, sent, host, head, limits)?;

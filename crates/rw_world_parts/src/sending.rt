@@ -1,7 +1,7 @@
 //! The shards of an epoch, and the names of the dropped samples.
 
 ghost use Rattle.std.specs.Prelude.{◌≡◌, ℕ, ◌<◌, ◌≤◌, ◌^◌, ◌+◌, ◌++◌, ◌==◌, slice_get, true, false, length, map, Some, None, IfOk, IfSome, MatchOption, OnOk, OnErr};
-ghost use Rattle.rw_machine.specs.Shards.{shard_take, shard_freeze, shard_send, shard_lost, is_drained, pending};
+ghost use Rattle.rw_machine.specs.Shards.{shard_take, shard_freeze, shard_send, shard_lost, is_drained, pending_in_shard};
 ghost use Rattle.rw_machine.specs.Steps.{change};
 ghost use Rattle.std.specs.List.{list_all, list_any, position};
 ghost use Rattle.std.specs.List.Sorted.{IsNonDecreasing};
@@ -10,7 +10,8 @@ ghost use Rattle.rw_plain_queue.specs.Items.{Placed};
 ghost use Rattle.std.specs.FinMap.{insert, empty};
 ghost use Rattle.rw_world_parts.specs.Held.{flushed};
 ghost use Rattle.rw_world_parts.specs.Answering.{IsSentTo};
-ghost use Rattle.rw_world_parts.specs.Sending.{sent_at, replied, room_at, put_to, new_held, all_pending};
+ghost use Rattle.rw_world_parts.specs.Sending.{sent_at, replied, has_room_at, put_to, new_held};
+ghost use Rattle.rw_world_parts.specs.inner.Sending.{all_pending};
 
 use crate::sent::Sent;
 use crate::shard::WorldShard;
@@ -43,7 +44,8 @@ impl Model for Shards {
     ghost use Rattle.std.specs.Coded.{codes};
     ghost use Rattle.std.specs.FinMap as map;
     ghost use Rattle.rw_world_parts.specs.Held.{Held};
-    ghost use Rattle.rw_world_parts.specs.Sending.{Sending, IsSending};
+    ghost use Rattle.rw_world_parts.specs.Sending.{Sending};
+    ghost use Rattle.rw_world_parts.specs.inner.Sending.{IsSending};
 
     ghost Value = { Sending };
 
@@ -243,7 +245,7 @@ impl Shards {
 
     /// Returns whether this shard's queue takes one more item.
     pub fn has_room(&self, i: usize) -> bool
-        ensures { result ≡ room_at self.now.capacity (slice_get self.now.shards i) }
+        ensures { result ≡ has_room_at self.now.capacity (slice_get self.now.shards i) }
     {
         if i >= self.shards.len() {
             return false;
@@ -261,7 +263,7 @@ impl Shards {
         word: Word,
         labels: Arc<LabelSet>,
     ) -> Result<(), AllocError>
-        requires room { room_at self.old.capacity (slice_get self.old.shards i) ≡ true }
+        requires room { has_room_at self.old.capacity (slice_get self.old.shards i) ≡ true }
         requires next { self.old.next ≤ pos }
         requires small { pos < 2 ^ 60 }
         ensures ok { OnOk result (self.new
@@ -315,7 +317,7 @@ impl Shards {
         ensures found { IfOk result (λ v. (pos : ℕ)
             → list_any (λ p. p == pos) v.items
             ≡ list_any
-            (λ s. list_any (λ (x : Placed). x.place.pos == pos) (pending s)) self.now.shards) }
+            (λ s. list_any (λ (x : Placed). x.place.pos == pos) (pending_in_shard s)) self.now.shards) }
         ensures sorted { IfOk result (λ v. IsNonDecreasing v.items) }
     {
         let mut positions = Vec::new(self.alloc);

@@ -1,15 +1,16 @@
 //! One shard of the world.
 
 ghost use Rattle.std.specs.Prelude.{◌≡◌, ◌<◌, ◌≤◌, ◌^◌, ◌==◌, [], ◌∷◌, ◌++◌, true, false, length, Some, None, IfOk, IfSome, OnOk, OnErr};
-ghost use Rattle.rw_shard_core.specs.Shard.{HasRoomFor, IsReadAgain, new_core, freeze_room, last_of, reply_names, places_of, positions_of};
+ghost use Rattle.rw_shard_core.specs.Shard.{HasRoomFor, IsReadAgain, new_core, freeze_room, last_sample, reply_names, places_of, positions_of};
 ghost use Rattle.rw_shard_core.specs.Shard as core;
-ghost use Rattle.rw_machine.specs.Shards.{new_shard, has_room, shard_put, shard_flush, shard_end, with_core, shard_take, shard_freeze, shard_send, shard_lost, is_drained, pending};
+ghost use Rattle.rw_machine.specs.Shards.{new_shard, has_room, shard_put, shard_flush, shard_end, with_core, shard_take, shard_freeze, shard_send, shard_lost, is_drained, pending_in_shard};
 ghost use Rattle.rw_plain_queue.specs.Items.{places_in};
 ghost use Rattle.rw_plain_queue.specs.declared.item.Item.{Item};
 ghost use Rattle.rw_types.specs.declared.place.Place.{Place};
-ghost use Rattle.rw_plain_queue.specs.Queue.{refusal};
+ghost use Rattle.rw_plain_queue.specs.Queue.{put_refusal};
 ghost use Rattle.rw_world_parts.specs.Guards.{is_open, is_ready, may_take, may_flush, waiting_id};
-ghost use Rattle.rw_world_parts.specs.Held.{sample_for, queued_of, samples_of, flushed, sent_by};
+ghost use Rattle.rw_world_parts.specs.Held.{flushed, sent_request};
+ghost use Rattle.rw_world_parts.specs.inner.Held.{sample_for, queued_of, samples_of};
 
 use crate::sent::Sent;
 use http::StatusCode;
@@ -39,7 +40,8 @@ pub(crate) struct WorldShard {
 impl Model for WorldShard {
     ghost use Rattle.std.specs.Prelude.{◌≡◌};
     ghost use Rattle.rw_world_parts.specs.Guards.{is_open, is_ready, may_take, may_flush};
-    ghost use Rattle.rw_world_parts.specs.Held.{Held, held_of, IsShard};
+    ghost use Rattle.rw_world_parts.specs.Held.{Held};
+    ghost use Rattle.rw_world_parts.specs.inner.Held.{held_of, IsShard};
 
     ghost Value = { Held };
 
@@ -51,7 +53,7 @@ impl Model for WorldShard {
 
 /// Puts an item into a queue that takes one more.
 fn put_in(queue: &mut PlainQueue, item: Item)
-    requires { refusal queue.old ≡ None }
+    requires { put_refusal queue.old ≡ None }
     ensures { queue.new ≡ record queue.old { items = queue.old.items ++ item ∷ [] } }
 {
     match queue.put(item) {
@@ -160,7 +162,7 @@ impl WorldShard {
     pub(crate) fn put(&mut self, pos: u64, series: u64, t: i64, word: Word, labels: Arc<LabelSet>)
         requires room { has_room self.old.capacity self.old.shard ≡ true }
         requires few { length self.old.shard.put < 2 ^ 60 }
-        requires later { IfSome (last_of self.old.shard.put) (λ y. y.place.pos < pos) }
+        requires later { IfSome (last_sample self.old.shard.put) (λ y. y.place.pos < pos) }
         ensures { self.new
             ≡ record self.old {
               shard = shard_put
@@ -238,7 +240,7 @@ impl WorldShard {
 
     /// Begins an attempt to send the open batch.
     pub(crate) fn send(&mut self) -> Result<Option<Sent>, AllocError>
-        ensures sent { IfOk result (λ r. r ≡ sent_by self.old.shard) }
+        ensures sent { IfOk result (λ r. r ≡ sent_request self.old.shard) }
         ensures read { IsReadAgain self.old.shard.core.batch }
         ensures ok { OnOk result
             (self.new ≡ record self.old { shard = shard_send self.old.shard }) }
@@ -288,7 +290,7 @@ impl WorldShard {
     /// Adds the positions of the samples that were put and are not resolved.
     pub(crate) fn add_pending(&self, positions: &mut Vec<u64>) -> Result<(), AllocError>
         ensures { OnOk result (positions.new.items
-            ≡ positions.old.items ++ positions_of (places_of (pending self.now.shard))) }
+            ≡ positions.old.items ++ positions_of (places_of (pending_in_shard self.now.shard))) }
     {
         add_places(self.core.pending_places(), positions)?;
         add_queued(&self.queue, positions)

@@ -6,7 +6,7 @@ use Rattle.rw_write_request.specs.declared.fault.WireFault.TheVariants.{OutOfMem
 use Rattle.rw_write_request.specs.Message.{WriteRequest}
 use Rattle.rw_write_request.specs.Spells.{Spells}
 use Rattle.rw_write_request.specs.Read.{GivesOrMemory, read}
-use Rattle.rw_write_request.proofs.Meanings.{ok_is, request-takes, request-again}
+use Rattle.rw_write_request.proofs.shared.Meanings.{ok_is, request-takes, request-again}
 
 pub is_found : (bytes : List ℕ) (r : Result WriteRequest WireFault) → GivesOrMemory (λ m. m) r (read bytes) → IfOk r (λ m. Spells bytes m)
 is_found bytes (Ok m) h = request-takes bytes m h

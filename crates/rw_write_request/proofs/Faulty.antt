@@ -15,13 +15,13 @@ use Rattle.rw_types.specs.Labels.{Label}
 use Rattle.rw_write_request.specs.Message.{Sample, TimeSeries, WriteRequest}
 use Rattle.rw_write_request.specs.Fields.{Content, Varint, Fixed64, Bytes, Fixed32, Field, IsUvarint, wire_of, known_wire, HasKnownWire}
 use Rattle.rw_write_request.specs.Spells.{IsText, SpellsLabel, SpellsSample, SpellsSeries}
-use Rattle.rw_write_request.specs.Read.{varint_fault, in_message, uvarint_at, bytes_at, content_at, known_judged, judged, field_at, fields_in, text, word, timestamp, nested, label_step, read_label, sample_step, read_sample, series_step, read_series, request_step, read}
-use Rattle.rw_write_request.specs.Faults.{VarintFault, TooFew, ContentFault, IsWire, IsMisfit, TagFault, IsTag, TaggedFault, FieldFault, FirstFault, Holds, FaultyText, IsLabelField, LabelFault, SampleFault, FaultOf, IsSeriesField, SeriesFault, IsRequestField, RequestFault}
+use Rattle.rw_write_request.specs.Read.{varint_fault, in_message, uvarint_at, bytes_at, content_at, known_judged, judged_tag, field_at, fields_in, text, word, timestamp, nested, label_step, read_label, sample_step, read_sample, series_step, read_series, request_step, read}
+use Rattle.rw_write_request.specs.Faults.{VarintFault, TooFew, ContentFault, IsWire, IsMisfit, TagFault, IsTag, TaggedFault, FieldFault, FirstFault, HoldsSpelling, FaultyText, IsLabelField, LabelFault, SampleFault, FaultOf, IsSeriesField, SeriesFault, IsRequestField, RequestFault}
 use Rattle.rw_write_request.proofs.Results.{bind_ok, chosen}
 use Rattle.rw_write_request.proofs.Varints.{uvarint-takes}
 use Rattle.rw_write_request.proofs.Loop.{field-shorter}
 use Rattle.rw_write_request.proofs.Grammar.{field-takes, judged-takes}
-use Rattle.rw_write_request.proofs.Meanings.{text-takes, label-takes, sample-takes, series-takes}
+use Rattle.rw_write_request.proofs.shared.Meanings.{text-takes, label-takes, sample-takes, series-takes}
 
 -- which step failed
 bind_err : {A B : Type 0} (r : Result A WireFault) (f : A → Result B WireFault) (e : WireFault) → (r >>= f) ≡ Err e → (r ≡ Err e) ⊎ ((x : A) × (r ≡ Ok x) × (f x ≡ Err e))
@@ -93,8 +93,8 @@ known-err (Some w) wire e h =
       | inr p ↦ ((w, refl, eqb-false wire w p.0), let q = p.1 in cc)
     ]
 
-judged_wire : (kind : Kind) (number wire w : ℕ) → judged kind number wire ≡ Ok w → IsWire wire
-unfolding judged
+judged_wire : (kind : Kind) (number wire w : ℕ) → judged_tag kind number wire ≡ Ok w → IsWire wire
+unfolding judged_tag
 judged_wire kind number wire w h =
     elim (chosen (eqb number 0) (Err FieldZero) _ (Ok w) h) [
       | inl p ↦ absurd (let q = p.1 in cc)
@@ -111,8 +111,8 @@ not_wire : (wire : ℕ) → 3 ≤ wire → wire ≢ 5 → ¬ (IsWire wire)
 not_wire wire le n (inl lt) = absurd (omega arith)
 not_wire wire le n (inr is) = absurd (n is)
 
-judged-err : (kind : Kind) (number wire : ℕ) (e : WireFault) → judged kind number wire ≡ Err e → TagFault kind number wire e
-unfolding judged
+judged-err : (kind : Kind) (number wire : ℕ) (e : WireFault) → judged_tag kind number wire ≡ Err e → TagFault kind number wire e
+unfolding judged_tag
 judged-err kind number wire e h =
     elim (chosen (eqb number 0) (Err FieldZero) _ (Err e) h) [
       | inl p ↦ inl (eqb-true number 0 p.0, let q = p.1 in cc)
@@ -138,9 +138,9 @@ tagged kind bytes tag e h fault =
 field-err : (kind : Kind) (bytes : List ℕ) (e : WireFault) → field_at kind bytes ≡ Err e → FieldFault kind bytes e
 unfolding field_at
 field-err kind bytes e h =
-    elim (bind_err (uvarint_at bytes) (λ tag. judged kind (tag.0 / 8) (tag.0 % 8) >>= λ wire. content_at wire tag.1 >>= λ content. Ok (record { number = tag.0 / 8; content = content.0 }, content.1)) e h) [
+    elim (bind_err (uvarint_at bytes) (λ tag. judged_tag kind (tag.0 / 8) (tag.0 % 8) >>= λ wire. content_at wire tag.1 >>= λ content. Ok (record { number = tag.0 / 8; content = content.0 }, content.1)) e h) [
       | inl p ↦ inl (uvarint-err bytes e p)
-      | inr p ↦ inr (tagged kind bytes p.0 e p.1 (elim (bind_err (judged kind (p.0.0 / 8) (p.0.0 % 8)) (λ wire. content_at wire p.0.1 >>= λ content. Ok (record { number = p.0.0 / 8; content = content.0 }, content.1)) e p.2) [
+      | inr p ↦ inr (tagged kind bytes p.0 e p.1 (elim (bind_err (judged_tag kind (p.0.0 / 8) (p.0.0 % 8)) (λ wire. content_at wire p.0.1 >>= λ content. Ok (record { number = p.0.0 / 8; content = content.0 }, content.1)) e p.2) [
         | inl q ↦ inl (judged-err kind (p.0.0 / 8) (p.0.0 % 8) e q)
         | inr q ↦
             let j = judged-takes kind (p.0.0 / 8) (p.0.0 % 8) q.0 q.1 in
@@ -236,7 +236,7 @@ nested_err reader (Fixed64 n) e w h = absurd (omega arith)
 nested_err reader (Fixed32 n) e w h = absurd (omega arith)
 
 nested_holds : {X : Type 0} (reader : List ℕ → Result X WireFault) (Spelling : List ℕ → X → Type 0) → ((bytes : List ℕ) (x : X) → reader bytes ≡ Ok x → Spelling bytes x)
-    → (c : Content) (x : X) → nested reader c ≡ Ok x → Holds Spelling c
+    → (c : Content) (x : X) → nested reader c ≡ Ok x → HoldsSpelling Spelling c
 unfolding nested
 nested_holds reader Spelling h (Bytes bytes) x e = (bytes, x, refl, h bytes x e)
 nested_holds reader Spelling h (Varint n) x e = absurd cc

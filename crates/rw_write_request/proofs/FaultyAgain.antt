@@ -15,14 +15,14 @@ use Rattle.rw_types.specs.Labels.{Label}
 use Rattle.rw_write_request.specs.Message.{Sample, TimeSeries, WriteRequest}
 use Rattle.rw_write_request.specs.Fields.{Content, Varint, Fixed64, Bytes, Fixed32, Field, wire_of, AreFields, known_wire, HasKnownWire}
 use Rattle.rw_write_request.specs.Spells.{IsText, SpellsLabel, SpellsSample, SpellsSeries}
-use Rattle.rw_write_request.specs.Read.{in_message, uvarint_at, bytes_at, content_at, known_judged, judged, field_at, read_fields, text, word, timestamp, nested, label_step, read_label, sample_step, read_sample, series_step, read_series, request_step, read}
-use Rattle.rw_write_request.specs.Faults.{VarintFault, TooFew, ContentFault, IsWire, TagFault, TaggedFault, FieldFault, InnerFault, Holds, FaultyText, IsLabelField, LabelFault, SampleFault, FaultOf, IsSeriesField, SeriesFault, IsRequestField, RequestFault}
+use Rattle.rw_write_request.specs.Read.{in_message, uvarint_at, bytes_at, content_at, known_judged, judged_tag, field_at, read_fields, text, word, timestamp, nested, label_step, read_label, sample_step, read_sample, series_step, read_series, request_step, read}
+use Rattle.rw_write_request.specs.Faults.{VarintFault, TooFew, ContentFault, IsWire, TagFault, TaggedFault, FieldFault, InnerFault, HoldsSpelling, FaultyText, IsLabelField, LabelFault, SampleFault, FaultOf, IsSeriesField, SeriesFault, IsRequestField, RequestFault}
 use Rattle.rw_write_request.proofs.TextReads.{text-bad}
 use Rattle.rw_write_request.proofs.Varints.{uvarint-again}
 use Rattle.rw_write_request.proofs.Loop.{more, bad_field, bad_step, field-shorter}
 use Rattle.rw_write_request.proofs.Grammar.{field-again, known-again}
 use Rattle.rw_write_request.proofs.Faulty.{wire_at}
-use Rattle.rw_write_request.proofs.Meanings.{label-again, sample-again, series-again}
+use Rattle.rw_write_request.proofs.shared.Meanings.{label-again, sample-again, series-again}
 
 abbrev failed : {A : Type 0} → WireFault → Result A WireFault
 failed e = Err e
@@ -60,8 +60,8 @@ content_wire wire bytes e (inr (inr (inr h))) = inr h.0
 -- ---- the tag
 
 -- after the test of the number, a wire type that there is leads to the test of a known field
-judged-known : (kind : Kind) (number wire : ℕ) → 0 < number → IsWire wire → judged kind number wire ≡ known_judged (known_wire kind number) wire
-unfolding judged
+judged-known : (kind : Kind) (number wire : ℕ) → 0 < number → IsWire wire → judged_tag kind number wire ≡ known_judged (known_wire kind number) wire
+unfolding judged_tag
 judged-known kind number wire some (inl lt) =
     let n : eqb number 0 ≡ false = ne_eqb number 0 (omega arith) in
     rw (n, lt-ltb wire 3 lt) refl
@@ -73,8 +73,8 @@ misfit-stops : (o : Option ℕ) (wire w : ℕ) → o ≡ Some w → wire ≢ w �
 unfolding known_judged
 misfit-stops o wire w e ne = rw e (let t : eqb wire w ≡ false = ne_eqb wire w ne in rw t refl)
 
-tag-stops : (kind : Kind) (number wire : ℕ) (e : WireFault) → TagFault kind number wire e → judged kind number wire ≡ Err e
-unfolding judged
+tag-stops : (kind : Kind) (number wire : ℕ) (e : WireFault) → TagFault kind number wire e → judged_tag kind number wire ≡ Err e
+unfolding judged_tag
 tag-stops kind number wire e (inl h) = rw h.0 (ap failed (sym h.1))
 tag-stops kind number wire e (inr (inl h)) =
     let n : eqb number 0 ≡ false = ne_eqb number 0 (omega (arith, h.0)) in
@@ -96,7 +96,7 @@ tagged-stops kind bytes e t =
       | inl h ↦ rw (tag-stops kind t.number t.wire e h) refl
       | inr h ↦
           let wire = content_wire t.wire t.rest e h.1 in
-          let fine : judged kind t.number t.wire ≡ Ok t.wire = judged-known kind t.number t.wire h.0.0 wire ∙ known-again (known_wire kind t.number) t.wire h.0.1 in
+          let fine : judged_tag kind t.number t.wire ≡ Ok t.wire = judged-known kind t.number t.wire h.0.0 wire ∙ known-again (known_wire kind t.number) t.wire h.0.1 in
           rw (fine, content-stops t.wire t.rest e h.1) refl
     ])
 
@@ -205,7 +205,7 @@ sample-stops bytes e h = fields-stop kinds.Sample sample_step (λ f. Unit {0}) (
 -- ---- nested messages
 
 nested_fine : {X : Type 0} (reader : List ℕ → Result X WireFault) (Spelling : List ℕ → X → Type 0) → ((bytes : List ℕ) (x : X) → Spelling bytes x → reader bytes ≡ Ok x)
-    → (c : Content) → Holds Spelling c → (x : X) × (nested reader c ≡ Ok x)
+    → (c : Content) → HoldsSpelling Spelling c → (x : X) × (nested reader c ≡ Ok x)
 unfolding nested
 nested_fine reader Spelling again c h = (h.1, ap (nested reader) h.2 ∙ again h.0 h.1 h.3)
 

@@ -12,7 +12,7 @@ use Rattle.rw_write_request.specs.declared.fault.WireFault.TheVariants.{Truncate
 use Rattle.rw_write_request.specs.declared.kind.Kind.{Kind}
 use Rattle.rw_write_request.specs.Fields.{IsUvarint, Content, Varint, Fixed64, Bytes, Fixed32, Field, wire_of, IsPayload, IsField, AreFields, known_wire, HasKnownWire}
 use Rattle.rw_write_request.specs.Spells.{AreFieldsOf}
-use Rattle.rw_write_request.specs.Read.{uvarint_at, bytes_at, content_at, known_judged, judged, field_at, fields_in, read_fields}
+use Rattle.rw_write_request.specs.Read.{uvarint_at, bytes_at, content_at, known_judged, judged_tag, field_at, fields_in, read_fields}
 use Rattle.rw_write_request.proofs.Results.{bind_ok, bind-is, guard_ok, chosen, pair_ok}
 use Rattle.rw_write_request.proofs.Loop.{field-shorter, more, done}
 use Rattle.rw_write_request.proofs.Varints.{Uvarint, uvarint-takes, uvarint-again}
@@ -109,8 +109,8 @@ unfolding known_judged
 known-again None wire h = refl
 known-again (Some k) wire h = rw (eq-eqb wire k h) refl
 
-pub judged-takes : (kind : Kind) (number wire w : ℕ) → judged kind number wire ≡ Ok w → Judged kind number wire w
-unfolding judged
+pub judged-takes : (kind : Kind) (number wire w : ℕ) → judged_tag kind number wire ≡ Ok w → Judged kind number wire w
+unfolding judged_tag
 judged-takes kind number wire w e =
     elim (chosen (eqb number 0) (Err FieldZero) _ (Ok w) e) [
       | inl p ↦ absurd (let r = p.1 in cc)
@@ -127,8 +127,8 @@ judged-takes kind number wire w e =
           record { same = t.0; numbered = numbered; known = t.1 }
     ]
 
-pub judged-again : (kind : Kind) (number : ℕ) (content : Content) → 0 < number → IfSome (known_wire kind number) (λ k. wire_of content ≡ k) → judged kind number (wire_of content) ≡ Ok (wire_of content)
-unfolding judged
+pub judged-again : (kind : Kind) (number : ℕ) (content : Content) → 0 < number → IfSome (known_wire kind number) (λ k. wire_of content ≡ k) → judged_tag kind number (wire_of content) ≡ Ok (wire_of content)
+unfolding judged_tag
 judged-again kind number (Varint _) lt h = let e : eqb number 0 ≡ false = ne_eqb number 0 (omega arith) in rw e (known-again (known_wire kind number) 0 h)
 judged-again kind number (Fixed64 _) lt h = let e : eqb number 0 ≡ false = ne_eqb number 0 (omega arith) in rw e (known-again (known_wire kind number) 1 h)
 judged-again kind number (Bytes _) lt h = let e : eqb number 0 ≡ false = ne_eqb number 0 (omega arith) in rw e (known-again (known_wire kind number) 2 h)
@@ -166,8 +166,8 @@ wire-below (Fixed32 _) = omega arith
 pub field-takes : (kind : Kind) (bytes : List ℕ) (x : Field × List ℕ) → field_at kind bytes ≡ Ok x → TakesField kind bytes x.0 x.1
 unfolding field_at
 field-takes kind bytes x e =
-    let a = bind_ok (uvarint_at bytes) (λ tag. judged kind (tag.0 / 8) (tag.0 % 8) >>= λ wire. content_at wire tag.1 >>= λ content. Ok (record { number = tag.0 / 8; content = content.0 }, content.1)) x e in
-    let b = bind_ok (judged kind (a.0.0 / 8) (a.0.0 % 8)) (λ wire. content_at wire a.0.1 >>= λ content. Ok (record { number = a.0.0 / 8; content = content.0 }, content.1)) x a.2 in
+    let a = bind_ok (uvarint_at bytes) (λ tag. judged_tag kind (tag.0 / 8) (tag.0 % 8) >>= λ wire. content_at wire tag.1 >>= λ content. Ok (record { number = tag.0 / 8; content = content.0 }, content.1)) x e in
+    let b = bind_ok (judged_tag kind (a.0.0 / 8) (a.0.0 % 8)) (λ wire. content_at wire a.0.1 >>= λ content. Ok (record { number = a.0.0 / 8; content = content.0 }, content.1)) x a.2 in
     let c = bind_ok (content_at b.0 a.0.1) (λ content. Ok (record { number = a.0.0 / 8; content = content.0 }, content.1)) x b.2 in
     field_made kind bytes a.0 b.0 c.0 x (uvarint-takes bytes a.0 a.1) (judged-takes kind (a.0.0 / 8) (a.0.0 % 8) b.0 b.1) (content-takes b.0 a.0.1 c.0 c.1) (pair_ok (record { number = a.0.0 / 8; content = c.0.0 }, c.0.1) x c.2)
 

@@ -1,11 +1,8 @@
 pub mod Results
 pub mod Varints
-pub mod Validity
 pub mod Loop
 pub mod TextReads
 pub mod Grammar
-pub mod Meanings
-pub mod Spelled
 pub mod Decoded
 pub mod LittleEnd
 pub mod Counts
@@ -13,3 +10,4 @@ pub mod Faulty
 pub mod FaultyAgain
 pub mod Certain
 pub mod ReadOn
+pub mod shared

@@ -6,7 +6,7 @@ use Rattle.rw_write_request.specs.declared.fault.WireFault.TheVariants.{Truncate
 use Rattle.rw_write_request.specs.declared.kind.Kind.{Kind}
 use Rattle.rw_write_request.specs.Fields.{Content, Varint, Fixed64, Bytes, Fixed32, Field}
 use Rattle.rw_codes.specs.Varint.{◌>>=◌}
-use Rattle.rw_write_request.specs.Read.{uvarint_at, bytes_at, content_at, judged, field_at, fields_in, read_fields}
+use Rattle.rw_write_request.specs.Read.{uvarint_at, bytes_at, content_at, judged_tag, field_at, fields_in, read_fields}
 use Rattle.rw_write_request.proofs.Results.{bind_ok, guard_ok, chosen, pair_ok}
 use Rattle.rw_write_request.proofs.Varints.{uvarint-shorter}
 
@@ -52,8 +52,8 @@ field_rest n k f rest x lt le q = rw (← q) (omega arith)
 pub field-shorter : (kind : Kind) (bytes : List ℕ) (x : Field × List ℕ) → field_at kind bytes ≡ Ok x → length x.1 < length bytes
 unfolding field_at
 field-shorter kind bytes x e =
-    let a = bind_ok (uvarint_at bytes) (λ tag. judged kind (tag.0 / 8) (tag.0 % 8) >>= λ wire. content_at wire tag.1 >>= λ content. Ok (record { number = tag.0 / 8; content = content.0 }, content.1)) x e in
-    let b = bind_ok (judged kind (a.0.0 / 8) (a.0.0 % 8)) (λ wire. content_at wire a.0.1 >>= λ content. Ok (record { number = a.0.0 / 8; content = content.0 }, content.1)) x a.2 in
+    let a = bind_ok (uvarint_at bytes) (λ tag. judged_tag kind (tag.0 / 8) (tag.0 % 8) >>= λ wire. content_at wire tag.1 >>= λ content. Ok (record { number = tag.0 / 8; content = content.0 }, content.1)) x e in
+    let b = bind_ok (judged_tag kind (a.0.0 / 8) (a.0.0 % 8)) (λ wire. content_at wire a.0.1 >>= λ content. Ok (record { number = a.0.0 / 8; content = content.0 }, content.1)) x a.2 in
     let c = bind_ok (content_at b.0 a.0.1) (λ content. Ok (record { number = a.0.0 / 8; content = content.0 }, content.1)) x b.2 in
     let q = pair_ok (record { number = a.0.0 / 8; content = c.0.0 }, c.0.1) x c.2 in
     let lt = uvarint-shorter bytes a.0 a.1 in

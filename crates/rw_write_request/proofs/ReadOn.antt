@@ -13,11 +13,11 @@ use Rattle.rw_write_request.specs.Message.{Sample, TimeSeries, WriteRequest}
 use Rattle.rw_write_request.specs.Fields.{Content, Bytes, Field, AreFields, HasKnownWire, contents}
 use Rattle.rw_write_request.specs.Spells.{EachSpells, SpellsLabel, AreFieldsOf}
 use Rattle.rw_write_request.specs.Read.{field_at, nested, read_fields, read_label, read_series, request_step, series_step}
-use Rattle.rw_write_request.specs.Parts.{read_on, with_series, series_on, IsHeadOf}
+use Rattle.rw_write_request.specs.Parts.{read_on, read_on_after, series_on, IsHeadOf}
 use Rattle.rw_write_request.proofs.Results.{bind_ok, bind-is, chosen}
 use Rattle.rw_write_request.proofs.Loop.{field-shorter, more}
 use Rattle.rw_write_request.proofs.Grammar.{field-again, fold_fields, read-takes}
-use Rattle.rw_write_request.proofs.Meanings.{ok_is, series-takes, samples-longer, labels-longer}
+use Rattle.rw_write_request.proofs.shared.Meanings.{ok_is, series-takes, samples-longer, labels-longer}
 
 -- ---- a message
 passed : (m : WriteRequest) (f : Field) → f.number ≢ 1 → request_step m f ≡ Ok m
@@ -28,7 +28,7 @@ pub other_part : (bytes : List ℕ) (f : Field) (rest : List ℕ) (m : WriteRequ
 other_part bytes f rest m lt at ne = more kinds.WriteRequest request_step m bytes f rest lt at ∙ ap (λ (r : Result WriteRequest WireFault). r >>= λ next. read_on next rest) (passed m f ne)
 
 series_next : (m : WriteRequest) (rest : List ℕ) (r : Result TimeSeries WireFault)
-    → ((r >>= λ s. (let made : Result WriteRequest WireFault = Ok (m ++ s ∷ []) in made)) >>= λ next. read_on next rest) ≡ with_series m r rest
+    → ((r >>= λ s. (let made : Result WriteRequest WireFault = Ok (m ++ s ∷ []) in made)) >>= λ next. read_on next rest) ≡ read_on_after m r rest
 series_next m rest (Ok s) = refl
 series_next m rest (Err e) = refl
 
@@ -37,7 +37,7 @@ unfolding request_step
 brought m f e = let yes : eqb f.number 1 ≡ true = eq-eqb f.number 1 e in rw yes refl
 
 pub series_part : (bytes series : List ℕ) (f : Field) (rest : List ℕ) (m : WriteRequest) → 0 < length bytes → field_at kinds.WriteRequest bytes ≡ Ok (f, rest) → f.number ≡ 1 → f.content ≡ Bytes series
-    → read_on m bytes ≡ with_series m (read_series series) rest
+    → read_on m bytes ≡ read_on_after m (read_series series) rest
 unfolding nested
 series_part bytes series f rest m lt at e is =
     more kinds.WriteRequest request_step m bytes f rest lt at ∙ ap (λ (r : Result WriteRequest WireFault). r >>= λ next. read_on next rest) (brought m f e)

@@ -4,7 +4,7 @@ use Rattle.std.proofs.lemmas.List.{append-nil}
 use Rattle.rw_codes.specs.declared.code_fault.CodeFault.{CodeFault}
 use Rattle.rw_codes.specs.declared.code_fault.CodeFault.TheVariants.{TooBig}
 use Rattle.rw_codes.specs.Varint.{◌>>=◌, number_in_groups, read_uvarint, uvarint}
-use Rattle.rw_codes.proofs.VarintLaws.{uvarint_again}
+use Rattle.rw_codes.proofs.shared.VarintLaws.{uvarint_again}
 use Rattle.rw_write_request.specs.Fields.{IsUvarint}
 use Rattle.rw_write_request.specs.Read.{in_message, uvarint_at}
 use Rattle.rw_write_request.proofs.Results.{bind_ok, chosen, pair_ok}

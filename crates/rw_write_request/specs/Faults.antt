@@ -96,8 +96,8 @@ pub record FirstFault (kind : Kind) (Sound : Field → Type 0) (Inner : Field �
 -- ---- the messages
 
 -- a message of which this is a spelling
-abbrev pub Holds : {X : Type 0} → (List ℕ → X → Type 0) → Content → Type 0
-Holds Spelling c = (bytes : List ℕ) × (x : _) × (c ≡ Bytes bytes) × Spelling bytes x
+abbrev pub HoldsSpelling : {X : Type 0} → (List ℕ → X → Type 0) → Content → Type 0
+HoldsSpelling Spelling c = (bytes : List ℕ) × (x : _) × (c ≡ Bytes bytes) × Spelling bytes x
 
 abbrev pub FaultyText : Field → WireFault → Type 0
 FaultyText f e = ((f.number ≡ 1) ⊎ (f.number ≡ 2)) × ((bytes : List ℕ) × (f.content ≡ Bytes bytes) × ¬ (IsUtf8 bytes)) × (e ≡ NotUtf8)
@@ -116,13 +116,13 @@ abbrev pub FaultOf : ℕ → (List ℕ → WireFault → Type 0) → Field → W
 FaultOf number Fault f e = (f.number ≡ number) × ((bytes : List ℕ) × (f.content ≡ Bytes bytes) × Fault bytes e)
 
 abbrev pub IsSeriesField : Field → Type 0
-IsSeriesField f = (f.number ≡ 1 → Holds SpellsLabel f.content) × (f.number ≡ 2 → Holds SpellsSample f.content)
+IsSeriesField f = (f.number ≡ 1 → HoldsSpelling SpellsLabel f.content) × (f.number ≡ 2 → HoldsSpelling SpellsSample f.content)
 
 abbrev pub SeriesFault : List ℕ → WireFault → Type 0
 SeriesFault bytes e = FirstFault kinds.TimeSeries IsSeriesField (λ f e. FaultOf 1 LabelFault f e ⊎ FaultOf 2 SampleFault f e) bytes e
 
 abbrev pub IsRequestField : Field → Type 0
-IsRequestField f = f.number ≡ 1 → Holds SpellsSeries f.content
+IsRequestField f = f.number ≡ 1 → HoldsSpelling SpellsSeries f.content
 
 abbrev pub RequestFault : List ℕ → WireFault → Type 0
 RequestFault bytes e = FirstFault kinds.WriteRequest IsRequestField (FaultOf 1 SeriesFault) bytes e

@@ -4,7 +4,7 @@ pub mod Canon
 pub mod Fields
 pub mod Spells
 pub mod Read
-pub mod View
 pub mod Valid
 pub mod Faults
 pub mod Parts
+pub mod inner

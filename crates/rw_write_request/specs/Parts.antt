@@ -12,9 +12,9 @@ abbrev pub read_on : WriteRequest → List ℕ → Result WriteRequest WireFault
 read_on m bytes = read_fields kinds.WriteRequest request_step m bytes
 
 -- the same, after what was read as one more series
-abbrev pub with_series : WriteRequest → Result TimeSeries WireFault → List ℕ → Result WriteRequest WireFault
-with_series m (Ok s) rest = read_on (m ++ s ∷ []) rest
-with_series m (Err e) rest = Err e
+abbrev pub read_on_after : WriteRequest → Result TimeSeries WireFault → List ℕ → Result WriteRequest WireFault
+read_on_after m (Ok s) rest = read_on (m ++ s ∷ []) rest
+read_on_after m (Err e) rest = Err e
 
 -- the series that the bytes spell after what was read of it before them, or the first fault
 abbrev pub series_on : TimeSeries → List ℕ → Result TimeSeries WireFault

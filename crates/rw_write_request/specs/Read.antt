@@ -14,20 +14,10 @@ use Rattle.rw_types.specs.Labels.{Label}
 use Rattle.rw_write_request.specs.Message.{Sample, TimeSeries, WriteRequest}
 use Rattle.rw_write_request.specs.Fields.{Content, Varint, Fixed64, Bytes, Fixed32, Field, known_wire}
 
--- What a function returned, seen by view, is what reading gives.
-abbrev pub Gives : {X Y : Type 0} → (X → Y) → Result X WireFault → Result Y WireFault → Type 0
-Gives view (Ok x) read = read ≡ Ok (view x)
-Gives view (Err e) read = read ≡ Err e
-
--- the same, unless memory ran out
+-- What a function returned, seen by view, is what reading gives, unless memory ran out.
 abbrev pub GivesOrMemory : {X Y : Type 0} → (X → Y) → Result X WireFault → Result Y WireFault → Type 0
 GivesOrMemory view (Ok x) read = read ≡ Ok (view x)
 GivesOrMemory view (Err e) read = e ≢ OutOfMemory → read ≡ Err e
-
--- What a function that judges bytes says about reading them: they are read, or this is the fault.
-abbrev pub Judges : {X : Type 0} → Result (Unit {0}) WireFault → Result X WireFault → Type 0
-Judges {X} (Ok u) read = (x : X) × (read ≡ Ok x)
-Judges {X} (Err e) read = read ≡ Err e
 
 -- what a varint that cannot be read says about its message
 abbrev pub varint_fault : CodeFault → WireFault
@@ -61,8 +51,8 @@ known_judged None wire = Ok wire
 known_judged (Some known) wire = if wire == known then Ok wire else Err WrongWire
 
 -- at a tag: the number, then the wire type, then that of a known field
-unfoldable pub judged : Kind → ℕ → ℕ → Result ℕ WireFault
-judged kind number wire =
+unfoldable pub judged_tag : Kind → ℕ → ℕ → Result ℕ WireFault
+judged_tag kind number wire =
     if number == 0 then Err FieldZero
     else (if nat_lt wire 3 then known_judged (known_wire kind number) wire
     else (if wire == 5 then known_judged (known_wire kind number) wire
@@ -71,7 +61,7 @@ judged kind number wire =
 unfoldable pub field_at : Kind → List ℕ → Result (Field × List ℕ) WireFault
 field_at kind bytes = do
   tag ← uvarint_at bytes
-  wire ← judged kind (tag.0 / 8) (tag.0 % 8)
+  wire ← judged_tag kind (tag.0 / 8) (tag.0 % 8)
   content ← content_at wire tag.1
   Ok (record { number = tag.0 / 8; content = content.0 }, content.1)
 

@@ -4,5 +4,5 @@ use Rattle.std.specs.Global.{Global}
 use Rattle.rw_types.specs.Labels.{text_label}
 use Rattle.rw_write_request.specs.Message.{Sample, TimeSeries}
 
-abbrev pub series_of : List (String Global × String Global) → List Sample → TimeSeries
-series_of labels samples = record { labels = map text_label labels; samples = samples }
+abbrev pub series_of_texts : List (String Global × String Global) → List Sample → TimeSeries
+series_of_texts labels samples = record { labels = map text_label labels; samples = samples }

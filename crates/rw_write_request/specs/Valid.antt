@@ -10,12 +10,12 @@ use Rattle.rw_write_request.specs.Canon.{canon}
 abbrev pub IsLabel : Label → Type 0
 IsLabel l = IsUtf8 l.0 × IsUtf8 l.1
 
-abbrev pub IsSample : Sample → Type 0
-IsSample s = (s.0 < 2 ^ 64) × FitsSigned w64 s.1
+abbrev pub IsValidSample : Sample → Type 0
+IsValidSample s = (s.0 < 2 ^ 64) × FitsSigned w64 s.1
 
 pub record IsSeries (s : TimeSeries) : Type 0 where
   pub labels : AllByRecursion IsLabel s.labels
-  pub samples : AllByRecursion IsSample s.samples
+  pub samples : AllByRecursion IsValidSample s.samples
 
 pub record IsMessage (m : WriteRequest) : Type 0 where
   pub series : AllByRecursion IsSeries m

@@ -2,8 +2,9 @@
 
 ghost use Rattle.std.specs.Prelude.{◌≡◌, ◌≢◌, Ok, Err, OnOk, IfErr};
 ghost use Rattle.rw_write_request.specs.Message.{TimeSeries, WriteRequest};
-ghost use Rattle.rw_write_request.specs.Read.{Judges, nested, read_label, read_series, series_step, read};
-ghost use Rattle.rw_write_request.specs.View.{content_view, field_view};
+ghost use Rattle.rw_write_request.specs.Read.{nested, read_label, read_series, series_step, read};
+ghost use Rattle.rw_write_request.specs.inner.Read.{Judges};
+ghost use Rattle.rw_write_request.specs.inner.View.{content_view, field_view};
 ghost use Rattle.rw_write_request.specs.declared.fault.WireFault.TheVariants.{OutOfMemory};
 
 use crate::fault::WireFault;

@@ -2,7 +2,7 @@
 
 ghost use Rattle.std.specs.Prelude.{◌≡◌, ◌≤◌, ◌+◌, ◌^◌, length, IfSome, IfNone};
 ghost use Rattle.rw_write_request.specs.Canon.{sample, sample_field, sample_fields, series, series_field, series_head, canon};
-ghost use Rattle.rw_write_request.specs.Texts.{series_of};
+ghost use Rattle.rw_write_request.specs.Texts.{series_of_texts};
 
 use crate::message::{Message, Series};
 use rw_codes::uvarint_len;
@@ -41,8 +41,8 @@ fn sample_fields_len(samples: &[(Word, i64)]) -> Option<usize>
 
 #[tactic(auto, unfolding(crate::specs::Canon::series))]
 pub(crate) fn parts_len(labels: &[(String, String)], samples: &[(Word, i64)]) -> Option<usize>
-    ensures some { IfSome result (λ n. n ≡ length (series (series_of labels.now samples.now))) }
-    ensures none { IfNone result (2 ^ 64 ≤ length (series (series_of labels.now samples.now))) }
+    ensures some { IfSome result (λ n. n ≡ length (series (series_of_texts labels.now samples.now))) }
+    ensures none { IfNone result (2 ^ 64 ≤ length (series (series_of_texts labels.now samples.now))) }
 {
     let labels = label_fields_len(labels)?;
     let samples = sample_fields_len(samples)?;
@@ -66,9 +66,9 @@ pub fn series_head_len(labels: &LabelSet, len: usize) -> Option<usize>
 #[tactic(auto, unfolding(crate::specs::Canon::series_field))]
 pub fn series_field_len(labels: &[(String, String)], samples: &[(Word, i64)]) -> Option<usize>
     ensures some { IfSome result
-        (λ n. n ≡ length (series_field (series_of labels.now samples.now))) }
+        (λ n. n ≡ length (series_field (series_of_texts labels.now samples.now))) }
     ensures none { IfNone result
-        (2 ^ 64 ≤ length (series_field (series_of labels.now samples.now))) }
+        (2 ^ 64 ≤ length (series_field (series_of_texts labels.now samples.now))) }
 {
     let inner = parts_len(labels, samples)?;
     bytes_field_len(inner)

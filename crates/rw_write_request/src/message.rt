@@ -14,11 +14,11 @@ pub struct Series {
 
 impl Model for Series {
     ghost use Rattle.rw_write_request.specs.Message.{TimeSeries};
-    ghost use Rattle.rw_write_request.specs.Texts.{series_of};
+    ghost use Rattle.rw_write_request.specs.Texts.{series_of_texts};
 
     ghost Value = { TimeSeries };
 
-    ghost view = { λ s. series_of s.labels.items s.samples.items };
+    ghost view = { λ s. series_of_texts s.labels.items s.samples.items };
 }
 
 /// A write request (`WriteRequest`): its series in order.

@@ -6,9 +6,9 @@ ghost use Rattle.rw_types.specs.Labels.{Labels};
 ghost use Rattle.rw_write_request.specs.Message.{Sample, TimeSeries, WriteRequest};
 ghost use Rattle.rw_write_request.specs.Read.{GivesOrMemory, read_series, series_step};
 ghost use Rattle.rw_write_request.specs.declared.fault.WireFault.TheVariants.{OutOfMemory};
-ghost use Rattle.rw_write_request.specs.Texts.{series_of};
-ghost use Rattle.rw_write_request.specs.View.{field_view};
-ghost use Rattle.rw_write_request.specs.Parts.{read_on, with_series, series_on, IsHeadOf, SamplesGive};
+ghost use Rattle.rw_write_request.specs.Texts.{series_of_texts};
+ghost use Rattle.rw_write_request.specs.inner.View.{field_view};
+ghost use Rattle.rw_write_request.specs.Parts.{read_on, read_on_after, series_on, IsHeadOf, SamplesGive};
 
 use crate::fault::WireFault;
 use crate::kind::Kind;
@@ -28,7 +28,7 @@ pub fn message_part(bytes: &[u8]) -> Result<(Option<&[u8]>, &[u8]), WireFault>
     requires { 0 < length bytes.now }
     // A series is read, and then the rest.
     ensures series { IfOk result (λ x. IfSome x.0 (λ s. (m : WriteRequest)
-        → read_on m bytes.now ≡ with_series m (read_series s.now) x.1.now)) }
+        → read_on m bytes.now ≡ read_on_after m (read_series s.now) x.1.now)) }
     // Any other field is skipped.
     ensures other { IfOk result
         (λ x. x.0 ≡ None → (m : WriteRequest) → read_on m bytes.now ≡ read_on m x.1.now) }
@@ -118,10 +118,10 @@ fn add_label(
     part: Part<'_>,
 ) -> Result<(), WireFault>
     ensures found { OnOk result ((samples : List Sample) → (more : List Sample)
-        × (series_step (series_of labels.old.items samples) (field_view part.entry)
-        ≡ Ok (series_of labels.new.items more))) }
+        × (series_step (series_of_texts labels.old.items samples) (field_view part.entry)
+        ≡ Ok (series_of_texts labels.new.items more))) }
     ensures fault { IfErr result (λ e. e ≢ OutOfMemory → (samples : List Sample)
-        → series_step (series_of labels.old.items samples) (field_view part.entry) ≡ Err e) }
+        → series_step (series_of_texts labels.old.items samples) (field_view part.entry) ≡ Err e) }
 {
     match part.number {
         1 => {
@@ -140,7 +140,7 @@ fn add_label(
 /// samples are judged too, and take no memory.
 pub fn read_labels(alloc: Global, bytes: &[u8]) -> Result<Vec<(String, String)>, WireFault>
     ensures found { IfOk result (λ labels. (samples : List Sample)
-        × (read_series bytes.now ≡ Ok (series_of labels.items samples))) }
+        × (read_series bytes.now ≡ Ok (series_of_texts labels.items samples))) }
     ensures fault { IfErr result (λ e. e ≢ OutOfMemory → read_series bytes.now ≡ Err e) }
 {
     let mut labels = Vec::new(alloc);

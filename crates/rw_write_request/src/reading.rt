@@ -3,12 +3,13 @@
 ghost use Rattle.std.specs.Prelude.{◌≡◌, ◌+◌, ◌<◌, ◌≤◌, List, [], length, vec_capacity, IfOk, IfErr, MatchResult, ◌≢◌, Ok, Err};
 ghost use Rattle.rw_write_request.specs.Message.{WriteRequest};
 ghost use Rattle.rw_types.specs.Labels.{text_label};
-ghost use Rattle.rw_write_request.specs.Texts.{series_of};
+ghost use Rattle.rw_write_request.specs.Texts.{series_of_texts};
 ghost use Rattle.rw_write_request.specs.Fields.{Field, known_wire, contents};
-ghost use Rattle.rw_write_request.specs.Read.{Gives, GivesOrMemory, uvarint_at, bytes_at, content_at, judged, field_at, text, word, timestamp, nested, label_step, read_label, sample_step, read_sample, series_step, read_series, request_step, read};
+ghost use Rattle.rw_write_request.specs.Read.{GivesOrMemory, uvarint_at, bytes_at, content_at, judged_tag, field_at, text, word, timestamp, nested, label_step, read_label, sample_step, read_sample, series_step, read_series, request_step, read};
+ghost use Rattle.rw_write_request.specs.inner.Read.{Gives};
 ghost use Rattle.rw_write_request.specs.Spells.{AreFieldsOf, Spells};
 ghost use Rattle.rw_write_request.specs.declared.fault.WireFault.TheVariants.{OutOfMemory};
-ghost use Rattle.rw_write_request.specs.View.{content_view, field_view};
+ghost use Rattle.rw_write_request.specs.inner.View.{content_view, field_view};
 
 use crate::fault::WireFault;
 use crate::judging::check_message;
@@ -93,9 +94,9 @@ fn known_wire(kind: Kind, number: u64) -> Option<u64>
     }
 }
 
-#[tactic(auto, unfolding(crate::specs::Read::judged, crate::specs::Read::known_judged))]
+#[tactic(auto, unfolding(crate::specs::Read::judged_tag, crate::specs::Read::known_judged))]
 fn judged(kind: Kind, number: u64, wire: u64) -> Result<u64, WireFault>
-    ensures { Gives (λ w. w) result (judged kind number wire) }
+    ensures { Gives (λ w. w) result (judged_tag kind number wire) }
 {
     if number == 0 {
         return Err(WireFault::FieldZero);
@@ -282,8 +283,8 @@ fn add_to_series(
     samples: &mut Vec<(Word, i64)>,
     part: Part<'_>,
 ) -> Result<(), WireFault>
-    ensures { GivesOrMemory (λ _. series_of labels.new.items samples.new.items) result
-        (series_step (series_of labels.old.items samples.old.items) (field_view part.entry)) }
+    ensures { GivesOrMemory (λ _. series_of_texts labels.new.items samples.new.items) result
+        (series_step (series_of_texts labels.old.items samples.old.items) (field_view part.entry)) }
 {
     match part.number {
         1 => {

@@ -6,9 +6,9 @@ ghost use Rattle.std.specs.List.{AllByRecursion};
 ghost use Rattle.rw_codes.specs.Varint.{uvarint};
 ghost use Rattle.rw_types.specs.LabelFields.{tag};
 ghost use Rattle.rw_write_request.specs.Canon.{fixed64_field, int64_field, sample_field, sample_fields, series_field, series_head, canon};
-ghost use Rattle.rw_write_request.specs.Valid.{IsLabel, IsSample, IsSeries};
+ghost use Rattle.rw_write_request.specs.Valid.{IsLabel, IsValidSample, IsSeries};
 ghost use Rattle.rw_write_request.specs.Spells.{Spells};
-ghost use Rattle.rw_write_request.specs.Texts.{series_of};
+ghost use Rattle.rw_write_request.specs.Texts.{series_of_texts};
 
 use crate::lengths::{encoded_len, parts_len, sample_len};
 use crate::message::{Message, Series};
@@ -85,7 +85,7 @@ pub fn put_series_head(out: &mut Vec<u8>, labels: &LabelSet, len: usize)
 fn put_sample_fields(out: &mut Vec<u8>, samples: &[(Word, i64)])
     requires room { vec_len out.old + length (sample_fields samples.now) ≤ vec_capacity out.old }
     ensures items { out.new.items ≡ out.old.items ++ sample_fields samples.now }
-    ensures words { AllByRecursion IsSample samples.now }
+    ensures words { AllByRecursion IsValidSample samples.now }
     ensures capacity { vec_capacity out.old ≤ vec_capacity out.new }
 {
     for (word, timestamp) in samples {
@@ -97,11 +97,11 @@ fn put_sample_fields(out: &mut Vec<u8>, samples: &[(Word, i64)])
 /// This takes no memory.
 #[tactic(auto, unfolding(crate::specs::Canon::series_field, crate::specs::Canon::series))]
 pub fn put_series(out: &mut Vec<u8>, labels: &[(String, String)], samples: &[(Word, i64)])
-    requires room { vec_len out.old + length (series_field (series_of labels.now samples.now))
+    requires room { vec_len out.old + length (series_field (series_of_texts labels.now samples.now))
         ≤ vec_capacity out.old }
     ensures items { out.new.items
-        ≡ out.old.items ++ series_field (series_of labels.now samples.now) }
-    ensures valid { IsSeries (series_of labels.now samples.now) }
+        ≡ out.old.items ++ series_field (series_of_texts labels.now samples.now) }
+    ensures valid { IsSeries (series_of_texts labels.now samples.now) }
     ensures capacity { vec_capacity out.old ≤ vec_capacity out.new }
 {
     let len = parts_len(labels, samples).unwrap();

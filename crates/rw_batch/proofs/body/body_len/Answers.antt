@@ -1,7 +1,8 @@
 use Rattle.std.proofs.Common.{◌≤◌, ◌^◌, length, arith}
 use Rattle.rw_write_request.specs.Canon.{canon}
-use Rattle.rw_types.proofs.FittingLemmas.{none_is}
-use Rattle.rw_batch.specs.Grouping.{message, series_at}
+use Rattle.rw_types.proofs.shared.FittingLemmas.{none_is}
+use Rattle.rw_batch.specs.Grouping.{message}
+use Rattle.rw_batch.specs.inner.Grouping.{series_at}
 use Rattle.rw_batch.proofs.BodyLemmas.{len_of_parts, series_fits, series_more}
 use Rattle.rw_batch.proofs.body.body_len.Goals as goal
 

@@ -1,6 +1,6 @@
 use Rattle.std.proofs.Common.{arith}
 use Rattle.rw_batch.proofs.BodyLemmas.{series_fits}
-use Rattle.rw_types.proofs.FittingLemmas.{len_of}
+use Rattle.rw_types.proofs.shared.FittingLemmas.{len_of}
 use Rattle.rw_batch.proofs.body.put_all_series.Goals as goal
 
 pub put_series-requires-clause-fits : goal.put_series-requires-clause-fits

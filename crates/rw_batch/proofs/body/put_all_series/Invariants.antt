@@ -3,7 +3,7 @@ use Rattle.std.specs.Vec.{vec_capacity}
 use Rattle.std.specs.List.{AllByRecursion}
 use Rattle.rw_write_request.specs.Canon.{canon}
 use Rattle.rw_batch.specs.Grouping.{message}
-use Rattle.rw_batch.specs.Kept.{HasLabels}
+use Rattle.rw_batch.specs.inner.Kept.{HasLabels}
 use Rattle.rw_batch.proofs.body.put_all_series.Given as goal
 
 abbrev pub invariant-loop-place : goal.invariant-loop-place

@@ -1,6 +1,6 @@
 use Rattle.std.proofs.Common.{length, get_or, ap}
-use Rattle.rw_types.proofs.FittingLemmas.{part_fits, has_room, len_of}
-use Rattle.rw_batch.specs.Kept.{field_at}
+use Rattle.rw_types.proofs.shared.FittingLemmas.{part_fits, has_room, len_of}
+use Rattle.rw_batch.specs.inner.Kept.{field_at}
 use Rattle.rw_batch.proofs.FieldLemmas.{number_is}
 use Rattle.rw_batch.proofs.body.put_numbered.Goals as goal
 

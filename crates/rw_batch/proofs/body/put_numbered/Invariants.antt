@@ -1,7 +1,7 @@
 use Rattle.std.proofs.Common.{◌≡◌, ◌≤◌, ◌++◌, take}
 use Rattle.std.specs.Vec.{vec_capacity}
 use Rattle.std.specs.List.{flat_map}
-use Rattle.rw_batch.specs.Kept.{field_at}
+use Rattle.rw_batch.specs.inner.Kept.{field_at}
 use Rattle.rw_batch.proofs.body.put_numbered.Given as goal
 
 abbrev pub invariant-loop-number : goal.invariant-loop-number

@@ -4,8 +4,9 @@ use Rattle.std.proofs.lemmas.List.{length-map}
 use Rattle.rw_types.specs.Labels.{Labels}
 use Rattle.rw_write_request.specs.Message.{Sample}
 use Rattle.rw_write_request.specs.Canon.{series_head, sample_fields}
-use Rattle.rw_batch.specs.Grouping.{LabelledSample, series_at}
-use Rattle.rw_batch.specs.Kept.{field_at}
+use Rattle.rw_batch.specs.Grouping.{LabelledSample}
+use Rattle.rw_batch.specs.inner.Grouping.{series_at}
+use Rattle.rw_batch.specs.inner.Kept.{field_at}
 use Rattle.rw_batch.proofs.BodyLemmas.{len_of_parts, joined}
 use Rattle.rw_batch.proofs.body.put_series.Goals as goal
 

@@ -4,7 +4,7 @@ use Rattle.std.specs.List.{list_any}
 use Rattle.std.proofs.lemmas.Map.Keys.{any_passes_from_place}
 use Rattle.rw_types.specs.Labels.{Labels}
 use Rattle.rw_types.specs.LabelOrder.{labels_eq}
-use Rattle.rw_batch.specs.Kept.{Shared}
+use Rattle.rw_batch.specs.inner.Kept.{Shared}
 use Rattle.rw_batch.proofs.found.place_of.Goals as goal
 
 pub returns-then-is_at-clause-added : goal.returns-then-is_at-clause-added

@@ -1,4 +1,4 @@
-use Rattle.rw_batch.proofs.MessageLemmas.{message-push, labels_of-with_sample}
+use Rattle.rw_batch.proofs.shared.MessageLemmas.{message-push, labels_of-with_sample}
 use Rattle.rw_batch.proofs.laws.message_grows.Goals as goal
 
 pub returns-clause-message : goal.returns-clause-message

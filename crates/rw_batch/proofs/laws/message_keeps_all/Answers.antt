@@ -1,4 +1,4 @@
-use Rattle.rw_batch.proofs.MessageLemmas.{message_is_distinct, sample_count-message}
+use Rattle.rw_batch.proofs.shared.MessageLemmas.{message_is_distinct, sample_count-message}
 use Rattle.rw_batch.proofs.laws.message_keeps_all.Goals as goal
 
 pub returns-clause-distinct : goal.returns-clause-distinct

@@ -1,4 +1,4 @@
-use Rattle.rw_batch.proofs.NumberLemmas.{stands_for_own, labels_stay}
+use Rattle.rw_batch.proofs.shared.NumberLemmas.{stands_for_own, labels_stay}
 use Rattle.rw_batch.proofs.laws.numbers_stand_for_labels.Goals as goal
 
 pub returns-clause-stands : goal.returns-clause-stands

@@ -1,5 +1,5 @@
 use Rattle.std.proofs.Common.{◌++◌, ◌∷◌, [], List, ℕ, length, ap, sym, ◌∙◌, subst, take, drop, get_or, add-one, take_all, refl, arith}
-use Rattle.rw_batch.specs.Kept.{IsTrail}
+use Rattle.rw_batch.specs.inner.Kept.{IsTrail}
 use Rattle.rw_batch.proofs.RowLemmas.{trail_step, trail_below}
 use Rattle.rw_batch.proofs.rows.walk_back.Goals as goal
 

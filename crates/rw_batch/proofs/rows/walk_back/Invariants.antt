@@ -1,5 +1,5 @@
 use Rattle.std.proofs.Common.{◌≡◌, List, ℕ, length, take, drop, vec_len, vec_capacity}
-use Rattle.rw_batch.specs.Kept.{IsTrail}
+use Rattle.rw_batch.specs.inner.Kept.{IsTrail}
 use Rattle.rw_batch.proofs.rows.walk_back.Given as goal
 
 abbrev pub invariant-loop : goal.invariant-loop

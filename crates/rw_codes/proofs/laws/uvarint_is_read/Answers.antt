@@ -1,4 +1,4 @@
-use Rattle.rw_codes.proofs.VarintLaws.{uvarint_again}
+use Rattle.rw_codes.proofs.shared.VarintLaws.{uvarint_again}
 use Rattle.rw_codes.proofs.laws.uvarint_is_read.Goals as goal
 
 pub returns : goal.returns

@@ -1,4 +1,4 @@
-use Rattle.rw_codes.proofs.VarintLaws.{uvarint_shortest}
+use Rattle.rw_codes.proofs.shared.VarintLaws.{uvarint_shortest}
 use Rattle.rw_codes.proofs.laws.uvarint_is_shortest.Goals as goal
 
 pub returns : goal.returns

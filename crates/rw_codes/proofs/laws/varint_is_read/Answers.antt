@@ -1,4 +1,4 @@
-use Rattle.rw_codes.proofs.VarintLaws.{varint_again, zig_fits}
+use Rattle.rw_codes.proofs.shared.VarintLaws.{varint_again, zig_fits}
 use Rattle.rw_codes.proofs.laws.varint_is_read.Goals as goal
 
 pub returns : goal.returns

@@ -1,4 +1,4 @@
-use Rattle.rw_codes.proofs.VarintLaws.{zig_zag_again, un_zig_zag_again}
+use Rattle.rw_codes.proofs.shared.VarintLaws.{zig_zag_again, un_zig_zag_again}
 use Rattle.rw_codes.proofs.laws.zig_zag_is_inverted.Goals as goal
 
 pub returns-clause-signed : goal.returns-clause-signed

@@ -1,7 +1,7 @@
 use Rattle.std.proofs.Common.{◌∙◌, ◌*◌, refl, arith, get_or, ap, sym, ℕ}
 use Rattle.std.proofs.lemmas.Grind.{pow_more}
 use Rattle.rw_codes.specs.Varint.{read_uvarint}
-use Rattle.rw_codes.proofs.VarintLaws.{above_none, get_more, get_last, get_tenth, get_too_big, get_short, weight_fits, value_fits}
+use Rattle.rw_codes.proofs.shared.VarintLaws.{above_none, get_more, get_last, get_tenth, get_too_big, get_short, weight_fits, value_fits}
 use Rattle.rw_codes.proofs.varint.get_groups.Goals as goal
 
 pub loop-i-init : goal.loop-i-init

@@ -1,6 +1,6 @@
 use Rattle.std.proofs.Common.{◌≡◌, ◌≤◌, ◌<◌, ◌-◌, ◌^◌, drop}
 use Rattle.rw_codes.specs.Varint.{number_in_groups, read_uvarint}
-use Rattle.rw_codes.proofs.VarintLaws.{above}
+use Rattle.rw_codes.proofs.shared.VarintLaws.{above}
 use Rattle.rw_codes.proofs.varint.get_groups.Given as goal
 
 -- the groups that are left, above those read, make the number

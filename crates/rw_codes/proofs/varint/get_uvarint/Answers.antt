@@ -1,5 +1,5 @@
 use Rattle.std.proofs.Common.{rules}
-use Rattle.rw_codes.proofs.VarintLaws.{get_one, get_two}
+use Rattle.rw_codes.proofs.shared.VarintLaws.{get_one, get_two}
 use Rattle.rw_codes.proofs.varint.get_uvarint.Goals as goal
 
 pub returns-then-bytes-lt128-clause-ok : goal.returns-then-bytes-lt128-clause-ok

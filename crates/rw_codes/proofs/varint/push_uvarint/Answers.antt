@@ -1,5 +1,5 @@
 use Rattle.std.proofs.Common.{◌∙◌, arith, refl}
-use Rattle.rw_codes.proofs.Digits.{Left-start, Left-room, Left-more, Left-last}
+use Rattle.rw_codes.proofs.shared.Digits.{Left-start, Left-room, Left-more, Left-last}
 use Rattle.rw_codes.proofs.varint.push_uvarint.Goals as goal
 
 pub loop-rest-init : goal.loop-rest-init

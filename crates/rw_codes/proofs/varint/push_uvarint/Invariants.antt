@@ -1,6 +1,6 @@
 use Rattle.std.proofs.Common.{◌≡◌}
 use Rattle.std.specs.Vec.{vec_len, vec_capacity}
-use Rattle.rw_codes.proofs.Digits.{Left}
+use Rattle.rw_codes.proofs.shared.Digits.{Left}
 use Rattle.rw_codes.proofs.varint.push_uvarint.Given as goal
 
 abbrev pub invariant-loop-rest : goal.invariant-loop-rest

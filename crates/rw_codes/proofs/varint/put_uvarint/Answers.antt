@@ -1,8 +1,8 @@
 use Rattle.std.proofs.Common.{arith, ap, ◌∙◌, ◌+◌, ◌<◌, ◌++◌, List, ℕ, sym, length}
 use Rattle.std.specs.Vec.{vec_len, vec_capacity}
 use Rattle.rw_codes.specs.Varint.{uvarint}
-use Rattle.rw_codes.proofs.Digits.{uvarint_one, uvarint_length_one}
-use Rattle.rw_codes.proofs.VarintLaws.{also_on_err}
+use Rattle.rw_codes.proofs.shared.Digits.{uvarint_one, uvarint_length_one}
+use Rattle.rw_codes.proofs.shared.VarintLaws.{also_on_err}
 use Rattle.rw_codes.proofs.varint.put_uvarint.Goals as goal
 
 pub returns-in_err-push-clause-full : goal.returns-in_err-push-clause-full

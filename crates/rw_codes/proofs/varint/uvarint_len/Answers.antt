@@ -1,5 +1,5 @@
 use Rattle.std.proofs.Common.{sym, refl, arith}
-use Rattle.rw_codes.proofs.Digits.{uvarint_length, uvarint_length_one}
+use Rattle.rw_codes.proofs.shared.Digits.{uvarint_length, uvarint_length_one}
 use Rattle.rw_codes.proofs.varint.uvarint_len.Goals as goal
 
 pub returns-then-n-lt128-clause-exact : goal.returns-then-n-lt128-clause-exact

@@ -1,4 +1,4 @@
-use Rattle.rw_endpoint.proofs.ReplyLemmas.{reply_len}
+use Rattle.rw_endpoint.proofs.shared.ReplyLemmas.{reply_len}
 use Rattle.rw_endpoint.proofs.laws.replies_are_short.Goals as goal
 
 pub returns : goal.returns

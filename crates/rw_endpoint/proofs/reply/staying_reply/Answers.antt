@@ -1,26 +1,26 @@
 use Rattle.std.proofs.Common.{◌≡◌, ◌≢◌, ◌∙◌, ℕ, IsTrue, false, ap, sym, arith}
 use Rattle.std.proofs.lemmas.Grind.{common_steps}
-use Rattle.rw_endpoint.specs.Replies.{reply, is_verdict}
+use Rattle.rw_endpoint.specs.Replies.{reply_bytes, is_verdict}
 use Rattle.rw_endpoint.proofs.reply.staying_reply.Goals as goal
 
 pub returns-in-204 : goal.returns-in-204
-unfolding reply
-returns-in-204 c = c.as_slice.ensures ∙ ap (λ s. reply s false) (sym c.in-204.is)
+unfolding reply_bytes
+returns-in-204 c = c.as_slice.ensures ∙ ap (λ s. reply_bytes s false) (sym c.in-204.is)
 
 pub returns-in-400 : goal.returns-in-400
-unfolding reply
-returns-in-400 c = c.as_slice-in-400.ensures ∙ ap (λ s. reply s false) (sym c.in-400.is)
+unfolding reply_bytes
+returns-in-400 c = c.as_slice-in-400.ensures ∙ ap (λ s. reply_bytes s false) (sym c.in-400.is)
 
 pub returns-in-429 : goal.returns-in-429
-unfolding reply
-returns-in-429 c = c.as_slice-in-429.ensures ∙ ap (λ s. reply s false) (sym c.in-429.is)
+unfolding reply_bytes
+returns-in-429 c = c.as_slice-in-429.ensures ∙ ap (λ s. reply_bytes s false) (sym c.in-429.is)
 
 -- the status that is left
 left : (s : ℕ) → IsTrue (is_verdict s) → s ≢ 204 → s ≢ 400 → s ≢ 429 → s ≡ 503
 left s h n204 n400 n429 = grind (arith, common_steps)
 
 pub returns-in_default : goal.returns-in_default
-unfolding reply
+unfolding reply_bytes
 returns-in_default c =
     let e : c.args.status ≡ 503 = grind (arith, common_steps, left, c.requires) in
-    c.as_slice-in_default.ensures ∙ ap (λ s. reply s false) (sym e)
+    c.as_slice-in_default.ensures ∙ ap (λ s. reply_bytes s false) (sym e)

@@ -1,10 +1,10 @@
 use Rattle.std.proofs.Common.{◌≡◌, ℕ, List, [], ◌++◌, take, drop, true, Some, refl, sym, subst, ◌∙◌, ap, inr}
 use Rattle.std.specs.Io.KnownBytes.{prepend_known}
-use Rattle.rw_endpoint.specs.Reading.{Judges}
+use Rattle.rw_endpoint.specs.inner.Reading.{Judges}
 use Rattle.rw_endpoint.specs.declared.finding.Finding.{Finding}
 use Rattle.rw_endpoint.specs.declared.head.Reading.TheVariants.{Head}
 use Rattle.rw_endpoint.specs.Serving.{Replies}
-use Rattle.rw_endpoint.specs.Steps.{HasServed}
+use Rattle.rw_endpoint.specs.inner.Steps.{HasServed}
 use Rattle.rw_endpoint.proofs.KnownLemmas.{keeps_known, appends_known, prepend_split, prepend_known_is}
 use Rattle.rw_endpoint.proofs.FrontLemmas.{no_request, refused, body_answered, body_served, asks_for_body, no_room}
 use Rattle.rw_endpoint.proofs.requests.serve_one.Goals as goal

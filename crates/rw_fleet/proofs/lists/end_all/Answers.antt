@@ -1,7 +1,7 @@
 use Rattle.std.proofs.Common.{List, ◌∷◌, ◌++◌, [], sym, subst, arith}
 use Rattle.rw_fleet.specs.ShardHistories.{ShardHistory, AreSame}
-use Rattle.rw_fleet.proofs.LaneLemmas.{same_push, same_length}
-use Rattle.rw_fleet.proofs.ListLemmas.{moved, none_left}
+use Rattle.rw_fleet.proofs.shared.LaneLemmas.{same_push, same_length}
+use Rattle.rw_fleet.proofs.shared.ListLemmas.{moved, none_left}
 use Rattle.rw_fleet.proofs.SoftLemmas.{ended_more}
 use Rattle.rw_fleet.proofs.lists.end_all.Goals as goal
 

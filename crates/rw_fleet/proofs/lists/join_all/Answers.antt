@@ -2,7 +2,7 @@ use Rattle.std.proofs.Common.{◌+◌, List, ◌∷◌, ◌++◌, [], vec_len, r
 use Rattle.std.proofs.lemmas.List.{map-append}
 use Rattle.rw_fleet.specs.ShardHistories.{ShardHistory}
 use Rattle.rw_fleet.specs.Work.{AreWorked, lane_of}
-use Rattle.rw_fleet.proofs.ListLemmas.{moved, pushed, none_left}
+use Rattle.rw_fleet.proofs.shared.ListLemmas.{moved, pushed, none_left}
 use Rattle.rw_fleet.proofs.JoinedLemmas.{all_done, worked_push}
 use Rattle.rw_fleet.proofs.lists.join_all.Goals as goal
 

@@ -1,5 +1,5 @@
 use Rattle.std.proofs.Common.{◌≡◌, ◌<◌, length, refl, arith}
-use Rattle.rw_fleet.proofs.LaneLemmas.{marks_next, marks_same, marks_whole, marks_kept}
+use Rattle.rw_fleet.proofs.shared.LaneLemmas.{marks_next, marks_same, marks_whole, marks_kept}
 use Rattle.rw_fleet.proofs.lists.mark_all.Goals as goal
 
 pub returns-in_err-mark-clause-same : goal.returns-in_err-mark-clause-same

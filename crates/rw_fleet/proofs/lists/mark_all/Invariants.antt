@@ -1,5 +1,5 @@
 use Rattle.std.proofs.Common.{◌≡◌, vec_len, vec_capacity}
-use Rattle.rw_fleet.specs.ShardHistories.{marks}
+use Rattle.rw_fleet.specs.inner.ShardHistories.{marks}
 use Rattle.rw_fleet.proofs.lists.mark_all.Given as goal
 
 abbrev pub invariant-loop-k : goal.invariant-loop-k

@@ -1,6 +1,6 @@
 use Rattle.std.proofs.Common.{◌+◌, sym, ap, ◌∙◌, subst, arith}
 use Rattle.rw_fleet.specs.ShardHistories.{AreSetUp}
-use Rattle.rw_fleet.proofs.LaneLemmas.{fresh_push, set_up_push}
+use Rattle.rw_fleet.proofs.shared.LaneLemmas.{fresh_push, set_up_push}
 use Rattle.rw_fleet.proofs.lists.open_all.Goals as goal
 
 pub loop-shard-preserved : goal.loop-shard-preserved

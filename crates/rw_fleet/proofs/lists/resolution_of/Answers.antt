@@ -1,7 +1,7 @@
 use Rattle.std.proofs.Common.{◌≡◌, ◌<◌, List, Some, length, sym, ap, ◌∙◌, subst, arith}
 use Rattle.std.specs.Prelude.{slice_get}
 use Rattle.std.proofs.lemmas.Option.{slice_get_within}
-use Rattle.rw_fleet.proofs.ListLemmas.{get_at}
+use Rattle.rw_fleet.proofs.shared.ListLemmas.{get_at}
 use Rattle.rw_fleet.proofs.SoftLemmas.{resolved_more}
 use Rattle.rw_fleet.proofs.lists.resolution_of.Goals as goal
 

@@ -1,7 +1,7 @@
 use Rattle.std.proofs.Common.{rules}
 use Rattle.std.proofs.Math.Facts.{to_z-of_z}
 use Rattle.std.proofs.lemmas.List.Sorted.{answers_always}
-use Rattle.rw_head.specs.Blocks.{first_time}
+use Rattle.rw_head.specs.inner.Blocks.{first_time}
 use Rattle.rw_head.proofs.BlockLemmas.{begun_there, begun_between, searchable_blocks}
 use Rattle.rw_head.proofs.blocks.count_begun.Goals as goal
 

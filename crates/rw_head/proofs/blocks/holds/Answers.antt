@@ -1,7 +1,7 @@
 use Rattle.std.proofs.Common.{◌∙◌, rules}
 use Rattle.std.proofs.Math.Facts.{to_z-of_z}
 use Rattle.std.proofs.lemmas.List.Sorted.{answers_always}
-use Rattle.rw_head.proofs.OrderLemmas.{found_there, found_nowhere, searchable}
+use Rattle.rw_head.proofs.shared.OrderLemmas.{found_there, found_nowhere, searchable}
 use Rattle.rw_head.proofs.blocks.holds.Goals as goal
 
 pub returns-in-Ok : goal.returns-in-Ok

@@ -1,6 +1,6 @@
 use Rattle.std.proofs.Common.{sym, w64, FitsSigned, rules}
 use Rattle.std.proofs.Math.Facts.{to_z-of_z}
-use Rattle.rw_head.proofs.OrderLemmas.{later_of_last}
+use Rattle.rw_head.proofs.shared.OrderLemmas.{later_of_last}
 use Rattle.rw_head.proofs.blocks.is_later.Goals as goal
 
 pub returns-in-Some : goal.returns-in-Some

@@ -3,7 +3,7 @@ use Rattle.std.proofs.lemmas.Result.{err_from_is_err_and}
 use Rattle.rw_types.specs.Labels.{Labels, text_label}
 use Rattle.rw_write_request.specs.Message.{Sample, TimeSeries}
 use Rattle.rw_head.specs.Verdicts.{taken}
-use Rattle.rw_head.proofs.GrowthLemmas.{taken_within}
+use Rattle.rw_head.proofs.shared.GrowthLemmas.{taken_within}
 use Rattle.rw_head.proofs.PartLemmas.{HasParts, labels_taken, one_part, part_refused, no_fault, parts_taken}
 use Rattle.rw_head.proofs.body.stage_in_parts.Goals as goal
 

@@ -1,5 +1,5 @@
 use Rattle.std.proofs.Common.{◌≡◌, length}
-use Rattle.rw_head.specs.Growth.{HoldsNoneRefused}
+use Rattle.rw_head.specs.inner.Growth.{HoldsNoneRefused}
 use Rattle.rw_head.proofs.PartLemmas.{HasParts}
 use Rattle.rw_head.proofs.body.stage_in_parts.Given as goal
 

@@ -2,17 +2,17 @@ use Rattle.std.proofs.Common.{◌≡◌, subst, ◌∙◌, rules}
 use Rattle.std.specs.Prelude.{IfSome}
 use Rattle.std.proofs.lemmas.Result.{err_from_is_err_and}
 use Rattle.rw_write_request.specs.Message.{WriteRequest}
-use Rattle.rw_write_request.specs.Parts.{read_on, with_series}
+use Rattle.rw_write_request.specs.Parts.{read_on, read_on_after}
 use Rattle.rw_write_request.specs.Read.{read_series}
-use Rattle.rw_head.proofs.BodyLemmas.{one_more, bad_part, all_staged}
-use Rattle.rw_head.proofs.GrowthLemmas.{taken_within}
+use Rattle.rw_head.proofs.shared.BodyLemmas.{one_more, bad_part, all_staged}
+use Rattle.rw_head.proofs.shared.GrowthLemmas.{taken_within}
 use Rattle.rw_head.proofs.body.stage_parts.Goals as goal
 
 pub returns-in_err-stage_series-clause-staged : goal.returns-in_err-stage_series-clause-staged
 returns-in_err-stage_series-clause-staged c =
     let rest = c.loop-rest.rest.now in
     let after = c.in_ok-series.after.now in
-    let follows = subst (λ o. IfSome o (λ s. (m : WriteRequest) → read_on m rest ≡ with_series m (read_series s.now) after)) c.in-Some.is c.in_ok-series.ensures.series in
+    let follows = subst (λ o. IfSome o (λ s. (m : WriteRequest) → read_on m rest ≡ read_on_after m (read_series s.now) after)) c.in-Some.is c.in_ok-series.ensures.series in
     let p = err_from_is_err_and c.from_residual-in_err-stage_series.result c.from_residual-in_err-stage_series.ensures.1 in
     rw (p.1, p.2) (λ other.
     let g = c.in_err-stage_series.ensures.staged other in
@@ -22,7 +22,7 @@ pub loop-rest-preserved-in_ok-stage_series : goal.loop-rest-preserved-in_ok-stag
 loop-rest-preserved-in_ok-stage_series c =
     let rest = c.loop-rest.rest.now in
     let after = c.in_ok-series.after.now in
-    let follows = subst (λ o. IfSome o (λ s. (m : WriteRequest) → read_on m rest ≡ with_series m (read_series s.now) after)) c.in-Some.is c.in_ok-series.ensures.series in
+    let follows = subst (λ o. IfSome o (λ s. (m : WriteRequest) → read_on m rest ≡ read_on_after m (read_series s.now) after)) c.in-Some.is c.in_ok-series.ensures.series in
     let t = c.in_ok-stage_series.ensures.staged in
     record {
       kept = c.in_ok-stage_series.ensures.kept ∙ c.loop-rest.invariant.kept;

@@ -1,6 +1,6 @@
 use Rattle.std.proofs.Common.{◌≡◌, length}
-use Rattle.rw_head.specs.Growth.{HoldsNoneRefused}
-use Rattle.rw_head.proofs.BodyLemmas.{HasStaged}
+use Rattle.rw_head.specs.inner.Growth.{HoldsNoneRefused}
+use Rattle.rw_head.proofs.shared.BodyLemmas.{HasStaged}
 use Rattle.rw_head.proofs.body.stage_parts.Given as goal
 
 abbrev pub invariant-loop-rest : goal.invariant-loop-rest

@@ -1,11 +1,11 @@
 use Rattle.std.proofs.Common.{◌≡◌, true, false, sym, ap, subst, rules, arith}
 use Rattle.std.proofs.lemmas.Result.{err_from_is_err_and}
 use Rattle.rw_write_request.specs.Read.{read_series}
-use Rattle.rw_head.specs.Bodies.{Takes, Refuses}
-use Rattle.rw_head.specs.Growth.{HoldsNoneRefused}
+use Rattle.rw_head.specs.inner.Bodies.{Takes, Refuses}
+use Rattle.rw_head.specs.inner.Growth.{HoldsNoneRefused}
 use Rattle.rw_head.specs.Store.{Store}
 use Rattle.rw_head.specs.Verdicts.{LabelLimits}
-use Rattle.rw_head.proofs.BodyLemmas.{known_true, known_false, few_labels}
+use Rattle.rw_head.proofs.shared.BodyLemmas.{known_true, known_false, few_labels}
 use Rattle.rw_head.proofs.body.stage_series.Goals as goal
 
 pub returns-then-branch-clause-staged : goal.returns-then-branch-clause-staged

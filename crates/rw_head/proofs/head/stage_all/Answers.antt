@@ -1,7 +1,7 @@
 use Rattle.std.proofs.Common.{◌∙◌}
 use Rattle.std.proofs.lemmas.Result.{err_from_is_err_and}
-use Rattle.rw_head.proofs.GrowthLemmas.{taken_within}
-use Rattle.rw_head.proofs.VerdictLemmas.{refused_by, taken_at}
+use Rattle.rw_head.proofs.shared.GrowthLemmas.{taken_within}
+use Rattle.rw_head.proofs.shared.VerdictLemmas.{refused_by, taken_at}
 use Rattle.rw_head.proofs.head.stage_all.Goals as goal
 
 pub returns-in_err-stage-clause-staged : goal.returns-in_err-stage-clause-staged

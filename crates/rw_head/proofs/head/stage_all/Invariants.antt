@@ -1,5 +1,5 @@
 use Rattle.std.proofs.Common.{◌≡◌, drop, Ok}
-use Rattle.rw_head.specs.Growth.{HoldsNoneRefused}
+use Rattle.rw_head.specs.inner.Growth.{HoldsNoneRefused}
 use Rattle.rw_head.specs.Verdicts.{taken_all}
 use Rattle.rw_head.proofs.head.stage_all.Given as goal
 

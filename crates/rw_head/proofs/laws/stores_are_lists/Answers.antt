@@ -1,4 +1,4 @@
-use Rattle.rw_head.proofs.StoreLemmas.{list_of-empty, list_of-with_list, same_store}
+use Rattle.rw_head.proofs.shared.StoreLemmas.{list_of-empty, list_of-with_list, same_store}
 use Rattle.rw_head.proofs.laws.stores_are_lists.Goals as goal
 
 pub returns : goal.returns

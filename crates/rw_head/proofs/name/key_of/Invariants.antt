@@ -1,6 +1,6 @@
 use Rattle.std.proofs.Common.{◌≡◌, map, take}
 use Rattle.rw_types.specs.Labels.{text_label}
-use Rattle.rw_head.specs.Keys.{labels_key}
+use Rattle.rw_head.specs.inner.Keys.{labels_key}
 use Rattle.rw_head.proofs.name.key_of.Given as goal
 
 abbrev pub invariant-loop-name : goal.invariant-loop-name

@@ -1,5 +1,5 @@
 use Rattle.std.proofs.Common.{sym, ◌∙◌}
-use Rattle.rw_types.proofs.OrderLemmas.{same_where_texts_are}
+use Rattle.rw_types.proofs.shared.OrderLemmas.{same_where_texts_are}
 use Rattle.rw_head.proofs.place.are_texts_of.Goals as goal
 
 pub returns : goal.returns

@@ -1,7 +1,7 @@
 use Rattle.std.proofs.Common.{◌≡◌, ℕ, ◌<◌, ◌^◌, List, length, rules, sym, ◌∙◌, ap, subst, arith}
 use Rattle.rw_types.specs.LabelFields.{label_fields}
 use Rattle.rw_write_request.specs.Parts.{IsHeadOf}
-use Rattle.rw_head.proofs.BodyLemmas.{fields_spell, head_spelled}
+use Rattle.rw_head.proofs.shared.BodyLemmas.{fields_spell, head_spelled}
 use Rattle.rw_head.proofs.place.is_head_of.Goals as goal
 
 pub returns-then-eq : goal.returns-then-eq

@@ -2,7 +2,7 @@ use Rattle.std.proofs.Common.{All, sym, ap, ◌∙◌, ◌++◌, ◌∷◌, [], 
 use Rattle.std.proofs.lemmas.List.{map-append, nil_from_length}
 use Rattle.std.proofs.lemmas.List.Elements.{All-push}
 use Rattle.rw_fleet.specs.declared.joined.Finished.{Finished}
-use Rattle.rw_in_memory.specs.Lines.{Line, IsLine}
+use Rattle.rw_in_memory.specs.Lines.{SeatLine, IsSeatLine}
 use Rattle.rw_in_memory.specs.Held.{seat_of}
 use Rattle.rw_in_memory.proofs.shipping.seats_of.Goals as goal
 
@@ -24,7 +24,7 @@ loop-finished-preserved g c =
     let f = c.in-Some.finished in record {
       room = search rules;
       seats = c.push_reserved.ensures.items ∙ ap (λ l. l ++ c.seat_in.result ∷ []) i.seats ∙ ap (λ s. map seat_of more ++ s ∷ []) c.seat_in.ensures.seat ∙ sym (map-append seat_of more (f ∷ []));
-      lines = All-push (λ (x : Finished Line). IsLine g.L.Naming.opening g.L.Endpoint.path g.L.Endpoint.limit x.transport) more f i.lines c.seat_in.ensures.line;
+      lines = All-push (λ (x : Finished SeatLine). IsSeatLine g.L.Naming.opening g.L.Endpoint.path g.L.Endpoint.limit x.transport) more f i.lines c.seat_in.ensures.line;
       left = i.left ∙ ap (λ l. more ++ l) step.0 ∙ sym (append_assoc more (f ∷ []) _);
       counted = omega (arith, i.counted, step.1, ap length step.0);
     }
@@ -41,4 +41,4 @@ returns-clause-lines g c =
     let i = c.loop-finished.invariant in
     let none = nil_from_length _ (sym i.counted ∙ c.in-None.ensures.steps.0) in
     let whole = i.left ∙ ap (λ l. c.loop-finished.yielded ++ l) none ∙ append-nil c.loop-finished.yielded in
-    subst (All (λ (x : Finished Line). IsLine g.L.Naming.opening g.L.Endpoint.path g.L.Endpoint.limit x.transport)) (sym whole) i.lines
+    subst (All (λ (x : Finished SeatLine). IsSeatLine g.L.Naming.opening g.L.Endpoint.path g.L.Endpoint.limit x.transport)) (sym whole) i.lines

@@ -1,12 +1,13 @@
 use Rattle.std.proofs.Common.{◌≡◌}
 use Rattle.rw_shard_core.specs.Configs.{choice_of}
-use Rattle.rw_in_memory.proofs.ShippedLemmas.{none_read, if_ok, shipped_so}
+use Rattle.rw_in_memory.proofs.ShippedLemmas.{if_ok, shipped_so}
 use Rattle.rw_in_memory.specs.Shipped.{IsGathered, IsShippedTo}
 use Rattle.rw_in_memory.specs.declared.shipping.Shipped.{Shipped}
 use Rattle.rw_in_memory.proofs.shipping.ship_to.Goals as goal
+use Rattle.rw_sender.proofs.shared.ShippingLemmas.{read_begun}
 
 pub feed_all-fed-requires-clause-read : goal.feed_all-fed-requires-clause-read
-feed_all-fed-requires-clause-read g c = λ lifetimes live. none_read c.in_ok-shipper.shipper.log (choice_of c.args.config) c.in_ok-shipper.ensures.log
+feed_all-fed-requires-clause-read g c = λ lifetimes live. read_begun c.in_ok-shipper.shipper.log (choice_of c.args.config) c.in_ok-shipper.ensures.log
 
 pub returns : goal.returns
 returns g c =

@@ -2,7 +2,7 @@ use Rattle.std.proofs.Common.{◌∙◌, ap, subst}
 use Rattle.std.specs.FinMap.{insert}
 use Rattle.std.proofs.Math.Facts.{to_z-of_z}
 use Rattle.std.proofs.lemmas.Result.{on_ok_weaker}
-use Rattle.rw_inspect.specs.Counting.{JudgedAs}
+use Rattle.rw_inspect.specs.inner.Counting.{JudgedAs}
 use Rattle.rw_inspect.proofs.PlacedLemmas.{placed_filtered, placed_rising, placed_trouble}
 use Rattle.rw_inspect.proofs.counter.place.Goals as goal
 

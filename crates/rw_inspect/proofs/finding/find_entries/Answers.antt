@@ -1,5 +1,5 @@
 use Rattle.std.proofs.Common.{ap, ◌∙◌, ℕ, Vec, Global}
-use Rattle.rw_inspect.specs.Finding.{Finding}
+use Rattle.rw_inspect.specs.inner.Finding.{Finding}
 use Rattle.rw_inspect.proofs.FindingLemmas.{finds}
 use Rattle.rw_inspect.proofs.finding.find_entries.Goals as goal
 

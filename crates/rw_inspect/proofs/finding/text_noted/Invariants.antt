@@ -1,5 +1,5 @@
 use Rattle.std.proofs.Common.{◌≡◌, map, drop}
-use Rattle.rw_inspect.specs.Finding.{noted_at, told}
+use Rattle.rw_inspect.specs.inner.Finding.{noted_at, told}
 use Rattle.rw_inspect.proofs.finding.text_noted.Given as goal
 
 abbrev pub invariant-loop-note : goal.invariant-loop-note

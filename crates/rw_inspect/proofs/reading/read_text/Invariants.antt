@@ -1,5 +1,5 @@
 use Rattle.std.proofs.Common.{◌≡◌, ◌<◌, length, true}
-use Rattle.rw_inspect.specs.Reading.{HasFed}
+use Rattle.rw_inspect.specs.inner.Reading.{HasFed}
 use Rattle.rw_inspect.proofs.reading.read_text.Given as goal
 
 abbrev pub invariant-loop : goal.invariant-loop

@@ -3,7 +3,7 @@ use Rattle.std.specs.Vec.Iter.{into_iter_items}
 use Rattle.rw_inspect.specs.Inspecting.{AllSure, source_of}
 use Rattle.rw_inspect.proofs.InspectLemmas.{Going, first_row, going_more, going_none, no_more, stops_at_end, stops_at_fault}
 use Rattle.rw_inspect.proofs.segments.read_all.Goals as goal
-use Rattle.rw_types.proofs.AnswerLemmas.{None-from_not_some}
+use Rattle.rw_types.proofs.shared.AnswerLemmas.{None-from_not_some}
 
 pub loop-segment-init : goal.loop-segment-init
 loop-segment-init g c =

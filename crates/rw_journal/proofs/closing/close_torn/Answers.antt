@@ -2,8 +2,8 @@ use Rattle.std.proofs.Common.{◌≡◌, ◌++◌, [], ◌∷◌, ap, ◌∙◌,
 use Rattle.rw_journal.specs.Journal.{Segments, on_last}
 use Rattle.rw_wal_format.specs.Pieces.{page_size}
 use Rattle.rw_journal.specs.Logs.{entries_of}
-use Rattle.rw_journal.proofs.ClosingLemmas.{cutting, beginning, begun}
-use Rattle.rw_journal.proofs.Moments.{started, goes_on}
+use Rattle.rw_journal.proofs.shared.ClosingLemmas.{cutting, beginning, begun}
+use Rattle.rw_journal.proofs.shared.Moments.{started, goes_on}
 use Rattle.rw_journal.proofs.closing.close_torn.Goals as goal
 
 pub returns-in_err-cut-clause-any_moment : goal.returns-in_err-cut-clause-any_moment

@@ -1,4 +1,4 @@
-use Rattle.rw_journal.proofs.TornLogLemmas.{left_between}
+use Rattle.rw_journal.proofs.shared.TornLogLemmas.{left_between}
 use Rattle.rw_journal.proofs.laws.a_torn_log_is_a_beginning.Goals as goal
 
 pub returns : goal.returns

@@ -1,4 +1,4 @@
-use Rattle.rw_journal.proofs.RecordLemmas.{records_added}
+use Rattle.rw_journal.proofs.shared.RecordLemmas.{records_added}
 use Rattle.rw_journal.proofs.laws.records_add_entries.Goals as goal
 
 pub returns : goal.returns

@@ -2,7 +2,7 @@ use Rattle.std.proofs.Common.{◌≡◌, ℕ, ◌+◌, ◌-◌, List, ◌++◌, 
 use Rattle.std.proofs.lemmas.List.{drop-drop}
 use Rattle.rw_journal.specs.Journal.{Segments, with_more}
 use Rattle.rw_journal.specs.Torn.{IsTornLog}
-use Rattle.rw_journal.proofs.Moments.{started, goes_on}
+use Rattle.rw_journal.proofs.shared.Moments.{started, goes_on}
 use Rattle.rw_journal.proofs.SegmentLemmas.{with_none, not_torn, torn_part, part_written}
 use Rattle.rw_journal.proofs.pages.write_in_pages.Goals as goal
 

@@ -1,5 +1,5 @@
 use Rattle.std.proofs.Common.{◌++◌, [], ◌∷◌, ap}
-use Rattle.rw_kept_head.specs.Inner.{GoesOn}
+use Rattle.rw_kept_head.specs.inner.Inner.{GoesOn}
 use Rattle.rw_kept_head.proofs.KeptLemmas.{goes_next}
 use Rattle.rw_kept_head.proofs.log_writer.spell.Goals as goal
 

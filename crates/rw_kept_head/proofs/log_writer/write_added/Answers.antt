@@ -2,13 +2,13 @@ use Rattle.std.proofs.Common.{◌++◌, map, List, ℕ, ap, sym, subst, ◌∙�
 use Rattle.rw_types.specs.declared.entry.Entry.{Entry}
 use Rattle.rw_journal.specs.Journal.{with_more, IsBegun}
 use Rattle.rw_journal.specs.Torn.{IsTornLog}
-use Rattle.rw_journal.proofs.Moments.{started}
+use Rattle.rw_journal.proofs.shared.Moments.{started}
 use Rattle.rw_wal_format.specs.Laws.{sample_entry}
 use Rattle.rw_wal_format.specs.Pieces.{page_size}
 use Rattle.rw_wal_append.specs.Additions.{definition_entry, samples_in}
 use Rattle.rw_wal_append.specs.References.{undefined}
 use Rattle.rw_journal.specs.Logs.{entries_of}
-use Rattle.rw_kept_head.specs.Inner.{GoesOn}
+use Rattle.rw_kept_head.specs.inner.Inner.{GoesOn}
 use Rattle.rw_kept_head.specs.Kept.{SaysWhat, IsLeft}
 use Rattle.rw_kept_head.proofs.KeptLemmas.{then_runs, is_unharmed, is_begun, is_torn, offset_more, says_more, still_defined}
 use Rattle.rw_kept_head.proofs.log_writer.write_added.Goals as goal

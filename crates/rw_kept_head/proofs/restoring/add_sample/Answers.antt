@@ -3,7 +3,7 @@ use Rattle.std.proofs.lemmas.Int.{to_z-of_z}
 use Rattle.std.specs.HashMap.{get}
 use Rattle.std.specs.Prelude.{FitsSigned}
 use Rattle.rw_write_request.specs.Message.{TimeSeries}
-use Rattle.rw_kept_head.specs.Restoring.{TakesSample}
+use Rattle.rw_kept_head.specs.inner.Restoring.{TakesSample}
 use Rattle.rw_kept_head.proofs.RestoringLemmas.{takes_by, only_one}
 use Rattle.rw_kept_head.proofs.restoring.add_sample.Goals as goal
 

@@ -4,7 +4,7 @@ use Rattle.std.specs.HashMap.{get}
 use Rattle.std.specs.Prelude.{FitsSigned}
 use Rattle.rw_types.specs.declared.entry.Entry.{Entry}
 use Rattle.rw_types.specs.declared.entry.Entry.TheVariants.{Sample}
-use Rattle.rw_kept_head.specs.Restoring.{IsRestored, IsRestoredOrRefused}
+use Rattle.rw_kept_head.specs.inner.Restoring.{IsRestored, IsRestoredOrRefused}
 use Rattle.rw_kept_head.proofs.RestoringLemmas.{defined_under, sample_taken}
 use Rattle.rw_kept_head.proofs.restoring.take_entry.Goals as goal
 

@@ -1,6 +1,6 @@
 use Rattle.std.proofs.Common.{rules}
 use Rattle.std.proofs.lemmas.Bool.{MatchBool-at_true, MatchBool-at_false}
-use Rattle.rw_log_commands.proofs.FillingLemmas.{filling_begins, filling_more, line_is_good, filling_stops, filling_ends}
+use Rattle.rw_log_commands.proofs.shared.FillingLemmas.{filling_begins, filling_more, line_is_good, filling_stops, filling_ends}
 use Rattle.rw_log_commands.proofs.filling.fill.Goals as goal
 
 pub loop-alloc-init : goal.loop-alloc-init

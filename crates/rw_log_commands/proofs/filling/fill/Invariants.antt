@@ -1,5 +1,5 @@
 use Rattle.std.proofs.Common.{length}
-use Rattle.rw_log_commands.proofs.FillingLemmas.{Filling}
+use Rattle.rw_log_commands.proofs.shared.FillingLemmas.{Filling}
 use Rattle.rw_log_commands.proofs.filling.fill.Given as goal
 
 abbrev pub invariant-loop-alloc : goal.invariant-loop-alloc

@@ -1,5 +1,5 @@
 use Rattle.std.proofs.Common.{rules, ap, ◌∙◌, Err}
-use Rattle.rw_log_commands.proofs.FillingLemmas.{has_record, record_some, log_took, log_full, not_device}
+use Rattle.rw_log_commands.proofs.shared.FillingLemmas.{has_record, record_some, log_took, log_full, not_device}
 use Rattle.rw_log_commands.proofs.filling.log_line.Goals as goal
 
 pub unreachable-requires : goal.unreachable-requires

@@ -1,5 +1,5 @@
 use Rattle.std.proofs.Common.{rules}
-use Rattle.rw_log_commands.proofs.FillingLemmas.{filled_all, overfull}
+use Rattle.rw_log_commands.proofs.shared.FillingLemmas.{filled_all, overfull}
 use Rattle.rw_log_commands.proofs.log.one_segment.Goals as goal
 
 pub returns-clause-ok : goal.returns-clause-ok

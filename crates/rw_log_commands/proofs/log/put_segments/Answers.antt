@@ -1,4 +1,4 @@
-use Rattle.rw_log_commands.proofs.FillingLemmas.{rest_is_good}
+use Rattle.rw_log_commands.proofs.shared.FillingLemmas.{rest_is_good}
 use Rattle.rw_log_commands.proofs.log.put_segments.Goals as goal
 
 pub loop-number-init : goal.loop-number-init

@@ -1,6 +1,6 @@
 use Rattle.std.proofs.Common.{refl, arith}
 use Rattle.rw_wal_format.specs.Laws.{log_all, reading_of_records}
-use Rattle.rw_wal_format.proofs.Written.{segment_read}
+use Rattle.rw_wal_format.proofs.shared.Written.{segment_read}
 use Rattle.rw_wal_tail.specs.Places.{stop_offset}
 use Rattle.rw_log_layout.proofs.Laying.{segment_both_ways}
 use Rattle.rw_log_layout.proofs.laws.written_records_are_laid_out.Goals as goal

@@ -1,6 +1,6 @@
-use Rattle.rw_machine.proofs.Ids.{one_batch}
+use Rattle.rw_machine.proofs.shared.Ids.{one_batch}
 use Rattle.rw_machine.proofs.Sent.{never_both}
-use Rattle.rw_machine.proofs.Stored.{resolved_is_stored}
+use Rattle.rw_machine.proofs.shared.Stored.{resolved_is_stored}
 use Rattle.rw_machine.proofs.laws.each_batch_has_one_fate.Goals as goal
 
 pub returns-clause-one_batch : goal.returns-clause-one_batch

@@ -1,6 +1,6 @@
-use Rattle.rw_machine.proofs.Classes.{classes}
-use Rattle.rw_machine.proofs.Counts.{counts_filtered}
-use Rattle.rw_machine.proofs.Named.{names_refusals}
+use Rattle.rw_machine.proofs.shared.Classes.{classes}
+use Rattle.rw_machine.proofs.shared.Counts.{counts_filtered}
+use Rattle.rw_machine.proofs.shared.Named.{names_refusals}
 use Rattle.rw_machine.proofs.laws.each_sample_has_one_class.Goals as goal
 
 pub returns-clause-classes : goal.returns-clause-classes

@@ -1,5 +1,5 @@
-use Rattle.rw_machine.proofs.Runs.{in_order, of_placed, owed_rises, held_rises, all_when_complete, all_when_damaged}
-use Rattle.rw_machine.proofs.Others.{others}
+use Rattle.rw_machine.proofs.shared.Runs.{in_order, of_placed, owed_rises, held_rises, all_when_complete, all_when_damaged}
+use Rattle.rw_machine.proofs.shared.Others.{others}
 use Rattle.rw_machine.proofs.laws.logged_samples_arrive_in_order.Goals as goal
 
 pub returns-clause-in_order : goal.returns-clause-in_order

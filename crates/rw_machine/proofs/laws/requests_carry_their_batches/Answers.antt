@@ -1,4 +1,4 @@
-use Rattle.rw_machine.proofs.Requests.{carries_each, sends_same}
+use Rattle.rw_machine.proofs.shared.Requests.{carries_each, sends_same}
 use Rattle.rw_machine.proofs.laws.requests_carry_their_batches.Goals as goal
 
 pub returns-clause-bytes : goal.returns-clause-bytes

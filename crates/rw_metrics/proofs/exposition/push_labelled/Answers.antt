@@ -1,9 +1,9 @@
 use Rattle.std.proofs.Common.{append_assoc, refl}
-use Rattle.rw_metrics.specs.Exposition.{labelled}
+use Rattle.rw_metrics.specs.Exposition.{labelled_line}
 use Rattle.rw_metrics.proofs.exposition.push_labelled.Goals as goal
 
 pub returns : goal.returns
-unfolding labelled
+unfolding labelled_line
 returns c =
     rw (
       c.in_ok-push_value.ensures,

@@ -4,8 +4,8 @@ use Rattle.rw_metrics.proofs.lines.push_work_line.Goals as goal
 pub returns : goal.returns
 returns c =
     rw (
-      c.in_ok-push_last_told.ensures,
-      c.in_ok-push_told-3.ensures,
-      c.in_ok-push_told-2.ensures,
-      c.in_ok-push_told.ensures,
+      c.in_ok-push_last_failure.ensures,
+      c.in_ok-push_word_and_count-3.ensures,
+      c.in_ok-push_word_and_count-2.ensures,
+      c.in_ok-push_word_and_count.ensures,
     ) (simp append_assoc refl)

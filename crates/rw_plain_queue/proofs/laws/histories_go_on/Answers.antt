@@ -1,4 +1,4 @@
-use Rattle.rw_plain_queue.proofs.Histories.{history-nil, open-nil, history-put, open-put, history-end, history-front, ended-whole}
+use Rattle.rw_plain_queue.proofs.shared.Histories.{history-nil, open-nil, history-put, open-put, history-end, history-front, ended-whole}
 use Rattle.rw_plain_queue.proofs.laws.histories_go_on.Goals as goal
 
 pub returns-clause-empty : goal.returns-clause-empty

@@ -1,4 +1,4 @@
-use Rattle.rw_recv_head.proofs.StayingLemmas.{stays_stored}
+use Rattle.rw_recv_head.proofs.shared.StayingLemmas.{stays_stored}
 use Rattle.rw_recv_head.proofs.laws.what_is_stored_stays.Goals as goal
 
 pub returns : goal.returns

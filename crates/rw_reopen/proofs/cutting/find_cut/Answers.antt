@@ -1,6 +1,6 @@
 use Rattle.std.proofs.Common.{subst}
-use Rattle.rw_reopen.specs.Reading.{IsFaultOf}
-use Rattle.rw_reopen.proofs.OpeningLemmas.{cut_at_end, is_whole}
+use Rattle.rw_reopen.specs.inner.Reading.{IsFaultOf}
+use Rattle.rw_reopen.proofs.shared.OpeningLemmas.{cut_at_end, is_whole}
 use Rattle.rw_reopen.proofs.cutting.find_cut.Goals as goal
 
 pub returns-in_default-clause-cut : goal.returns-in_default-clause-cut

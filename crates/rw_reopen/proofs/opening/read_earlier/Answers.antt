@@ -1,6 +1,6 @@
 use Rattle.std.proofs.Common.{[], refl, ap, ◌∙◌, get_or, arith}
 use Rattle.rw_journal.specs.Journal.{Segments}
-use Rattle.rw_reopen.proofs.OpeningLemmas.{going_none, going_more}
+use Rattle.rw_reopen.proofs.shared.OpeningLemmas.{going_none, going_more}
 use Rattle.rw_reopen.proofs.Runs.{only_read-none, only_read-more}
 use Rattle.rw_reopen.proofs.opening.read_earlier.Goals as goal
 

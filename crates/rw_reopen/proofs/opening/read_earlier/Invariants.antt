@@ -1,5 +1,5 @@
 use Rattle.std.proofs.Common.{◌≡◌}
-use Rattle.rw_reopen.proofs.OpeningLemmas.{Going}
+use Rattle.rw_reopen.proofs.shared.OpeningLemmas.{Going}
 use Rattle.rw_reopen.specs.Reopening.{IsOnlyRead}
 use Rattle.rw_reopen.proofs.opening.read_earlier.Given as goal
 

@@ -2,8 +2,8 @@ use Rattle.std.proofs.Common.{◌≡◌, ◌-◌, [], ◌++◌, List, get_or, su
 use Rattle.std.proofs.lemmas.List.{nil_from_length}
 use Rattle.rw_types.specs.declared.entry.Entry.{Entry}
 use Rattle.rw_journal.specs.Journal.{Segments}
-use Rattle.rw_reopen.specs.Reopening.{IsLast}
-use Rattle.rw_reopen.proofs.OpeningLemmas.{Going, all_read, ends_nowhere, none_of}
+use Rattle.rw_reopen.specs.inner.Reopening.{IsLast}
+use Rattle.rw_reopen.proofs.shared.OpeningLemmas.{Going, all_read, ends_nowhere, none_of}
 use Rattle.rw_reopen.proofs.opening.read_log.Goals as goal
 
 pub returns-then-count-eq0-clause-entries : goal.returns-then-count-eq0-clause-entries

@@ -1,5 +1,5 @@
 use Rattle.std.proofs.Common.{arith}
-use Rattle.rw_retry.proofs.BackoffLemmas.{late}
+use Rattle.rw_retry.proofs.shared.BackoffLemmas.{late}
 use Rattle.rw_retry.proofs.backoff.delay.Goals as goal
 
 pub returns-then-retry-ge64 : goal.returns-then-retry-ge64

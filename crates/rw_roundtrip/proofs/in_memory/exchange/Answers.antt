@@ -2,7 +2,7 @@ use Rattle.std.proofs.Common.{◌≡◌, ◌⊎◌, ◌<◌, ◌-◌, ◌^◌, �
 use Rattle.rw_types.specs.Memory.{Reserved}
 use Rattle.rw_shard_core.specs.declared.replies.ReplyRead.{ReplyRead}
 use Rattle.rw_shard_core.specs.declared.replies.ReplyRead.TheVariants.{Status, Partial, Bad}
-use Rattle.rw_shard_core.specs.Replies.{Reads}
+use Rattle.rw_shard_core.specs.Replies.{ReadsReply}
 use Rattle.rw_roundtrip.proofs.ExchangeLemmas.{heard, heard_status, turned, unheard}
 use Rattle.rw_roundtrip.proofs.in_memory.exchange.Goals as goal
 
@@ -22,7 +22,7 @@ pub returns-in-Status : goal.returns-in-Status
 returns-in-Status g c =
     let new = c.in_ok-writer.ensures in
     let short : length c.args.request.now < 2 ^ 64 - 1 = omega arith in
-    let reads : Reads 8192 c.serve.new.writer.bytes c.read_reply.result = subst (λ (t : List ℕ). Reads 8192 t c.read_reply.result) c.as_slice.ensures c.read_reply.ensures in
+    let reads : ReadsReply 8192 c.serve.new.writer.bytes c.read_reply.result = subst (λ (t : List ℕ). ReadsReply 8192 t c.read_reply.result) c.as_slice.ensures c.read_reply.ensures in
     record {
       answered = λ body one.
           let alone = c.serve.ensures.alone c.args.request.now [] body refl (ap (λ (r : Reserved). Some r.bytes) new) refl (ap (λ (r : Reserved). r.has_failed) new) (omega (arith, ap (λ (r : Reserved). r.room) new)) one in
@@ -43,7 +43,7 @@ pub unreachable-requires : goal.unreachable-requires
 unreachable-requires g c =
     let new = c.in_ok-writer.ensures in
     let short : length c.args.request.now < 2 ^ 64 - 1 = omega arith in
-    let reads : Reads 8192 c.serve.new.writer.bytes c.read_reply.result = subst (λ (t : List ℕ). Reads 8192 t c.read_reply.result) c.as_slice.ensures c.read_reply.ensures in
+    let reads : ReadsReply 8192 c.serve.new.writer.bytes c.read_reply.result = subst (λ (t : List ℕ). ReadsReply 8192 t c.read_reply.result) c.as_slice.ensures c.read_reply.ensures in
     elim c.requires as (λ _. ⊥) [
       | inl one ↦
           let alone = c.serve.ensures.alone c.args.request.now [] one.0 refl (ap (λ (r : Reserved). Some r.bytes) new) refl (ap (λ (r : Reserved). r.has_failed) new) (omega (arith, ap (λ (r : Reserved). r.room) new)) one.1 in

@@ -1,4 +1,4 @@
-use Rattle.rw_roundtrip.proofs.RequestLemmas.{one_request, one_refusal, either_request}
+use Rattle.rw_roundtrip.proofs.shared.RequestLemmas.{one_request, one_refusal, either_request}
 use Rattle.rw_roundtrip.proofs.laws.requests_are_read.Goals as goal
 
 pub returns-clause-read : goal.returns-clause-read

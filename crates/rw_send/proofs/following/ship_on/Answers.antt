@@ -1,6 +1,7 @@
 use Rattle.std.proofs.Common.{◌≡◌, true, refl, ap, ◌∙◌}
 use Rattle.rw_sender.specs.Feeders.{Sorting}
-use Rattle.rw_send.proofs.AnswerLemmas.{cut_for, ends_for, failed_so}
+use Rattle.rw_sender.proofs.shared.ShippingLemmas.{failed_so}
+use Rattle.rw_send.proofs.AnswerLemmas.{cut_for, ends_for}
 use Rattle.rw_send.proofs.FollowLemmas.{damaged_by, follow_so, follow_why, signed_answers}
 use Rattle.rw_send.proofs.EpochLemmas.{none_ended}
 use Rattle.rw_send.specs.Following.{FollowStopsAtOnce, meal_of}

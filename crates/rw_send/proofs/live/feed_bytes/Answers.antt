@@ -3,9 +3,9 @@ use Rattle.rw_wal_format.specs.Pieces.{bytes}
 use Rattle.rw_send.proofs.FollowLemmas.{err_so, fed_piece, feed_fails, part_piece}
 use Rattle.rw_send.proofs.PartLemmas.{joins_or_not}
 use Rattle.rw_send.proofs.ShortLemmas.{short_fed}
-use Rattle.rw_send.specs.Following.{FailsWith}
+use Rattle.rw_send.specs.inner.Following.{FailsWith}
 use Rattle.rw_send.proofs.live.feed_bytes.Goals as goal
-use Rattle.rw_types.proofs.AnswerLemmas.{OnErr-always}
+use Rattle.rw_types.proofs.shared.AnswerLemmas.{OnErr-always}
 
 pub returns-in_err-feed-clause-part : goal.returns-in_err-feed-clause-part
 returns-in_err-feed-clause-part g c =

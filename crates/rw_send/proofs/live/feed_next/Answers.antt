@@ -1,11 +1,11 @@
 use Rattle.std.proofs.Common.{sym, ap, ◌∙◌}
 use Rattle.rw_sender.specs.Feeders.{Sorting}
 use Rattle.rw_send.proofs.FollowLemmas.{begin_fails, err_so, fed_next, part_next, set_fails}
-use Rattle.rw_send.specs.Following.{FailsWith}
+use Rattle.rw_send.specs.inner.Following.{FailsWith}
 use Rattle.rw_send.proofs.EpochLemmas.{last_compared, last_stays, next_resolved, still_resolved}
 use Rattle.rw_send.proofs.FeedErrorLemmas.{count_so, live_no_more}
 use Rattle.rw_send.proofs.live.feed_next.Goals as goal
-use Rattle.rw_types.proofs.AnswerLemmas.{OnErr-always}
+use Rattle.rw_types.proofs.shared.AnswerLemmas.{OnErr-always}
 
 pub returns-in_err-begin_segment-clause-part : goal.returns-in_err-begin_segment-clause-part
 returns-in_err-begin_segment-clause-part g c = OnErr-always _ (part_next _ _ _ (ap (λ (l : Sorting). l.pieces) c.in_ok-next.ensures.log) c.in_err-begin_segment.ensures.part)

@@ -1,9 +1,9 @@
 use Rattle.rw_send.proofs.FeedErrorLemmas.{fails_so}
-use Rattle.rw_send.specs.Following.{FailsWith}
-use Rattle.rw_send.proofs.EpochLemmas.{same_length}
+use Rattle.rw_send.specs.inner.Following.{FailsWith}
 use Rattle.rw_send.proofs.FollowLemmas.{err_so, flush_fails}
 use Rattle.rw_send.proofs.live.flush.Goals as goal
-use Rattle.rw_types.proofs.AnswerLemmas.{OnErr-always}
+use Rattle.rw_types.proofs.shared.AnswerLemmas.{OnErr-always}
+use Rattle.rw_fleet.proofs.shared.LaneLemmas.{same_length}
 
 pub returns-in_err-flush-clause-failed : goal.returns-in_err-flush-clause-failed
 returns-in_err-flush-clause-failed g c = OnErr-always _ (fails_so _ _ c.in_err-flush.ensures.fails)

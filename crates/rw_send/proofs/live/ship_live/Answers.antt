@@ -1,5 +1,5 @@
 use Rattle.std.proofs.Common.{◌≡◌, true, Ok, Err, ap, ◌∙◌}
-use Rattle.rw_send.specs.Following.{IsCut}
+use Rattle.rw_send.specs.inner.Following.{IsCut}
 use Rattle.rw_send.proofs.FollowLemmas.{begins_turn, cut_broken, cut_halted, err_so, halts_for, on_err}
 use Rattle.rw_send.proofs.EpochLemmas.{last_same}
 use Rattle.rw_send.proofs.FeedErrorLemmas.{count_so}

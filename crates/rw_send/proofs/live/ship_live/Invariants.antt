@@ -1,20 +1,20 @@
 use Rattle.std.proofs.Common.{◌≡◌, ◌<◌, ◌≤◌, length, true, None}
-use Rattle.rw_follow.specs.Growth.{IsFollowed, IsGivenAt, Known}
+use Rattle.rw_follow.specs.Growth.{HasNextSegment, IsGivenAt, Known}
 use Rattle.rw_fleet.specs.Work.{AreResolved}
 use Rattle.rw_send.specs.Following.{meal_of}
-use Rattle.rw_send.specs.Segments.{AreShort}
-use Rattle.rw_send.specs.Steps.{IsKept}
+use Rattle.rw_send.specs.Segments.{AreShortPieces}
+use Rattle.rw_send.specs.Steps.{KeepsSetup}
 use Rattle.rw_send.proofs.live.ship_live.Given as goal
 
 abbrev pub invariant-loop : goal.invariant-loop
 invariant-loop g l = record {
-  kept : IsKept l.fn.shipper l.shipper;
+  kept : KeepsSetup l.fn.shipper l.shipper;
   limit : l.shipper.limit ≡ l.fn.shipper.limit;
-  short : AreShort l.shipper.log.pieces;
+  short : AreShortPieces l.shipper.log.pieces;
   live : l.shipper.fault ≡ None;
   shards : length l.shipper.fleet.current ≡ l.sharding.shards;
   given : Known (g.S.Segments.now l.segments) (λ m. IsGivenAt (meal_of l.shipper.log.pieces) m);
-  followed : l.follower ≡ true → Known (g.S.Segments.now l.segments) IsFollowed;
+  followed : l.follower ≡ true → Known (g.S.Segments.now l.segments) HasNextSegment;
   sure : g.S.Segments.is_sure l.fn.segments ≡ true → g.S.Segments.is_sure l.segments ≡ true;
   resolved : AreResolved l.fn.shipper.fleet.ended → AreResolved l.shipper.fleet.ended;
   room : 0 < length l.buf;

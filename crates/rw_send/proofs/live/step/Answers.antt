@@ -1,5 +1,5 @@
 use Rattle.rw_send.proofs.FeedErrorLemmas.{count_so, live_no_more}
-use Rattle.rw_send.specs.Following.{FailsWith}
+use Rattle.rw_send.specs.inner.Following.{FailsWith}
 use Rattle.rw_send.proofs.EpochLemmas.{compared_resolved, last_compared}
 use Rattle.rw_send.proofs.FollowLemmas.{all_halt, all_halt_from, err_so, set_fails}
 use Rattle.rw_send.proofs.live.step.Goals as goal

@@ -1,7 +1,8 @@
 use Rattle.std.proofs.Common.{true, map, refl, ap, ◌∙◌}
 use Rattle.rw_sender.specs.Feeders.{Sorting}
+use Rattle.rw_sender.proofs.shared.ShippingLemmas.{failed_so}
 use Rattle.rw_send.specs.Steps.{AreShipped, AreShippedPart}
-use Rattle.rw_send.proofs.AnswerLemmas.{answers_too, at_ok, damage_of, failed_so, send_ends, unread_so}
+use Rattle.rw_send.proofs.AnswerLemmas.{answers_too, at_ok, damage_of, send_ends, unread_so}
 use Rattle.rw_send.proofs.EpochLemmas.{none_ended}
 use Rattle.rw_send.proofs.StepLemmas.{between}
 use Rattle.rw_send.proofs.send.ship.Goals as goal

@@ -4,7 +4,7 @@ use Rattle.rw_send.proofs.FeedErrorLemmas.{feed_failed}
 use Rattle.rw_send.proofs.PartLemmas.{begun_or_not}
 use Rattle.rw_send.proofs.ShortLemmas.{short_fed}
 use Rattle.rw_send.proofs.shipping.begin_segment.Goals as goal
-use Rattle.rw_types.proofs.AnswerLemmas.{OnErr-always}
+use Rattle.rw_types.proofs.shared.AnswerLemmas.{OnErr-always}
 
 pub returns-in_err-feed-clause-part : goal.returns-in_err-feed-clause-part
 returns-in_err-feed-clause-part g c = OnErr-always _ (begun_or_not c.args.is_first c.args.shipper.now.log c.feed.new.self.log c.in_err-feed.field-0.0 c.if-is_first.false (c.in_err-feed.ensures.pieces c.requires))

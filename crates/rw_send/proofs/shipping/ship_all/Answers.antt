@@ -1,7 +1,7 @@
 use Rattle.std.proofs.Common.{inl, ◌≡◌, ◌<◌, ◌≤◌, ℕ, ◌-◌, ◌∷◌, Bool, nat_lt, length, map, sym, ap, ◌∙◌, subst, arith}
 use Rattle.std.specs.Vec.Iter.{into_iter_items}
 use Rattle.rw_sender.specs.Feeders.{Sorting}
-use Rattle.rw_send.specs.Segments.{AreShort}
+use Rattle.rw_send.specs.Segments.{AreShortPieces}
 use Rattle.rw_send.specs.Steps.{IsSet, is_some_more}
 use Rattle.rw_send.proofs.EpochLemmas.{last_compared, last_same, last_stays, next_resolved, still_resolved, still_some}
 use Rattle.rw_send.proofs.FeedErrorLemmas.{count_so, lacks, live_no_more, same_halt}
@@ -25,7 +25,7 @@ loop-segment-preserved g c =
     (subst (λ (b : Bool). IsSet b c.args.sharding.fewest c.args.sharding.most c.ship_segment.new.shipper c.resharded.new.shipper) (sym (some_more g.S.Source.remaining (into_iter_items c.next.new.self) (c.loop-segment.left - 1) left)) set) in
     record {
       kept = (ap (λ (l : Sorting). l.choice) c.in_ok-sharding.ensures.log ∙ kept.0 ∙ was.0, c.in_ok-sharding.ensures.config ∙ kept.1 ∙ was.1);
-      short = subst AreShort (sym (ap (λ (l : Sorting). l.pieces) c.in_ok-sharding.ensures.log)) (c.in_ok-ship_segment.ensures.short (c.in_ok-begin_segment.ensures.short c.loop-segment.invariant.short));
+      short = subst AreShortPieces (sym (ap (λ (l : Sorting). l.pieces) c.in_ok-sharding.ensures.log)) (c.in_ok-ship_segment.ensures.short (c.in_ok-begin_segment.ensures.short c.loop-segment.invariant.short));
       limit = c.in_ok-sharding.ensures.limit ∙ stays.limit ∙ c.loop-segment.invariant.limit;
       shards = sym c.in_ok-sharding.ensures.shards;
       range = (c.in_ok-sharding.ensures.range.0 ∙ c.loop-segment.invariant.range.0, c.in_ok-sharding.ensures.range.1 ∙ c.loop-segment.invariant.range.1);

@@ -1,16 +1,16 @@
 use Rattle.std.proofs.Common.{◌≡◌, ◌<◌, ◌≤◌, None, true, map, length}
 use Rattle.std.specs.Vec.Iter.{into_iter_items, into_iter_len}
 use Rattle.rw_fleet.specs.Work.{AreResolved}
-use Rattle.rw_send.specs.Segments.{AreShort, AreSure}
-use Rattle.rw_send.specs.Steps.{AreShipped, AreShippedPart, IsKept}
+use Rattle.rw_send.specs.Segments.{AreShortPieces, AreSure}
+use Rattle.rw_send.specs.Steps.{AreShipped, AreShippedPart, KeepsSetup}
 use Rattle.rw_sender.specs.Shipping.{Shipping}
 use Rattle.rw_send.proofs.SegmentLemmas.{IsGoing}
 use Rattle.rw_send.proofs.shipping.ship_all.Given as goal
 
 abbrev pub invariant-loop-segment : goal.invariant-loop-segment
 invariant-loop-segment g l = record {
-  kept : IsKept l.fn.shipper l.shipper;
-  short : AreShort l.shipper.log.pieces;
+  kept : KeepsSetup l.fn.shipper l.shipper;
+  short : AreShortPieces l.shipper.log.pieces;
   limit : l.shipper.limit ≡ l.fn.shipper.limit;
   shards : length l.shipper.fleet.current ≡ l.sharding.shards;
   range : (l.sharding.fewest ≡ l.fn.sharding.fewest) × (l.sharding.most ≡ l.fn.sharding.most);

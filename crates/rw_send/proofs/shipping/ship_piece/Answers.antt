@@ -4,7 +4,7 @@ use Rattle.rw_send.proofs.FeedErrorLemmas.{feed_failed, same_halt}
 use Rattle.rw_send.proofs.PartLemmas.{joins_or_not, more_or_not}
 use Rattle.rw_send.proofs.ShortLemmas.{short_fed}
 use Rattle.rw_send.proofs.shipping.ship_piece.Goals as goal
-use Rattle.rw_types.proofs.AnswerLemmas.{OnErr-always}
+use Rattle.rw_types.proofs.shared.AnswerLemmas.{OnErr-always}
 
 pub returns-in_err-feed-clause-part : goal.returns-in_err-feed-clause-part
 returns-in_err-feed-clause-part g c =

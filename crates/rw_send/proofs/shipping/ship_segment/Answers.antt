@@ -4,7 +4,7 @@ use Rattle.rw_send.proofs.PartLemmas.{less_of, part_halted}
 use Rattle.rw_send.proofs.SegmentLemmas.{feeding_none, feeding_more}
 use Rattle.rw_send.proofs.StepLemmas.{stays, stays_on}
 use Rattle.rw_send.proofs.shipping.ship_segment.Goals as goal
-use Rattle.rw_types.proofs.AnswerLemmas.{OnErr-always}
+use Rattle.rw_types.proofs.shared.AnswerLemmas.{OnErr-always}
 
 pub loop-init : goal.loop-init
 loop-init g c = record { stays = stays _; short = λ h. h; feeding = feeding_none _ _; sound = c.requires.sound; room = refl; buffer = c.requires.buffer; small = c.requires.small; sure = λ h. h }

@@ -1,5 +1,5 @@
 use Rattle.std.proofs.Common.{◌≡◌, ◌<◌, ◌≤◌, length, true, None}
-use Rattle.rw_send.specs.Segments.{AreShort}
+use Rattle.rw_send.specs.Segments.{AreShortPieces}
 use Rattle.rw_send.specs.Steps.{StaysOpen}
 use Rattle.rw_send.proofs.SegmentLemmas.{IsFeeding}
 use Rattle.rw_send.proofs.shipping.ship_segment.Given as goal
@@ -7,7 +7,7 @@ use Rattle.rw_send.proofs.shipping.ship_segment.Given as goal
 abbrev pub invariant-loop : goal.invariant-loop
 invariant-loop g l = record {
   stays : StaysOpen l.fn.shipper l.shipper;
-  short : AreShort l.fn.shipper.log.pieces → AreShort l.shipper.log.pieces;
+  short : AreShortPieces l.fn.shipper.log.pieces → AreShortPieces l.shipper.log.pieces;
   feeding : IsFeeding (g.S.Source.remaining l.fn.segment) (g.S.Source.remaining l.segment) l.fn.shipper.log.pieces l.shipper.log.pieces;
   sound : l.shipper.fault ≡ None;
   room : length l.buf ≡ length l.fn.buf;

@@ -1,4 +1,4 @@
-use Rattle.rw_sender.proofs.SpreadLemmas.{placed_spread}
+use Rattle.rw_sender.proofs.shared.SpreadLemmas.{placed_spread}
 use Rattle.rw_sender.proofs.laws.samples_are_spread.Goals as goal
 
 pub returns : goal.returns

@@ -1,5 +1,5 @@
 use Rattle.std.proofs.Common.{refl, sym, ◌∙◌, arith}
-use Rattle.rw_sender.proofs.ListingLemmas.{room_first, room_all, listed_all}
+use Rattle.rw_sender.proofs.shared.ListingLemmas.{room_first, room_all, listed_all}
 use Rattle.rw_sender.proofs.lists.finish_listed.Goals as goal
 
 pub push_reserved-requires : goal.push_reserved-requires

@@ -1,8 +1,8 @@
 use Rattle.std.proofs.Common.{◌∷◌, ◌++◌, [], length, sym, ap, ◌∙◌, subst, arith}
 use Rattle.std.proofs.lemmas.List.{nil_from_length}
-use Rattle.rw_fleet.proofs.ListLemmas.{moved}
-use Rattle.rw_sender.specs.Reports.{HasRoom, ListsAfter}
-use Rattle.rw_sender.proofs.ListingLemmas.{room_next, lists_none, lists_more, none_left}
+use Rattle.rw_fleet.proofs.shared.ListLemmas.{moved}
+use Rattle.rw_sender.specs.inner.Reports.{HasRoom, ListsAfter}
+use Rattle.rw_sender.proofs.shared.ListingLemmas.{room_next, lists_none, lists_more, none_left}
 use Rattle.rw_sender.proofs.lists.list_all.Goals as goal
 
 pub loop-shard-init : goal.loop-shard-init

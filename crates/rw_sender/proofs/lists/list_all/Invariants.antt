@@ -1,6 +1,6 @@
 use Rattle.std.proofs.Common.{◌≡◌, List, ◌++◌, length}
 use Rattle.std.specs.Vec.Iter.{into_iter_items, into_iter_len}
-use Rattle.rw_sender.specs.Reports.{HasRoom, ListsAfter}
+use Rattle.rw_sender.specs.inner.Reports.{HasRoom, ListsAfter}
 use Rattle.rw_sender.proofs.lists.list_all.Given as goal
 
 abbrev pub invariant-loop-shard : goal.invariant-loop-shard

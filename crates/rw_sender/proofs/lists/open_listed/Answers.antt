@@ -1,7 +1,7 @@
 use Rattle.std.proofs.Common.{◌+◌, subst}
 use Rattle.std.specs.Prelude.{◌*◌}
-use Rattle.rw_sender.specs.Reports.{HasSpace}
-use Rattle.rw_sender.proofs.ListingLemmas.{room_opened}
+use Rattle.rw_sender.specs.inner.Reports.{HasSpace}
+use Rattle.rw_sender.proofs.shared.ListingLemmas.{room_opened}
 use Rattle.rw_sender.proofs.lists.open_listed.Goals as goal
 
 pub returns-clause-room : goal.returns-clause-room

@@ -5,15 +5,15 @@ use Rattle.std.proofs.lemmas.Int.{to_z-of_z}
 use Rattle.std.specs.Prelude.{Option, None}
 use Rattle.std.proofs.lemmas.Result.{on_ok_weaker}
 use Rattle.rw_types.specs.Labels.{Labels}
-use Rattle.rw_sender.specs.Sizes.{bytes_of}
+use Rattle.rw_sender.specs.Sizes.{size_of_sample}
 use Rattle.rw_sender.specs.Rooms.{Counts}
-use Rattle.rw_fleet.proofs.LaneLemmas.{same_self, same_length}
-use Rattle.rw_sender.proofs.PlacementLemmas.{get_some}
+use Rattle.rw_fleet.proofs.shared.LaneLemmas.{same_self, same_length}
+use Rattle.rw_sender.proofs.shared.PlacementLemmas.{get_some}
 use Rattle.rw_sender.proofs.CutLemmas.{room_made}
 use Rattle.rw_sender.proofs.place.make_room.Goals as goal
 
-same_bytes : (l m : Labels) (w : ℕ) (z t : ℤ) → l ≡ m → z ≡ t → bytes_of l (w, z) ≡ bytes_of m (w, t)
-same_bytes l m w z t h g = λ i. bytes_of (h i) (w, g i)
+same_bytes : (l m : Labels) (w : ℕ) (z t : ℤ) → l ≡ m → z ≡ t → size_of_sample l (w, z) ≡ size_of_sample m (w, t)
+same_bytes l m w z t h g = λ i. size_of_sample (h i) (w, g i)
 
 none_over : (limit : Option _) (k b : _) (old new : _) → limit ≡ None → Counts limit k b old new true → ⊥
 none_over limit k b old new is h = let h' = subst (λ m. Counts m k b old new true) is h in absurd (let e : true ≡ false = h' in cc)

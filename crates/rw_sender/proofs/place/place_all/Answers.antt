@@ -1,8 +1,8 @@
 use Rattle.std.proofs.Common.{refl, ◌∙◌, subst, arith}
-use Rattle.rw_sender.specs.Shipping.{Steps}
+use Rattle.rw_sender.specs.inner.Shipping.{Steps}
 use Rattle.rw_sender.specs.declared.place.Progress.{Progress}
 use Rattle.rw_sender.proofs.CutLemmas.{goes_cut_self, goes_cut_on}
-use Rattle.rw_sender.proofs.ShippingLemmas.{goes_same, goes_next}
+use Rattle.rw_sender.proofs.shared.ShippingLemmas.{goes_same, goes_next}
 use Rattle.rw_sender.proofs.place.place_all.Goals as goal
 
 pub loop-init : goal.loop-init

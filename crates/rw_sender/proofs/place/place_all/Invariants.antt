@@ -1,6 +1,7 @@
 use Rattle.std.proofs.Common.{◌≡◌, []}
-use Rattle.rw_sender.specs.Cutting.{GoesCut}
-use Rattle.rw_sender.specs.Shipping.{PlacesAll, GoesOn}
+use Rattle.rw_sender.specs.inner.Cutting.{GoesCut}
+use Rattle.rw_sender.specs.Shipping.{PlacesAll}
+use Rattle.rw_sender.specs.inner.Shipping.{GoesOn}
 use Rattle.rw_sender.proofs.place.place_all.Given as goal
 
 abbrev pub invariant-loop : goal.invariant-loop

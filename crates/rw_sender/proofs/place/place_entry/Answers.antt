@@ -3,10 +3,11 @@ use Rattle.std.specs.Prelude.{Option}
 use Rattle.rw_series_cache.specs.declared.sample.RoutedSample.{RoutedSample}
 use Rattle.rw_sender.specs.Feeders.{Sorting, Judges}
 use Rattle.rw_fleet.specs.Fleets.{Shards}
-use Rattle.rw_sender.specs.Shipping.{GoesOn, PlacesAll}
-use Rattle.rw_sender.proofs.PlacementLemmas.{kept_self}
+use Rattle.rw_sender.specs.Shipping.{PlacesAll}
+use Rattle.rw_sender.specs.inner.Shipping.{GoesOn}
+use Rattle.rw_sender.proofs.shared.PlacementLemmas.{kept_self}
 use Rattle.rw_sender.proofs.CutLemmas.{goes_cut_self, goes_cut_put}
-use Rattle.rw_sender.proofs.ShippingLemmas.{goes_same, goes_placed, goes_marked, goes_cut, places_none, places_same, places_sent, stands_behind}
+use Rattle.rw_sender.proofs.shared.ShippingLemmas.{goes_same, goes_placed, goes_marked, goes_cut, places_none, places_same, places_sent, stands_behind}
 use Rattle.rw_sender.proofs.place.place_entry.Goals as goal
 
 pub returns-in_err-make_room-clause-goes : goal.returns-in_err-make_room-clause-goes

@@ -1,7 +1,7 @@
 use Rattle.std.proofs.Common.{subst}
 use Rattle.rw_sender.specs.declared.feeder.Next.{Next}
-use Rattle.rw_sender.specs.Feeders.{Reads}
-use Rattle.rw_sender.proofs.ShippingLemmas.{goes_same}
+use Rattle.rw_sender.specs.Feeders.{ReadsNext}
+use Rattle.rw_sender.proofs.shared.ShippingLemmas.{goes_same}
 use Rattle.rw_sender.proofs.CutLemmas.{goes_cut_self}
 use Rattle.rw_sender.proofs.place.place_next.Goals as goal
 
@@ -10,12 +10,12 @@ returns-in_default-clause-goes g c = goes_same _ c.args.feeder.now c.read.new.se
 
 pub returns-in-End-clause-goes : goal.returns-in-End-clause-goes
 returns-in-End-clause-goes g c =
-    let read = subst (λ (n : Next). Reads c.args.feeder.now c.read.new.self n) c.in-End.is c.in-Ok.ensures.ok in
+    let read = subst (λ (n : Next). ReadsNext c.args.feeder.now c.read.new.self n) c.in-End.is c.in-Ok.ensures.ok in
     goes_same _ c.args.feeder.now c.read.new.self c.args.fleet.now read.0
 
 pub returns-in-Damaged-clause-goes : goal.returns-in-Damaged-clause-goes
 returns-in-Damaged-clause-goes g c =
-    let read = subst (λ (n : Next). Reads c.args.feeder.now c.read.new.self n) c.in-Damaged.is c.in-Ok.ensures.ok in
+    let read = subst (λ (n : Next). ReadsNext c.args.feeder.now c.read.new.self n) c.in-Damaged.is c.in-Ok.ensures.ok in
     goes_same _ c.args.feeder.now c.read.new.self c.args.fleet.now read.0
 
 pub returns-in-End-clause-cut : goal.returns-in-End-clause-cut

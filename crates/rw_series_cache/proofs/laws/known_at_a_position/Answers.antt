@@ -1,4 +1,4 @@
-use Rattle.rw_series_cache.proofs.KnownLemmas.{known-take}
+use Rattle.rw_series_cache.proofs.shared.KnownLemmas.{known-take}
 use Rattle.rw_series_cache.proofs.laws.known_at_a_position.Goals as goal
 
 pub returns : goal.returns

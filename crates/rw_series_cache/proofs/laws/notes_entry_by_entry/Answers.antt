@@ -1,4 +1,4 @@
-use Rattle.rw_series_cache.proofs.RisingLemmas.{noted_at_first, noted_definition, noted_other, noted_falling, noted_rising}
+use Rattle.rw_series_cache.proofs.shared.RisingLemmas.{noted_at_first, noted_definition, noted_other, noted_falling, noted_rising}
 use Rattle.rw_series_cache.proofs.laws.notes_entry_by_entry.Goals as goal
 
 pub returns-clause-first : goal.returns-clause-first

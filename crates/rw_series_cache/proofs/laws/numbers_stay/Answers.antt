@@ -1,4 +1,4 @@
-use Rattle.rw_series_cache.proofs.SeriesLemmas.{kept_has_number, number_stays_on}
+use Rattle.rw_series_cache.proofs.shared.SeriesLemmas.{kept_has_number, number_stays_on}
 use Rattle.rw_series_cache.proofs.laws.numbers_stay.Goals as goal
 
 pub returns-clause-numbered : goal.returns-clause-numbered

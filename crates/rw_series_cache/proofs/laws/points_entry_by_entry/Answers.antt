@@ -1,4 +1,4 @@
-use Rattle.rw_series_cache.proofs.PointLemmas.{definition_gives_none, sample_is_kept, sample_is_other}
+use Rattle.rw_series_cache.proofs.shared.PointLemmas.{definition_gives_none, sample_is_kept, sample_is_other}
 use Rattle.rw_series_cache.proofs.laws.points_entry_by_entry.Goals as goal
 
 pub returns-clause-definition : goal.returns-clause-definition

@@ -1,4 +1,4 @@
-use Rattle.rw_series_cache.proofs.KnownLemmas.{known-definitions_of, series_of-definitions_of, definitions_of-definition, definitions_of-sample}
+use Rattle.rw_series_cache.proofs.shared.KnownLemmas.{known-definitions_of, series_of-definitions_of, definitions_of-definition, definitions_of-sample}
 use Rattle.rw_series_cache.proofs.laws.samples_define_nothing.Goals as goal
 
 pub returns-clause-known : goal.returns-clause-known

@@ -1,6 +1,7 @@
 use Rattle.std.proofs.Common.{◌≡◌, map}
 use Rattle.toml.specs.View.{table_view}
-use Rattle.rw_settings.specs.Keys.{row_of, has_only}
+use Rattle.rw_settings.specs.Keys.{has_only}
+use Rattle.rw_settings.specs.inner.Keys.{row_of}
 use Rattle.rw_settings.proofs.KeyLemmas.{all_known}
 use Rattle.rw_settings.proofs.judging.has_only_keys.Given as goal
 

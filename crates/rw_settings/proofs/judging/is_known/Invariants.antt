@@ -1,7 +1,7 @@
 use Rattle.std.proofs.Common.{◌≡◌, map, drop}
 use Rattle.std.specs.List.{list_any}
 use Rattle.std.specs.Str.{bytes_eq}
-use Rattle.rw_settings.specs.Keys.{row_of}
+use Rattle.rw_settings.specs.inner.Keys.{row_of}
 use Rattle.rw_settings.proofs.judging.is_known.Given as goal
 
 abbrev pub invariant-loop-name : goal.invariant-loop-name

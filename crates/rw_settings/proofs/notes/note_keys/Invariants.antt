@@ -2,7 +2,8 @@ use Rattle.std.proofs.Common.{◌≡◌, map, cond, Some, None}
 use Rattle.toml.specs.View.{table_view}
 use Rattle.rw_settings.specs.Faults.{lesser}
 use Rattle.rw_settings.specs.Notes.{noted}
-use Rattle.rw_settings.specs.Keys.{row_of, keys_fault}
+use Rattle.rw_settings.specs.Keys.{keys_fault}
+use Rattle.rw_settings.specs.inner.Keys.{row_of}
 use Rattle.rw_settings.specs.declared.fault.SettingsFault.TheVariants.{UnknownKey}
 use Rattle.rw_settings.proofs.KeyLemmas.{all_known}
 use Rattle.rw_settings.proofs.notes.note_keys.Given as goal

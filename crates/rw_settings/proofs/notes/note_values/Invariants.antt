@@ -1,11 +1,12 @@
 use Rattle.std.proofs.Common.{◌≡◌, drop, fold, map}
 use Rattle.toml.specs.View.{table_view}
 use Rattle.rw_settings.specs.Faults.{lesser}
-use Rattle.rw_settings.specs.Keys.{row_of, fault_at}
+use Rattle.rw_settings.specs.Keys.{key_fault}
+use Rattle.rw_settings.specs.inner.Keys.{row_of}
 use Rattle.rw_settings.specs.Notes.{noted}
 use Rattle.rw_settings.proofs.notes.note_values.Given as goal
 
 abbrev pub invariant-loop-key : goal.invariant-loop-key
 invariant-loop-key l =
-    fold lesser (noted l.notes.items) (map (fault_at (table_view l.table)) (map row_of (drop l.key-index l.keys)))
-    ≡ fold lesser (noted l.initial.notes.items) (map (fault_at (table_view l.table)) (map row_of l.keys))
+    fold lesser (noted l.notes.items) (map (key_fault (table_view l.table)) (map row_of (drop l.key-index l.keys)))
+    ≡ fold lesser (noted l.initial.notes.items) (map (key_fault (table_view l.table)) (map row_of l.keys))

@@ -1,6 +1,6 @@
 use Rattle.std.proofs.Common.{arith}
 use Rattle.std.proofs.lemmas.List.{length-map, get_or_default}
-use Rattle.rw_settings.specs.Keys.{row_of}
+use Rattle.rw_settings.specs.inner.Keys.{row_of}
 use Rattle.rw_settings.proofs.LineLemmas.{line_pushed, all_pushed}
 use Rattle.rw_settings.proofs.printed_values.push_lines.Goals as goal
 

@@ -1,4 +1,4 @@
-use Rattle.rw_types.proofs.TextLemmas.{passes, fails}
+use Rattle.rw_types.proofs.shared.TextLemmas.{passes, fails}
 use Rattle.rw_settings.proofs.read.text_in.Goals as goal
 
 pub returns-in-Ok-clause-utf8 : goal.returns-in-Ok-clause-utf8

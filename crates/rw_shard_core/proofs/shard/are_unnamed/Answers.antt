@@ -1,6 +1,6 @@
 use Rattle.std.proofs.Common.{sym, ◌∙◌}
 use Rattle.std.proofs.lemmas.Bool.{false≢true}
-use Rattle.rw_shard_core.proofs.NamingLemmas.{one_named, one_more}
+use Rattle.rw_shard_core.proofs.shared.NamingLemmas.{one_named, one_more}
 use Rattle.rw_shard_core.proofs.shard.are_unnamed.Goals as goal
 
 pub returns-in-Some : goal.returns-in-Some

@@ -1,5 +1,5 @@
 use Rattle.std.proofs.Common.{◌∙◌, arith}
-use Rattle.rw_shard_core.proofs.NamingLemmas.{left_is, name_next}
+use Rattle.rw_shard_core.proofs.shared.NamingLemmas.{left_is, name_next}
 use Rattle.rw_shard_core.proofs.shard.name_all.Goals as goal
 
 pub name-requires-clause-unnamed : goal.name-requires-clause-unnamed

@@ -1,4 +1,4 @@
-use Rattle.rw_shard_queue.specs.Spares.{AreEmpty}
+use Rattle.rw_shard_queue.specs.inner.Spares.{AreEmpty}
 use Rattle.rw_shard_queue.proofs.spares.empty_blocks.Given as goal
 
 abbrev pub invariant-loop : goal.invariant-loop

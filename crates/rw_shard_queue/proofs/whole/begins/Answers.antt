@@ -2,7 +2,7 @@ use Rattle.std.proofs.Common.{◌∙◌, sym, ap, ◌++◌, List}
 use Rattle.rw_plain_queue.specs.declared.item.Item.{Item}
 use Rattle.rw_shard_queue.specs.declared.rule.Log.{Log}
 use Rattle.rw_shard_queue.specs.Ends.{Feeding, Draining}
-use Rattle.rw_shard_queue.specs.Rule.{joined}
+use Rattle.rw_shard_queue.specs.inner.Rule.{joined}
 use Rattle.rw_shard_queue.proofs.Moves.{closes, compares, met, parts, split-on, split-handed}
 use Rattle.rw_shard_queue.proofs.whole.begins.Goals as goal
 

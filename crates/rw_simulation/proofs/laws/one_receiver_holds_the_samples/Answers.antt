@@ -1,4 +1,4 @@
-use Rattle.rw_simulation.proofs.ReceivedRuns.{receives-abandoned, receives-in-order}
+use Rattle.rw_simulation.proofs.shared.ReceivedRuns.{receives-abandoned, receives-in-order}
 use Rattle.rw_simulation.proofs.laws.one_receiver_holds_the_samples.Goals as goal
 
 pub returns-clause-orderly : goal.returns-clause-orderly

@@ -1,4 +1,4 @@
-use Rattle.rw_state_text.proofs.StateLemmas.{store_begins}
+use Rattle.rw_state_text.proofs.shared.StateLemmas.{store_begins}
 use Rattle.rw_state_text.proofs.state.push_store.Goals as goal
 
 pub loop-series-init : goal.loop-series-init

@@ -1,6 +1,6 @@
 use Rattle.std.proofs.Common.{length}
 use Rattle.rw_state_text.specs.StateText.{received_text, store_text}
-use Rattle.rw_state_text.proofs.StateLemmas.{Written}
+use Rattle.rw_state_text.proofs.shared.StateLemmas.{Written}
 use Rattle.rw_state_text.proofs.state.push_store.Given as goal
 
 abbrev pub invariant-loop-series : goal.invariant-loop-series

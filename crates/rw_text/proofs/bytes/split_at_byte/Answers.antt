@@ -1,7 +1,7 @@
 use Rattle.std.proofs.Common.{◌≡◌, ◌==◌, false, ne_eqb}
 use Rattle.std.proofs.lemmas.List.{take_all}
 use Rattle.std.proofs.lemmas.List.Elements.{All-more}
-use Rattle.rw_text.proofs.SplitLemmas.{not_without}
+use Rattle.rw_text.proofs.shared.SplitLemmas.{not_without}
 use Rattle.rw_text.proofs.bytes.split_at_byte.Goals as goal
 
 pub loop-i-preserved : goal.loop-i-preserved

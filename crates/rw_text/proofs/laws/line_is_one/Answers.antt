@@ -1,4 +1,4 @@
-use Rattle.rw_text.proofs.OneLemmas.{line_one}
+use Rattle.rw_text.proofs.shared.OneLemmas.{line_one}
 use Rattle.rw_text.proofs.laws.line_is_one.Goals as goal
 
 pub returns : goal.returns

@@ -1,4 +1,4 @@
-use Rattle.rw_text.proofs.OneLemmas.{number_one, integer_one}
+use Rattle.rw_text.proofs.shared.OneLemmas.{number_one, integer_one}
 use Rattle.rw_text.proofs.laws.number_is_one.Goals as goal
 
 pub returns-clause-number : goal.returns-clause-number

@@ -1,4 +1,4 @@
-use Rattle.rw_text.proofs.RecordLemmas.{record_one}
+use Rattle.rw_text.proofs.shared.RecordLemmas.{record_one}
 use Rattle.rw_text.proofs.laws.record_is_one.Goals as goal
 
 pub returns : goal.returns

@@ -1,4 +1,4 @@
-use Rattle.rw_text.proofs.OneLemmas.{value_printed}
+use Rattle.rw_text.proofs.shared.OneLemmas.{value_printed}
 use Rattle.rw_text.proofs.laws.value_is_read.Goals as goal
 
 pub returns : goal.returns

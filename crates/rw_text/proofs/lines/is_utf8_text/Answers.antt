@@ -1,5 +1,5 @@
 use Rattle.std.proofs.Common.{◌∙◌}
-use Rattle.rw_types.proofs.TextLemmas.{decided}
+use Rattle.rw_types.proofs.shared.TextLemmas.{decided}
 use Rattle.rw_text.proofs.lines.is_utf8_text.Goals as goal
 
 pub returns : goal.returns

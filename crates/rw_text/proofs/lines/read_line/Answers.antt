@@ -1,4 +1,4 @@
-use Rattle.rw_text.proofs.LineLemmas.{not_sample, not_series}
+use Rattle.rw_text.proofs.shared.LineLemmas.{not_sample, not_series}
 use Rattle.rw_text.proofs.lines.read_line.Goals as goal
 
 pub returns-in-None-clause-err : goal.returns-in-None-clause-err

@@ -1,4 +1,4 @@
-use Rattle.rw_text.proofs.LineLemmas.{no_sample_time, no_sample_number, no_sample_integer, no_sample_value}
+use Rattle.rw_text.proofs.shared.LineLemmas.{no_sample_time, no_sample_number, no_sample_integer, no_sample_value}
 use Rattle.rw_text.proofs.lines.read_sample.Goals as goal
 
 pub returns-in_default-split_at_byte : goal.returns-in_default-split_at_byte

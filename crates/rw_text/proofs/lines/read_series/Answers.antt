@@ -1,5 +1,5 @@
 use Rattle.std.proofs.Common.{rules}
-use Rattle.rw_text.proofs.LineLemmas.{no_series_number, no_series_labels}
+use Rattle.rw_text.proofs.shared.LineLemmas.{no_series_number, no_series_labels}
 use Rattle.rw_text.proofs.lines.read_series.Goals as goal
 
 pub returns-in_default-read_number-clause-err : goal.returns-in_default-read_number-clause-err

@@ -1,6 +1,6 @@
 use Rattle.std.proofs.Common.{◌∙◌, ap}
 use Rattle.rw_text.specs.RecordLines.{lines}
-use Rattle.rw_text.proofs.RecordLemmas.{lines-at, lines_of_one, nothing_left}
+use Rattle.rw_text.proofs.shared.RecordLemmas.{lines-at, lines_of_one, nothing_left}
 use Rattle.rw_text.proofs.records.first_line.Goals as goal
 
 pub returns-in-Some-clause-parts : goal.returns-in-Some-clause-parts

@@ -1,6 +1,6 @@
 use Rattle.std.proofs.Common.{arith, ◌<◌, ◌*◌, length}
 use Rattle.rw_text.specs.LineText.{line_of}
-use Rattle.rw_text.proofs.RecordLemmas.{too_long}
+use Rattle.rw_text.proofs.shared.RecordLemmas.{too_long}
 use Rattle.rw_text.proofs.records.read_record.Goals as goal
 
 pub returns-then-len-gt-MAX_RECORD_BYTES-clause-err : goal.returns-then-len-gt-MAX_RECORD_BYTES-clause-err

@@ -1,5 +1,5 @@
 use Rattle.std.proofs.Common.{ap, length, arith}
-use Rattle.rw_types.proofs.JudgeLemmas.{too_long}
+use Rattle.rw_types.proofs.shared.JudgeLemmas.{too_long}
 use Rattle.rw_types.proofs.judge.are_longer_than.Goals as goal
 
 pub returns-then-len-left : goal.returns-then-len-left

@@ -1,5 +1,5 @@
 use Rattle.std.proofs.Common.{◌-◌, sym, ◌∙◌, arith}
-use Rattle.rw_types.proofs.JudgeLemmas.{unsorted, sorted_on, sorted_end}
+use Rattle.rw_types.proofs.shared.JudgeLemmas.{unsorted, sorted_on, sorted_end}
 use Rattle.rw_types.proofs.judge.are_sorted.Goals as goal
 
 pub returns-then-not-rise : goal.returns-then-not-rise

@@ -1,5 +1,5 @@
 use Rattle.std.proofs.Common.{rules, sym}
-use Rattle.rw_types.proofs.JudgeLemmas.{pairs_fault-is}
+use Rattle.rw_types.proofs.shared.JudgeLemmas.{pairs_fault-is}
 use Rattle.rw_types.proofs.judge.fault_of.Goals as goal
 
 pub returns-then-not-are_texts : goal.returns-then-not-are_texts

@@ -1,7 +1,7 @@
 use Rattle.std.proofs.Common.{◌≤◌, ◌^◌, length, map, arith}
 use Rattle.rw_types.specs.Labels.{text_label}
 use Rattle.rw_types.specs.LabelFields.{label_field, label_fields}
-use Rattle.rw_types.proofs.FittingLemmas.{none_is, viewed_fits}
+use Rattle.rw_types.proofs.shared.FittingLemmas.{none_is, viewed_fits}
 use Rattle.rw_types.proofs.label_fields.label_fields_len.Goals as goal
 
 pub returns-in_err-field-clause-none : goal.returns-in_err-field-clause-none

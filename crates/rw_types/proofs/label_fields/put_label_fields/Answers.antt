@@ -1,7 +1,7 @@
 use Rattle.std.proofs.Common.{refl}
 use Rattle.rw_types.specs.Labels.{text_label}
 use Rattle.rw_types.specs.LabelFields.{label_field}
-use Rattle.rw_types.proofs.FittingLemmas.{viewed_fits, has_room, len_of}
+use Rattle.rw_types.proofs.shared.FittingLemmas.{viewed_fits, has_room, len_of}
 use Rattle.rw_types.proofs.label_fields.put_label_fields.Goals as goal
 
 pub put_label_field-requires : goal.put_label_field-requires

@@ -1,4 +1,4 @@
-use Rattle.rw_types.proofs.OrderLemmas.{equal_if_same, same_if_equal}
+use Rattle.rw_types.proofs.shared.OrderLemmas.{equal_if_same, same_if_equal}
 use Rattle.rw_types.proofs.label_set.equal_where_same.Goals as goal
 
 pub returns : goal.returns

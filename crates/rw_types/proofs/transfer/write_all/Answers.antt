@@ -1,7 +1,7 @@
 use Rattle.std.proofs.Common.{◌≡◌, ℕ, ◌-◌, ◌≤◌, List, length, take, drop, arith, length-drop}
 use Rattle.std.proofs.Math.Seq.{take-add}
 use Rattle.std.proofs.lemmas.Grind.{common_steps}
-use Rattle.rw_types.proofs.KnownLemmas.{appends_appends}
+use Rattle.std.proofs.KnownBytes.{Appends-trans}
 use Rattle.rw_types.proofs.transfer.write_all.Goals as goal
 
 -- the rest of a list, taken whole
@@ -14,7 +14,7 @@ loop-at-preserved g c =
     let at = c.loop-at.at in
     let n = c.in_ok-at.field-0 in
     let bound : n ≤ length (take (length bytes - at) (drop at bytes)) = c.in_ok-at.ensures.bound in
-    let more = appends_appends _ _ _ _ _ c.loop-at.invariant.written c.in_ok-at.ensures.bytes in
+    let more = Appends-trans _ _ _ _ _ c.loop-at.invariant.written c.in_ok-at.ensures.bytes in
     let failed = c.in_ok-at.ensures.failed in
     record {
       within = omega (arith, bound, rw (rest, length-drop) at bound);

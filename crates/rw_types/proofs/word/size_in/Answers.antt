@@ -1,6 +1,6 @@
 use Rattle.std.proofs.Common.{◌≤◌, ◌%◌, ◌/◌, ◌-◌, ◌^◌, arith, inl, inr}
 use Rattle.std.proofs.lemmas.Nat.{shr_le}
-use Rattle.rw_types.proofs.WordReads.{small_none, size_is, size_bound}
+use Rattle.rw_types.proofs.shared.WordReads.{small_none, size_is, size_bound}
 use Rattle.rw_types.proofs.word.size_in.Goals as goal
 use Rattle.rw_types.proofs.word.size_in.Goals.{then-top-lt53, else-top-lt53, then-exponent-lt1023-via-then-exponent-lt1023, then-exponent-lt1023-via-else-exponent-lt1023+then-exponent-gt1076}
 

@@ -1,4 +1,4 @@
-use Rattle.rw_wal_append.proofs.HoldLemmas.{before_last, next_begins}
+use Rattle.rw_wal_append.proofs.shared.HoldLemmas.{before_last, next_begins}
 use Rattle.rw_wal_append.proofs.laws.a_next_segment_may_begin.Goals as goal
 
 pub returns-clause-whole : goal.returns-clause-whole

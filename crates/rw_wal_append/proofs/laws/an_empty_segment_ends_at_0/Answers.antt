@@ -1,4 +1,4 @@
-use Rattle.rw_wal_append.proofs.HoldLemmas.{ends_at_0}
+use Rattle.rw_wal_append.proofs.shared.HoldLemmas.{ends_at_0}
 use Rattle.rw_wal_append.proofs.laws.an_empty_segment_ends_at_0.Goals as goal
 
 pub returns : goal.returns

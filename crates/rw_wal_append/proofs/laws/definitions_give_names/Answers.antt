@@ -1,4 +1,4 @@
-use Rattle.rw_wal_append.proofs.AdditionLemmas.{no_sample, named_there}
+use Rattle.rw_wal_append.proofs.shared.AdditionLemmas.{no_sample, named_there}
 use Rattle.rw_wal_append.proofs.laws.definitions_give_names.Goals as goal
 
 pub returns-clause-none : goal.returns-clause-none

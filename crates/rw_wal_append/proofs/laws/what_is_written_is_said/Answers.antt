@@ -1,4 +1,4 @@
-use Rattle.rw_wal_append.proofs.AdditionLemmas.{written_said}
+use Rattle.rw_wal_append.proofs.shared.AdditionLemmas.{written_said}
 use Rattle.rw_wal_append.proofs.laws.what_is_written_is_said.Goals as goal
 
 pub returns : goal.returns

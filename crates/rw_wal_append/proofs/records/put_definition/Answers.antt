@@ -1,6 +1,6 @@
 use Rattle.std.proofs.Common.{[], ◌∷◌, ap, ◌∙◌, rules}
 use Rattle.rw_wal_format.specs.Records.{record_entries}
-use Rattle.rw_wal_format.proofs.RecordLaws.{series_again}
+use Rattle.rw_wal_format.proofs.shared.RecordLaws.{series_again}
 use Rattle.rw_wal_append.specs.Additions.{definition_entry}
 use Rattle.rw_wal_append.proofs.records.put_definition.Goals as goal
 

@@ -1,5 +1,5 @@
 use Rattle.rw_wal_append.specs.Additions.{definition_entry}
-use Rattle.rw_wal_append.proofs.HoldLemmas.{holds_none, holds_next, holds_all}
+use Rattle.rw_wal_append.proofs.shared.HoldLemmas.{holds_none, holds_next, holds_all}
 use Rattle.rw_wal_append.proofs.records.put_definitions.Goals as goal
 
 pub loop-definition-init : goal.loop-definition-init

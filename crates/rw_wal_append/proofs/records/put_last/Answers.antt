@@ -1,5 +1,5 @@
 use Rattle.std.proofs.Common.{rules, length, ◌≤◌}
-use Rattle.rw_wal_append.proofs.HoldLemmas.{holds_empty}
+use Rattle.rw_wal_append.proofs.shared.HoldLemmas.{holds_empty}
 use Rattle.rw_wal_append.proofs.records.put_last.Goals as goal
 
 pub returns-then-is_empty : goal.returns-then-is_empty

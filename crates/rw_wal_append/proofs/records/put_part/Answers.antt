@@ -1,7 +1,7 @@
 use Rattle.std.proofs.Common.{map, ap, ◌∙◌}
 use Rattle.rw_wal_format.specs.Laws.{sample_entry}
 use Rattle.rw_wal_format.specs.Records.{record_entries}
-use Rattle.rw_wal_format.proofs.RecordLaws.{sample_record_again}
+use Rattle.rw_wal_format.proofs.shared.RecordLaws.{sample_record_again}
 use Rattle.rw_wal_append.proofs.records.put_part.Goals as goal
 
 pub returns : goal.returns

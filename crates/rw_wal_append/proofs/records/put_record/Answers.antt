@@ -1,5 +1,5 @@
 use Rattle.std.proofs.Common.{ap}
-use Rattle.rw_wal_append.proofs.HoldLemmas.{holds_one}
+use Rattle.rw_wal_append.proofs.shared.HoldLemmas.{holds_one}
 use Rattle.rw_wal_append.proofs.records.put_record.Goals as goal
 
 pub returns-in-Ok : goal.returns-in-Ok

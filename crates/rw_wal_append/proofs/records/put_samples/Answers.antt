@@ -1,4 +1,4 @@
-use Rattle.rw_wal_append.proofs.HoldLemmas.{put_none, put_next, put_rest}
+use Rattle.rw_wal_append.proofs.shared.HoldLemmas.{put_none, put_next, put_rest}
 use Rattle.rw_wal_append.proofs.records.put_samples.Goals as goal
 
 pub loop-rest-init : goal.loop-rest-init

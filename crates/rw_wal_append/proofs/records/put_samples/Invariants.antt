@@ -1,5 +1,5 @@
 use Rattle.std.proofs.Common.{length}
-use Rattle.rw_wal_append.proofs.HoldLemmas.{HasPut}
+use Rattle.rw_wal_append.proofs.shared.HoldLemmas.{HasPut}
 use Rattle.rw_wal_append.proofs.records.put_samples.Given as goal
 
 abbrev pub invariant-loop-rest : goal.invariant-loop-rest

@@ -1,4 +1,4 @@
-use Rattle.rw_wal_append.proofs.HoldLemmas.{texts_next, texts_all}
+use Rattle.rw_wal_append.proofs.shared.HoldLemmas.{texts_next, texts_all}
 use Rattle.rw_wal_append.proofs.records.read_labels.Goals as goal
 
 pub loop-label-preserved : goal.loop-label-preserved

@@ -1,5 +1,5 @@
 use Rattle.std.proofs.Common.{rules}
-use Rattle.rw_wal_append.proofs.HoldLemmas.{samples_next, samples_all}
+use Rattle.rw_wal_append.proofs.shared.HoldLemmas.{samples_next, samples_all}
 use Rattle.rw_wal_append.proofs.records.read_samples.Goals as goal
 
 pub loop-sample-preserved : goal.loop-sample-preserved

@@ -1,5 +1,5 @@
 use Rattle.std.proofs.Common.{◌≡◌, ◌++◌, take}
-use Rattle.rw_wal_append.specs.References.{with_reference}
+use Rattle.rw_wal_append.specs.inner.References.{with_reference}
 use Rattle.rw_wal_append.proofs.references.put_points.Given as goal
 
 abbrev pub invariant-loop-point : goal.invariant-loop-point

@@ -1,4 +1,4 @@
-use Rattle.rw_wal_format.proofs.Growing.{reading-cut, reading-empty}
+use Rattle.rw_wal_format.proofs.shared.Growing.{reading-cut, reading-empty}
 use Rattle.rw_wal_format.proofs.laws.cuts_do_not_matter.Goals as goal
 
 pub returns-clause-cut : goal.returns-clause-cut

@@ -1,4 +1,4 @@
-use Rattle.rw_wal_format.proofs.Written.{entries_read}
+use Rattle.rw_wal_format.proofs.shared.Written.{entries_read}
 use Rattle.rw_wal_format.proofs.laws.entries_are_read.Goals as goal
 
 pub returns : goal.returns

@@ -1,4 +1,4 @@
-use Rattle.rw_wal_format.proofs.SeriesRows.{labels_of-append}
+use Rattle.rw_wal_format.proofs.shared.SeriesRows.{labels_of-append}
 use Rattle.rw_wal_format.proofs.laws.labels_stay.Goals as goal
 
 pub returns : goal.returns

@@ -1,4 +1,4 @@
-use Rattle.rw_wal_format.proofs.RecordLaws.{sample_record_again}
+use Rattle.rw_wal_format.proofs.shared.RecordLaws.{sample_record_again}
 use Rattle.rw_wal_format.proofs.laws.sample_record_is_read.Goals as goal
 
 pub returns : goal.returns

@@ -1,7 +1,7 @@
 use Rattle.std.proofs.Common.{◌≡◌, ◌<◌, ◌∙◌, length, is_some, ap, sym}
 use Rattle.std.specs.Int.{cast_signed, w64}
 use Rattle.rw_wal_format.specs.Records.{sample_at}
-use Rattle.rw_wal_format.proofs.RecordLaws.{some_samples}
+use Rattle.rw_wal_format.proofs.shared.RecordLaws.{some_samples}
 use Rattle.rw_wal_tail.proofs.ItemLaws.{not_empty, is_empty}
 use Rattle.rw_wal_tail.proofs.FormLaws.{pass_none, pass_entry, pass_all, pass_fails}
 use Rattle.rw_wal_tail.proofs.form.are_samples.Goals as goal

@@ -1,6 +1,6 @@
 use Rattle.std.proofs.Common.{◌≡◌, ◌<◌, ◌+◌, ◌∙◌, map, length, sym, ap, arith}
 use Rattle.std.proofs.lemmas.List.{length-map, get_or-map}
-use Rattle.rw_wal_tail.specs.Held.{waits_as}
+use Rattle.rw_wal_tail.specs.inner.Held.{waits_as}
 use Rattle.rw_wal_tail.proofs.HeldLaws.{added_more}
 use Rattle.rw_wal_tail.proofs.input.add_bytes.Goals as goal
 

@@ -1,5 +1,5 @@
 use Rattle.std.proofs.Common.{◌≡◌, ◌+◌, map, take}
-use Rattle.rw_wal_tail.specs.Held.{waits_as, later_bytes}
+use Rattle.rw_wal_tail.specs.inner.Held.{waits_as, later_bytes}
 use Rattle.rw_wal_tail.proofs.input.add_bytes.Given as goal
 
 abbrev pub invariant-loop-i : goal.invariant-loop-i

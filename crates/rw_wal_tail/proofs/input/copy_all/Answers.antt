@@ -1,6 +1,6 @@
 use Rattle.std.proofs.Common.{◌≡◌, ◌<◌, ◌∙◌, ◌∷◌, [], List, ℕ, map, length, sym, ap, arith}
 use Rattle.std.proofs.lemmas.List.{map-append, length-map, get_or-map}
-use Rattle.rw_wal_tail.specs.Held.{waits_as}
+use Rattle.rw_wal_tail.specs.inner.Held.{waits_as}
 use Rattle.rw_wal_tail.proofs.CopyLaws.{copied_more}
 use Rattle.rw_wal_tail.proofs.input.copy_all.Goals as goal
 

@@ -1,6 +1,6 @@
 use Rattle.std.proofs.Common.{◌≡◌, ◌-◌, List, ℕ, length, ap, arith}
 use Rattle.std.proofs.lemmas.Result.{on_ok_weaker, on_err_weaker}
-use Rattle.rw_wal_tail.specs.Held.{waits_as}
+use Rattle.rw_wal_tail.specs.inner.Held.{waits_as}
 use Rattle.rw_wal_tail.proofs.HeldLaws.{extended_ok, extended_err, last_extended, last_same}
 use Rattle.rw_wal_tail.proofs.input.extend_last_segment.Goals as goal
 

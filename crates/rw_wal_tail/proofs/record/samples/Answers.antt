@@ -3,7 +3,7 @@ use Rattle.std.specs.Int.{cast_signed, w64}
 use Rattle.rw_wal_format.specs.Records.{sample_at}
 use Rattle.rw_wal_tail.proofs.ItemLaws.{not_empty, is_empty, left_start, left_step, left_done, left_fails}
 use Rattle.rw_wal_tail.proofs.record.samples.Goals as goal
-use Rattle.rw_wal_format.proofs.RecordLaws.{some_samples}
+use Rattle.rw_wal_format.proofs.shared.RecordLaws.{some_samples}
 
 pub loop-rest-init : goal.loop-rest-init
 loop-rest-init c = left_start (sample_at c.args.base (cast_signed w64 c.args.start)) c.args.bytes.now c.args.out.now.items c.requires

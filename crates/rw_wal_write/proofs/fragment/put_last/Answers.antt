@@ -3,7 +3,7 @@ use Rattle.rw_wal_format.specs.Writing.{frame, padding}
 use Rattle.rw_wal_format.specs.Types.{kind_of}
 use Rattle.rw_wal_write.proofs.Taking.{takes_part_after, takes_failure}
 use Rattle.rw_wal_write.proofs.fragment.put_last.Goals as goal
-use Rattle.rw_wal_format.proofs.Written.{length-frame}
+use Rattle.rw_wal_format.proofs.shared.Written.{length-frame}
 
 pub returns-in_err-zeros-clause-bytes : goal.returns-in_err-zeros-clause-bytes
 returns-in_err-zeros-clause-bytes g c =

@@ -1,6 +1,6 @@
 use Rattle.std.proofs.Common.{◌≡◌, ◌+◌, ◌-◌, ◌^◌, min, length, refl, ap, arith, rules}
 use Rattle.rw_worker.specs.Report.{intake_drain}
-use Rattle.rw_shard_core.proofs.StepGuards.{cannot_take}
+use Rattle.rw_shard_core.proofs.shared.StepGuards.{cannot_take}
 use Rattle.rw_worker.proofs.StateLemmas.{adds-none, adds-due, state-can_send, state-room, pending-few, steps-settled, steps-again, steps-waited, state-settled, state-again, state-waited}
 use Rattle.rw_worker.proofs.step.send.Goals as goal
 

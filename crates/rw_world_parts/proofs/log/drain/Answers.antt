@@ -1,6 +1,6 @@
 use Rattle.std.proofs.Common.{◌≡◌, ◌∙◌, Ok, Err, Some, None, take, length, sym, ap, subst}
 use Rattle.rw_wal_tail.specs.Taking.{HasTaken}
-use Rattle.rw_world_parts.proofs.ReadingLemmas.{took_as, front_more}
+use Rattle.rw_world_parts.proofs.shared.ReadingLemmas.{took_as, front_more}
 use Rattle.rw_world_parts.proofs.log.drain.Goals as goal
 
 pub returns-in-Ok-None-clause-ok : goal.returns-in-Ok-None-clause-ok

@@ -2,7 +2,7 @@ use Rattle.std.proofs.Common.{◌≡◌, ◌∙◌, true, ap, sym, subst}
 use Rattle.rw_types.specs.Requests.{is_host_name, is_request_path}
 use Rattle.rw_shard_core.specs.Shard.{body_of}
 use Rattle.rw_roundtrip.specs.Exchanges.{IsRequest}
-use Rattle.rw_world_parts.proofs.AnswerLemmas.{asked, body_small}
+use Rattle.rw_world_parts.proofs.shared.AnswerLemmas.{asked, body_small}
 use Rattle.rw_world_parts.proofs.receiver.ask.Goals as goal
 
 pub exchange-requires : goal.exchange-requires

@@ -1,5 +1,5 @@
 use Rattle.std.proofs.Common.{◌≡◌, ◌++◌, take}
-use Rattle.rw_world_parts.specs.Sending.{all_pending}
+use Rattle.rw_world_parts.specs.inner.Sending.{all_pending}
 use Rattle.rw_world_parts.proofs.sending.add_pending.Given as goal
 
 abbrev pub invariant-loop-shard : goal.invariant-loop-shard

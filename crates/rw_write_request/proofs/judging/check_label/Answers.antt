@@ -1,6 +1,6 @@
 use Rattle.std.proofs.Common.{ap, ◌∙◌}
 use Rattle.rw_write_request.specs.Read.{nested, read_label}
-use Rattle.rw_write_request.specs.View.{content_view}
+use Rattle.rw_write_request.specs.inner.View.{content_view}
 use Rattle.rw_write_request.proofs.judging.check_label.Goals as goal
 
 pub returns-in_ok-label_texts-in-Bytes : goal.returns-in_ok-label_texts-in-Bytes

@@ -1,7 +1,7 @@
 use Rattle.std.proofs.Common.{◌<◌, [], length, refl, rules}
 use Rattle.std.proofs.lemmas.Result.{err_from_is_err_and}
 use Rattle.rw_write_request.specs.declared.kind.Kind.TheVariants as kinds
-use Rattle.rw_write_request.specs.View.{field_view}
+use Rattle.rw_write_request.specs.inner.View.{field_view}
 use Rattle.rw_write_request.specs.Read.{series_step, read_series}
 use Rattle.rw_write_request.proofs.Loop.{goes_on, bad_field, bad_step, done, field-shorter}
 use Rattle.rw_write_request.proofs.judging.check_series.Goals as goal

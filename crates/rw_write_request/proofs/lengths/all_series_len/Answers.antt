@@ -1,8 +1,8 @@
 use Rattle.std.proofs.Common.{◌≤◌, ◌^◌, ℕ, length, ap, arith}
 use Rattle.rw_codes.specs.Varint.{uvarint}
 use Rattle.rw_write_request.specs.Canon.{series_field, canon}
-use Rattle.rw_write_request.proofs.Spelled.{series-field-length}
-use Rattle.rw_types.proofs.FittingLemmas.{none_is, part_fits}
+use Rattle.rw_write_request.proofs.shared.Spelled.{series-field-length}
+use Rattle.rw_types.proofs.shared.FittingLemmas.{none_is, part_fits}
 use Rattle.rw_write_request.proofs.lengths.all_series_len.Goals as goal
 
 pub returns-in_err-inner-clause-none : goal.returns-in_err-inner-clause-none

@@ -1,5 +1,5 @@
 use Rattle.std.proofs.Common.{ap, length, ◌∙◌, arith}
-use Rattle.rw_write_request.proofs.Spelled.{same-sample, sample-field-parts}
+use Rattle.rw_write_request.proofs.shared.Spelled.{same-sample, sample-field-parts}
 use Rattle.rw_write_request.proofs.lengths.sample_field_len.Goals as goal
 
 pub returns-clause-exact : goal.returns-clause-exact

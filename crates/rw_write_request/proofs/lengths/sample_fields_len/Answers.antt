@@ -2,8 +2,8 @@ use Rattle.std.proofs.Common.{◌≡◌, ◌≤◌, ◌^◌, length, ap, ◌∙�
 use Rattle.std.specs.Prelude.{FitsSigned}
 use Rattle.std.specs.Int.{w64}
 use Rattle.rw_write_request.specs.Canon.{sample_field, sample_fields}
-use Rattle.rw_types.proofs.FittingLemmas.{none_is, part_fits}
-use Rattle.rw_write_request.proofs.Spelled.{same-sample-field}
+use Rattle.rw_types.proofs.shared.FittingLemmas.{none_is, part_fits}
+use Rattle.rw_write_request.proofs.shared.Spelled.{same-sample-field}
 use Rattle.rw_write_request.proofs.lengths.sample_fields_len.Goals as goal
 
 pub returns-in_err-total-clause-none : goal.returns-in_err-total-clause-none

@@ -1,6 +1,6 @@
 use Rattle.std.proofs.Common.{◌<◌, length, arith}
 use Rattle.rw_write_request.specs.declared.kind.Kind.TheVariants as kinds
-use Rattle.rw_write_request.specs.View.{field_view}
+use Rattle.rw_write_request.specs.inner.View.{field_view}
 use Rattle.rw_write_request.proofs.Loop.{field-shorter}
 use Rattle.rw_write_request.proofs.parts.head_of.Goals as goal
 

@@ -2,7 +2,7 @@ use Rattle.std.proofs.Common.{◌≡◌, ◌≢◌, Err, refl, ap, arith, rules}
 use Rattle.std.proofs.lemmas.Result.{err_from_is_err_and}
 use Rattle.rw_write_request.specs.declared.fault.WireFault.TheVariants.{WrongWire}
 use Rattle.rw_write_request.specs.declared.kind.Kind.TheVariants as kinds
-use Rattle.rw_write_request.specs.View.{content_view, field_view}
+use Rattle.rw_write_request.specs.inner.View.{content_view, field_view}
 use Rattle.rw_write_request.specs.Parts.{read_on}
 use Rattle.rw_write_request.specs.Read.{nested, read_series, request_step}
 use Rattle.rw_write_request.proofs.Loop.{bad_field, field-shorter}

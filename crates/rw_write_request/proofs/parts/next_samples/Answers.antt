@@ -4,7 +4,7 @@ use Rattle.std.proofs.lemmas.Result.{err_from_is_err_and}
 use Rattle.rw_write_request.specs.declared.kind.Kind.TheVariants as kinds
 use Rattle.rw_write_request.specs.Message.{Sample, TimeSeries}
 use Rattle.rw_write_request.specs.Parts.{series_on}
-use Rattle.rw_write_request.specs.View.{field_view}
+use Rattle.rw_write_request.specs.inner.View.{field_view}
 use Rattle.rw_write_request.specs.Read.{series_step}
 use Rattle.rw_write_request.proofs.Loop.{bad_field, bad_step, field-shorter}
 use Rattle.rw_write_request.proofs.ReadOn.{goes_further, not_both}

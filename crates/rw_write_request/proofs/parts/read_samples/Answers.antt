@@ -3,7 +3,7 @@ use Rattle.std.proofs.lemmas.Result.{err_from_is_err_and}
 use Rattle.rw_write_request.specs.declared.kind.Kind.TheVariants as kinds
 use Rattle.rw_write_request.specs.Message.{TimeSeries}
 use Rattle.rw_write_request.specs.Parts.{series_on}
-use Rattle.rw_write_request.specs.View.{field_view}
+use Rattle.rw_write_request.specs.inner.View.{field_view}
 use Rattle.rw_write_request.specs.Read.{series_step, read_series}
 use Rattle.rw_write_request.proofs.Loop.{goes_on, bad_field, bad_step, done, field-shorter}
 use Rattle.rw_write_request.proofs.ReadOn.{behind_head, one_label_more, no_more_samples}

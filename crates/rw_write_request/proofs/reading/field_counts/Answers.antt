@@ -1,5 +1,5 @@
 use Rattle.std.proofs.Common.{◌≢◌, ◌<◌, length, arith}
-use Rattle.rw_write_request.specs.View.{field_view}
+use Rattle.rw_write_request.specs.inner.View.{field_view}
 use Rattle.rw_write_request.proofs.Loop.{field-shorter}
 use Rattle.rw_write_request.proofs.Counts.{Left-start, Left-one, Left-two, Left-other, Left-end}
 use Rattle.rw_write_request.proofs.reading.field_counts.Goals as goal

@@ -1,7 +1,7 @@
 use Rattle.std.proofs.Common.{◌<◌, length, rules}
 use Rattle.std.proofs.lemmas.Result.{err_from_is_err_and}
 use Rattle.rw_write_request.specs.declared.kind.Kind.TheVariants as kinds
-use Rattle.rw_write_request.specs.View.{field_view}
+use Rattle.rw_write_request.specs.inner.View.{field_view}
 use Rattle.rw_write_request.specs.Read.{label_step, read_label}
 use Rattle.rw_write_request.proofs.Loop.{goes_on, bad_field, bad_step, done, field-shorter}
 use Rattle.rw_write_request.proofs.reading.label_texts.Goals as goal

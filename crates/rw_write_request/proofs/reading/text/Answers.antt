@@ -1,5 +1,5 @@
 use Rattle.std.proofs.Common.{ap, ◌∙◌}
-use Rattle.rw_write_request.specs.View.{content_view}
+use Rattle.rw_write_request.specs.inner.View.{content_view}
 use Rattle.rw_write_request.specs.Read.{text}
 use Rattle.rw_write_request.proofs.TextReads.{text-ok, text-bad}
 use Rattle.rw_write_request.proofs.reading.text.Goals as goal

@@ -3,7 +3,7 @@ use Rattle.std.specs.List.{AllByRecursion}
 use Rattle.rw_write_request.specs.Canon.{canon}
 use Rattle.rw_write_request.specs.Spells.{Spells}
 use Rattle.rw_write_request.specs.Valid.{IsSeries}
-use Rattle.rw_write_request.proofs.Spelled.{canon-spelled}
+use Rattle.rw_write_request.proofs.shared.Spelled.{canon-spelled}
 use Rattle.rw_write_request.proofs.writing.encode.Goals as goal
 
 pub returns-clause-again : goal.returns-clause-again

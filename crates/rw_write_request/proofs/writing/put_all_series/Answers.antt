@@ -1,6 +1,6 @@
 use Rattle.std.proofs.Common.{refl}
 use Rattle.rw_write_request.specs.Canon.{series_field}
-use Rattle.rw_types.proofs.FittingLemmas.{part_fits, has_room, len_of}
+use Rattle.rw_types.proofs.shared.FittingLemmas.{part_fits, has_room, len_of}
 use Rattle.rw_write_request.proofs.writing.put_all_series.Goals as goal
 
 pub put_series_field-requires : goal.put_series_field-requires

@@ -1,4 +1,4 @@
-use Rattle.rw_write_request.proofs.Validity.{all_texts}
+use Rattle.rw_write_request.proofs.shared.Validity.{all_texts}
 use Rattle.rw_write_request.proofs.writing.put_series.Goals as goal
 
 pub returns-clause-valid : goal.returns-clause-valid

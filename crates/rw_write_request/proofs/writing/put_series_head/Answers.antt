@@ -1,4 +1,4 @@
-use Rattle.rw_write_request.proofs.Validity.{set_texts}
+use Rattle.rw_write_request.proofs.shared.Validity.{set_texts}
 use Rattle.rw_write_request.proofs.writing.put_series_head.Goals as goal
 
 pub returns-clause-texts : goal.returns-clause-texts

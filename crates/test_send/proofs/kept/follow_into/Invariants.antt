@@ -1,9 +1,9 @@
 use Rattle.std.proofs.Common.{◌≡◌, ◌<◌, length, true}
-use Rattle.rw_follow.specs.Growth.{IsFollowed, Known}
+use Rattle.rw_follow.specs.Growth.{HasNextSegment, Known}
 use Rattle.test_send.proofs.kept.follow_into.Given as goal
 
 abbrev pub invariant-loop : goal.invariant-loop
 invariant-loop g l = record {
   room : 0 < length l.buf;
-  followed : l.follower ≡ true → Known (g.S.Segments.now l.segments) IsFollowed;
+  followed : l.follower ≡ true → Known (g.S.Segments.now l.segments) HasNextSegment;
 }

@@ -7,7 +7,7 @@ use Rattle.rw_plain_queue.specs.declared.item.Item.{Item}
 use Rattle.rw_plain_queue.specs.declared.item.Item.TheVariants as item
 use Rattle.rw_batch.specs.Batches.{Building, MayBeTaken, IsStretch}
 use Rattle.rw_batch.specs.Grouping.{LabelledSample}
-use Rattle.rw_batch.specs.Kept.{Fielded, Rowed}
+use Rattle.rw_batch.specs.inner.Kept.{Fielded, Rowed}
 use Rattle.rw_batch.proofs.StretchLemmas.{stretch-push}
 use Rattle.rw_batch.proofs.builder.Builder.take.Goals as goal
 

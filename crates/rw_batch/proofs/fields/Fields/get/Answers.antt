@@ -1,7 +1,7 @@
 use Rattle.std.proofs.Common.{◌<◌, ◌+◌, length, ap, ◌∙◌, arith}
 use Rattle.rw_write_request.specs.Message.{Sample}
 use Rattle.std.proofs.Common.{List}
-use Rattle.rw_batch.specs.Kept.{Fielded}
+use Rattle.rw_batch.specs.inner.Kept.{Fielded}
 use Rattle.rw_batch.proofs.FieldLemmas.{get_here, marks_rise, marks_within, field_there, field_here}
 use Rattle.rw_batch.proofs.fields.Fields.get.Goals as goal
 

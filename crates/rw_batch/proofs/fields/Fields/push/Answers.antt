@@ -2,12 +2,12 @@ use Rattle.std.proofs.Common.{◌≡◌, ◌++◌, ◌∷◌, [], ℕ, ℤ, leng
 use Rattle.std.proofs.lemmas.List.{length_push}
 use Rattle.std.proofs.lemmas.Int.{to_z-of_z}
 use Rattle.std.specs.Int.{w64, cast_signed, cast_unsigned}
-use Rattle.rw_types.proofs.AllLemmas.{AllByRecursion-append}
+use Rattle.rw_types.proofs.shared.AllLemmas.{AllByRecursion-append}
 use Rattle.rw_write_request.specs.Canon.{sample_field, sample_fields}
 use Rattle.rw_write_request.specs.Message.{Sample}
-use Rattle.rw_write_request.specs.Valid.{IsSample}
-use Rattle.rw_write_request.proofs.Spelled.{sample-field-length, same-sample-field}
-use Rattle.rw_batch.specs.Kept.{AreFields}
+use Rattle.rw_write_request.specs.Valid.{IsValidSample}
+use Rattle.rw_write_request.proofs.shared.Spelled.{sample-field-length, same-sample-field}
+use Rattle.rw_batch.specs.inner.Kept.{AreFields}
 use Rattle.rw_batch.proofs.FieldLemmas.{fields_short, fields-push, marks_more}
 use Rattle.rw_batch.proofs.fields.Fields.push.Goals as goal
 
@@ -37,5 +37,5 @@ invariant_of-self c =
       marks_are = subst (λ (ms : List ℕ). (k m : ℕ) → slice_get ms k ≡ Some m → m ≡ length (sample_fields (take k (ss ++ s ∷ [])))) (sym c.push_reserved.ensures.items)
           (marks_more ss s c.self.inside.marks.items c.len.result c.self.invariant.marked c.self.invariant.marks_are mark);
       mark_room = omega (arith, c.self.invariant.mark_room, c.push_reserved.ensures.capacity);
-      valid = AllByRecursion-append IsSample ss (s ∷ []) c.self.invariant.valid ((c.put_sample_field.ensures.fits, c.ranges.t), tt);
+      valid = AllByRecursion-append IsValidSample ss (s ∷ []) c.self.invariant.valid ((c.put_sample_field.ensures.fits, c.ranges.t), tt);
     })

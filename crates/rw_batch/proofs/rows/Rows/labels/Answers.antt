@@ -1,7 +1,8 @@
 use Rattle.std.proofs.Common.{◌<◌, length, map, ap, ◌∙◌, arith}
 use Rattle.std.specs.Arc.{arc_value}
-use Rattle.rw_batch.specs.Grouping.{message, series_at}
-use Rattle.rw_batch.specs.Kept.{Rowed}
+use Rattle.rw_batch.specs.Grouping.{message}
+use Rattle.rw_batch.specs.inner.Grouping.{series_at}
+use Rattle.rw_batch.specs.inner.Kept.{Rowed}
 use Rattle.rw_batch.proofs.RowLemmas.{labels_here}
 use Rattle.rw_batch.proofs.rows.Rows.labels.Goals as goal
 

@@ -1,6 +1,6 @@
 use Rattle.std.proofs.Common.{length, ap, arith}
 use Rattle.rw_batch.specs.Grouping.{message}
-use Rattle.rw_batch.specs.Kept.{Rowed}
+use Rattle.rw_batch.specs.inner.Kept.{Rowed}
 use Rattle.rw_batch.proofs.RowLemmas.{as_many}
 use Rattle.rw_batch.proofs.rows.Rows.len.Goals as goal
 

@@ -1,7 +1,7 @@
 use Rattle.std.proofs.Common.{◌≡◌, ◌<◌, List, ℕ, length, reverse, ap, sym, subst, ◌∙◌, arith}
 use Rattle.std.specs.List.{flat_map, AllByRecursion}
 use Rattle.rw_batch.specs.Grouping.{message}
-use Rattle.rw_batch.specs.Kept.{Rowed, IsTrail, samples_alone, field_at}
+use Rattle.rw_batch.specs.inner.Kept.{Rowed, IsTrail, samples_alone, field_at}
 use Rattle.rw_batch.proofs.RowLemmas.{as_many, line_here, trail_of, fields_back, within_back}
 use Rattle.rw_batch.proofs.rows.Rows.numbers.Goals as goal
 

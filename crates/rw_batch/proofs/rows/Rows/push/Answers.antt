@@ -1,6 +1,6 @@
 use Rattle.std.proofs.Common.{◌<◌, length, ap, sym, ◌∙◌, subst, refl, arith}
 use Rattle.rw_batch.specs.Grouping.{LabelledSample}
-use Rattle.rw_batch.specs.Kept.{AreRows}
+use Rattle.rw_batch.specs.inner.Kept.{AreRows}
 use Rattle.rw_batch.proofs.RowLemmas.{short_field, known_below, known_line, rows_open, rows_grow}
 use Rattle.rw_batch.proofs.rows.Rows.push.Goals as goal
 

@@ -1,7 +1,8 @@
 use Rattle.std.proofs.Common.{◌<◌, length, ap, ◌∙◌, arith}
 use Rattle.rw_write_request.specs.Canon.{sample_fields}
-use Rattle.rw_batch.specs.Grouping.{message, series_at}
-use Rattle.rw_batch.specs.Kept.{Rowed}
+use Rattle.rw_batch.specs.Grouping.{message}
+use Rattle.rw_batch.specs.inner.Grouping.{series_at}
+use Rattle.rw_batch.specs.inner.Kept.{Rowed}
 use Rattle.rw_batch.proofs.RowLemmas.{as_many, line_here}
 use Rattle.rw_batch.proofs.rows.Rows.sample_bytes.Goals as goal
 

@@ -1,5 +1,5 @@
 use Rattle.std.proofs.Common.{arith}
-use Rattle.rw_fleet.proofs.LaneLemmas.{set_up_same}
+use Rattle.rw_fleet.proofs.shared.LaneLemmas.{set_up_same}
 use Rattle.rw_fleet.proofs.fleet.ShardSet.mark.Goals as goal
 
 pub invariant_of-self : goal.invariant_of-self

@@ -1,7 +1,8 @@
 use Rattle.std.proofs.Common.{List, length, map, vec_len, sym, ap, ◌∙◌, subst, arith}
 use Rattle.std.specs.Vec.{vec_items}
 use Rattle.rw_fleet.specs.ShardHistories.{AreFresh, AreSetUp}
-use Rattle.rw_fleet.specs.Work.{AreWorked, AreSoft, lane_of}
+use Rattle.rw_fleet.specs.Work.{AreWorked, lane_of}
+use Rattle.rw_fleet.specs.inner.Work.{AreSoft}
 use Rattle.rw_fleet.specs.Fleets.{Shards}
 use Rattle.rw_fleet.specs.declared.joined.StoppedShard.{StoppedShard}
 use Rattle.rw_fleet.proofs.fleet.ShardSet.open.Goals as goal

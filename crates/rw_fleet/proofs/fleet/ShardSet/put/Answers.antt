@@ -1,7 +1,7 @@
 use Rattle.std.proofs.Common.{◌<◌, List, length, set, refl, sym, ap, ◌∙◌, subst}
 use Rattle.rw_fleet.specs.ShardHistories.{ShardHistory, IsPut}
 use Rattle.rw_fleet.specs.Fleets.{Shards}
-use Rattle.rw_fleet.proofs.LaneLemmas.{set_up_set, put_at, put_back}
+use Rattle.rw_fleet.proofs.shared.LaneLemmas.{set_up_set, put_at, put_back}
 use Rattle.rw_fleet.proofs.fleet.ShardSet.put.Goals as goal
 
 pub invariant_of-self : goal.invariant_of-self

@@ -1,7 +1,7 @@
 use Rattle.std.proofs.Common.{◌≡◌, ℕ, rules, refl, sym, ap, ◌∙◌, subst}
 use Rattle.rw_shard_queue.specs.Ends.{QueueId}
-use Rattle.rw_worker.specs.Setups.{Setup}
-use Rattle.rw_fleet.specs.Positions.{Positions}
+use Rattle.rw_worker.specs.Setups.{WorkerSetup}
+use Rattle.rw_fleet.specs.inner.Positions.{Positions}
 use Rattle.rw_fleet.specs.Work.{positions_in}
 use Rattle.rw_fleet.proofs.SoftLemmas.{unended_nil}
 use Rattle.rw_fleet.proofs.running.RunningShard.open.Goals as goal
@@ -16,9 +16,9 @@ invariant_of-result g c =
     let window = c.in_ok-window.ensures in
     let begun = c.of-begun.ensures in
     let handle = c.in_ok-handle.ensures in
-    let capacity = ap (λ (s : Setup). s.queue.capacity) begun ∙ ap (λ (q : QueueId). q.capacity) (c.in-Ok.ensures.queue ∙ sym queue.same) ∙ queue.most in
-    let batch = ap (λ (s : Setup). s.batch) begun ∙ c.in-Ok.ensures.batch ∙ search rules in
-    let same = ap (λ (s : Setup). s.queue) begun ∙ c.in-Ok.ensures.queue ∙ sym queue.same in (
+    let capacity = ap (λ (s : WorkerSetup). s.queue.capacity) begun ∙ ap (λ (q : QueueId). q.capacity) (c.in-Ok.ensures.queue ∙ sym queue.same) ∙ queue.most in
+    let batch = ap (λ (s : WorkerSetup). s.batch) begun ∙ c.in-Ok.ensures.batch ∙ search rules in
+    let same = ap (λ (s : WorkerSetup). s.queue) begun ∙ c.in-Ok.ensures.queue ∙ sym queue.same in (
       ap (λ (p : Positions). p.all) window ∙ sym (ap positions_in queue.empty.0),
       sym queue.queue.0,
       sym queue.queue.1,

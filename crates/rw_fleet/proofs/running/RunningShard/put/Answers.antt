@@ -7,7 +7,7 @@ use Rattle.rw_shard_queue.specs.Ends.{QueueId}
 use Rattle.rw_plain_queue.specs.Items.{Placed, samples_in, places_in}
 use Rattle.rw_plain_queue.specs.declared.item.Item.{Item}
 use Rattle.rw_fleet.specs.ShardHistories.{ShardHistory, put_as, item_as, marks_in}
-use Rattle.rw_fleet.specs.Positions.{Positions}
+use Rattle.rw_fleet.specs.inner.Positions.{Positions}
 use Rattle.rw_fleet.proofs.PutLemmas.{few_more, samples_more, positions_more, positions_length, as_put, as_item, marks_same_but}
 use Rattle.rw_fleet.proofs.SoftLemmas.{unended_push}
 use Rattle.rw_fleet.proofs.running.RunningShard.put.Goals as goal

@@ -1,7 +1,7 @@
 use Rattle.std.proofs.Common.{drop, sym, ap, ◌∙◌, subst, length, ◌≤◌, ◌+◌}
 use Rattle.rw_plain_queue.specs.History.{IsHistory}
 use Rattle.rw_shard_queue.specs.Ends.{QueueId}
-use Rattle.rw_worker.specs.Setups.{Setup}
+use Rattle.rw_worker.specs.Setups.{WorkerSetup}
 use Rattle.rw_fleet.specs.Work.{positions_in, put_of, taken_of}
 use Rattle.rw_fleet.proofs.SoftLemmas.{report_done}
 use Rattle.rw_fleet.proofs.WindowLemmas.{left_within, few_left}
@@ -13,7 +13,7 @@ behind-abandoned-requires g c =
     let m = c.meet-ends.ensures in
     let setup = c.self.inside.worker.value in
     left_within c.self.inside.window.most setup.queue.capacity setup.batch _ _ c.join-end.result.resolved c.self.inside.window.all (put_of c.meet-ends.result) (taken_of c.meet-ends.result) _ (i.0 ∙ ap positions_in (sym m.put)) i.4
-    (ap (λ (q : QueueId). q.capacity) i.1) (ap (λ (s : Setup). s.batch) i.2) m.taken m.within c.join-end.ensures.0.few
+    (ap (λ (q : QueueId). q.capacity) i.1) (ap (λ (s : WorkerSetup). s.batch) i.2) m.taken m.within c.join-end.ensures.0.few
 
 pub returns-clause-worked : goal.returns-clause-worked
 returns-clause-worked g c =
@@ -22,7 +22,7 @@ returns-clause-worked g c =
     let setup = c.self.inside.worker.value in
     let all = c.self.inside.window.all in
     let within = left_within c.self.inside.window.most setup.queue.capacity setup.batch _ _ c.join-end.result.resolved all (put_of c.meet-ends.result) (taken_of c.meet-ends.result) _ (i.0 ∙ ap positions_in (sym m.put)) i.4
-    (ap (λ (q : QueueId). q.capacity) i.1) (ap (λ (s : Setup). s.batch) i.2) m.taken m.within c.join-end.ensures.0.few in
+    (ap (λ (q : QueueId). q.capacity) i.1) (ap (λ (s : WorkerSetup). s.batch) i.2) m.taken m.within c.join-end.ensures.0.few in
     let left = c.behind-abandoned.ensures.items ∙ ap (drop c.join-end.result.resolved) (i.0 ∙ ap positions_in (sym m.put)) in
     record {
       begun = c.self.inside.handle.promise.transport.value;

@@ -1,14 +1,14 @@
 use Rattle.std.proofs.Common.{map, vec_len, ap, arith, ◌∙◌}
 use Rattle.std.proofs.Math.Facts.{to_z-of_z}
 use Rattle.rw_head.specs.Order.{is_later}
-use Rattle.rw_head.specs.Blocks.{joined}
+use Rattle.rw_head.specs.Blocks.{joined_blocks}
 use Rattle.rw_head.proofs.BlockLemmas.{later_rest, later_sealed}
 use Rattle.rw_head.proofs.blocks.Blocks.is_later.Goals as goal
 
 pub returns-then-not-is_empty : goal.returns-then-not-is_empty
 returns-then-not-is_empty c =
     c.is_later.ensures ∙ ap (λ z. is_later z c.deref.result.now) (to_z-of_z c.ranges.t) ∙ ap (is_later c.args.t) c.deref.ensures.value
-    ∙ later_rest c.args.t (joined (map (λ b. b.value) c.self.inside.sealed.items)) c.self.inside.rest.items (vec_len c.self.inside.rest) c.if-not-is_empty.ensures (omega arith) ∙ ap (is_later c.args.t) c.self.view_is
+    ∙ later_rest c.args.t (joined_blocks (map (λ b. b.value) c.self.inside.sealed.items)) c.self.inside.rest.items (vec_len c.self.inside.rest) c.if-not-is_empty.ensures (omega arith) ∙ ap (is_later c.args.t) c.self.view_is
 
 pub returns-in-Some : goal.returns-in-Some
 returns-in-Some c =

@@ -1,5 +1,5 @@
 use Rattle.std.proofs.Common.{sym, ap, ◌∙◌}
-use Rattle.rw_head.specs.Blocks.{open_of}
+use Rattle.rw_head.specs.inner.Blocks.{open_of}
 use Rattle.rw_head.proofs.BlockLemmas.{open_of-joined}
 use Rattle.rw_head.proofs.blocks.Blocks.open.Goals as goal
 

@@ -1,6 +1,6 @@
 use Rattle.std.proofs.Common.{◌≡◌, ◌++◌, ◌∷◌, [], length, map, vec_capacity, ap, ◌∙◌, arith}
 use Rattle.std.proofs.lemmas.List.{length_push}
-use Rattle.rw_head.specs.Blocks.{joined}
+use Rattle.rw_head.specs.Blocks.{joined_blocks}
 use Rattle.rw_head.proofs.BlockLemmas.{AreBlocks-sealed, pushed_sealed, put_back}
 use Rattle.rw_head.proofs.blocks.Blocks.push.Goals as goal
 
@@ -22,5 +22,5 @@ pub returns-in-Err-clause-err : goal.returns-in-Err-clause-err
 returns-in-Err-clause-err c =
     let rest = c.self.inside.rest.items in
     let len : length rest ≡ 119 = omega (arith, ap length c.in_ok-push.ensures.items, length_push rest c.args.sample, c.self.invariant.few) in
-    rw c.in-Err.is (ap (λ bs. joined (map (λ b. b.value) bs) ++ c.truncate.new.self.items) c.in-Err.ensures.err
+    rw c.in-Err.is (ap (λ bs. joined_blocks (map (λ b. b.value) bs) ++ c.truncate.new.self.items) c.in-Err.ensures.err
     ∙ put_back (map (λ b. b.value) c.self.inside.sealed.items) rest c.truncate.new.self.items c.push.new.self.items c.args.self.now c.args.sample c.in_ok-push.ensures.items c.truncate.ensures.items len c.self.view_is)

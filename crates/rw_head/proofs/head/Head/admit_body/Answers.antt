@@ -1,6 +1,7 @@
 use Rattle.std.proofs.Common.{subst, sym, ◌∙◌}
-use Rattle.rw_head.specs.Growth.{sample_count, HoldsNoneRefused}
-use Rattle.rw_head.proofs.GrowthLemmas.{Grown, kept_grown, ready_again, blocks_kept}
+use Rattle.rw_head.specs.Growth.{sample_count}
+use Rattle.rw_head.specs.inner.Growth.{HoldsNoneRefused}
+use Rattle.rw_head.proofs.shared.GrowthLemmas.{Grown, kept_grown, ready_again, blocks_kept}
 use Rattle.rw_head.proofs.head.Head.admit_body.Goals as goal
 
 grown_inside : (c : goal.After-commit) → Grown c.self.inside.table.kept c.commit.new.self.kept (sample_count c.in-Ok-2.ensures.staged.0)

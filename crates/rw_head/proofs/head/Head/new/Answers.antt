@@ -1,4 +1,4 @@
-use Rattle.rw_head.proofs.GrowthLemmas.{ready_first}
+use Rattle.rw_head.proofs.shared.GrowthLemmas.{ready_first}
 use Rattle.rw_head.proofs.head.Head.new.Goals as goal
 
 pub invariant_of-result : goal.invariant_of-result

@@ -1,11 +1,12 @@
 use Rattle.std.proofs.Common.{◌≤◌, ◌+◌, length, refl, subst, sym, ap, ◌∙◌}
 use Rattle.rw_types.specs.Beginnings.{Begins}
 use Rattle.rw_types.specs.Labels.{Labels}
-use Rattle.rw_head.specs.Growth.{EachRises, HoldsNoneRefused, sample_count}
+use Rattle.rw_head.specs.Growth.{EachRises, sample_count}
+use Rattle.rw_head.specs.inner.Growth.{HoldsNoneRefused}
 use Rattle.rw_head.specs.Store.{Store, list_of, total, label_sets, HasNoEmptyList}
 use Rattle.rw_head.specs.Head.{State, answer}
 use Rattle.rw_write_request.specs.Read.{read}
-use Rattle.rw_head.proofs.GrowthLemmas.{kept_grown, answer_begins}
+use Rattle.rw_head.proofs.shared.GrowthLemmas.{kept_grown, answer_begins}
 use Rattle.rw_head.proofs.head.Head.stage.Goals as goal
 
 pub invariant_of-result : goal.invariant_of-result

@@ -1,6 +1,6 @@
 use Rattle.std.proofs.Common.{sym, ◌∙◌, map, arith}
 use Rattle.rw_types.specs.Labels.{text_label}
-use Rattle.rw_types.proofs.OrderLemmas.{equal_if_same, same_where_texts_are}
+use Rattle.rw_types.proofs.shared.OrderLemmas.{equal_if_same, same_where_texts_are}
 use Rattle.rw_head.proofs.NameLemmas.{stands_here}
 use Rattle.rw_head.proofs.places.Places.expected.Goals as goal
 

@@ -2,7 +2,7 @@ use Rattle.std.proofs.Common.{arith, ◌≡◌, sym, ◌∙◌, ap, subst, ◌++
 use Rattle.std.specs.BTreeMap.{Updates}
 use Rattle.rw_types.specs.LabelOrder.{labels_cmp}
 use Rattle.std.proofs.lemmas.List.{length_push}
-use Rattle.rw_head.specs.Names.{AreNamed}
+use Rattle.rw_head.specs.inner.Names.{AreNamed}
 use Rattle.rw_head.proofs.NameLemmas.{AreNamed-same, AreNamed-push}
 use Rattle.rw_head.proofs.places.Places.push.Goals as goal
 

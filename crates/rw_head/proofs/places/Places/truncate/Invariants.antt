@@ -2,7 +2,7 @@ use Rattle.std.proofs.Common.{◌≡◌, min, length}
 use Rattle.std.specs.BTreeMap.{get}
 use Rattle.rw_types.specs.Labels.{Labels}
 use Rattle.rw_types.specs.LabelOrder.{labels_cmp}
-use Rattle.rw_head.specs.Names.{below}
+use Rattle.rw_head.specs.inner.Names.{below}
 use Rattle.rw_head.proofs.places.Places.truncate.Given as goal
 
 abbrev pub invariant-loop-self : goal.invariant-loop-self

@@ -1,6 +1,6 @@
 use Rattle.std.proofs.Common.{arith}
 use Rattle.std.proofs.lemmas.List.{length-take-le}
-use Rattle.rw_types.proofs.RisingLemmas.{Rises-take}
+use Rattle.rw_types.proofs.shared.RisingLemmas.{Rises-take}
 use Rattle.rw_head.specs.Lists.{IsEarlier}
 use Rattle.rw_head.proofs.sample_list.SampleList.abort.Goals as goal
 

@@ -1,5 +1,5 @@
 use Rattle.std.proofs.Common.{sym, ◌∙◌}
-use Rattle.rw_head.proofs.OrderLemmas.{pushed}
+use Rattle.rw_head.proofs.shared.OrderLemmas.{pushed}
 use Rattle.rw_head.proofs.sample_list.SampleList.stage.Goals as goal
 
 pub invariant_of-self-then-is_later : goal.invariant_of-self-then-is_later

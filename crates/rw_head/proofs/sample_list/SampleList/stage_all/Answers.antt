@@ -1,7 +1,7 @@
 use Rattle.std.proofs.Common.{◌∙◌, arith, w64, FitsSigned, rules}
 use Rattle.std.proofs.Math.Facts.{to_z-of_z}
 use Rattle.std.proofs.lemmas.Result.{err_from_is_err_and}
-use Rattle.rw_head.proofs.OrderLemmas.{refused_at, accepted_at}
+use Rattle.rw_head.proofs.shared.OrderLemmas.{refused_at, accepted_at}
 use Rattle.rw_head.proofs.sample_list.SampleList.stage_all.Goals as goal
 
 pub returns-in_err-stage-clause-staged : goal.returns-in_err-stage-clause-staged

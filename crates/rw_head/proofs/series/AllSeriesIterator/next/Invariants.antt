@@ -1,5 +1,6 @@
 use Rattle.std.proofs.Common.{◌≡◌, length}
-use Rattle.rw_head.specs.Lists.{with_samples, AreWithin}
+use Rattle.rw_head.specs.Lists.{with_samples}
+use Rattle.rw_head.specs.inner.Lists.{AreWithin}
 use Rattle.rw_head.proofs.series.AllSeriesIterator.next.Given as goal
 
 abbrev pub invariant-loop-name : goal.invariant-loop-name

@@ -1,6 +1,6 @@
 use Rattle.std.proofs.Common.{◌≡◌, ◌-◌, length, take, ap, arith, ◌∙◌}
 use Rattle.std.proofs.lemmas.List.{length-take-le}
-use Rattle.rw_head.proofs.StagingLemmas.{takes_out, Aborted, aborted_kept, aborted_staged, IsSound-aborted}
+use Rattle.rw_head.proofs.shared.StagingLemmas.{takes_out, Aborted, aborted_kept, aborted_staged, IsSound-aborted}
 use Rattle.rw_head.proofs.table.Table.abort.Goals as goal
 
 forgotten : (c : goal.After-self-1) → Aborted c.self.inside.places.tree c.truncate.new.self.tree c.self.inside.lists.items c.abort_all.new.lists.items c.truncate-2.new.self.items c.self.inside.fresh.items

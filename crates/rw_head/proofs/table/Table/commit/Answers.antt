@@ -1,5 +1,5 @@
 use Rattle.std.proofs.Common.{sym, ap, ◌∙◌}
-use Rattle.rw_head.proofs.StagingLemmas.{committed, IsSound-committed}
+use Rattle.rw_head.proofs.shared.StagingLemmas.{committed, IsSound-committed}
 use Rattle.rw_head.proofs.table.Table.commit.Goals as goal
 
 pub invariant_of-self : goal.invariant_of-self

@@ -1,5 +1,5 @@
 use Rattle.std.proofs.Common.{◌≡◌, ◌+◌, length, ap, arith}
-use Rattle.rw_head.proofs.StagingLemmas.{no_places, IsSound-empty}
+use Rattle.rw_head.proofs.shared.StagingLemmas.{no_places, IsSound-empty}
 use Rattle.rw_head.proofs.AddedLemmas.{nothing_added}
 use Rattle.rw_head.proofs.table.Table.new.Goals as goal
 

@@ -1,6 +1,6 @@
 use Rattle.std.proofs.Common.{sym, ap, ◌∙◌}
 use Rattle.rw_head.specs.Store.{list_of}
-use Rattle.rw_head.specs.Blocks.{open_of}
+use Rattle.rw_head.specs.inner.Blocks.{open_of}
 use Rattle.rw_head.proofs.BlockLemmas.{open_none}
 use Rattle.rw_head.proofs.PlaceLemmas.{kept_at, kept_nowhere, settled_here}
 use Rattle.rw_head.proofs.table.Table.open.Goals as goal

@@ -3,11 +3,11 @@ use Rattle.std.proofs.lemmas.List.{length-set}
 use Rattle.rw_write_request.specs.Message.{Sample, TimeSeries}
 use Rattle.rw_write_request.specs.Read.{read_series}
 use Rattle.rw_head.specs.Order.{points}
-use Rattle.rw_head.specs.Growth.{HoldsNoneRefused}
+use Rattle.rw_head.specs.inner.Growth.{HoldsNoneRefused}
 use Rattle.rw_head.specs.Lists.{no_lists}
-use Rattle.rw_head.proofs.BodyLemmas.{all_read, known_gives}
+use Rattle.rw_head.proofs.shared.BodyLemmas.{all_read, known_gives}
 use Rattle.rw_head.proofs.PlaceLemmas.{none_refused, staged_few}
-use Rattle.rw_head.proofs.StagingLemmas.{taken_by}
+use Rattle.rw_head.proofs.shared.StagingLemmas.{taken_by}
 use Rattle.rw_head.proofs.TableLemmas.{held_at}
 use Rattle.rw_head.proofs.table.Table.stage_known.Goals as goal
 

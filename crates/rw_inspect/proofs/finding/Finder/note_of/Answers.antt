@@ -1,5 +1,6 @@
 use Rattle.std.proofs.Common.{rules, ◌≡◌, ◌++◌, List, ℕ, true, false, ◌∙◌, ap}
-use Rattle.rw_inspect.specs.Finding.{entry_text, is_asked}
+use Rattle.rw_inspect.specs.Finding.{entry_text}
+use Rattle.rw_inspect.specs.inner.Finding.{is_asked}
 use Rattle.rw_inspect.proofs.FindingLemmas.{is_noted, not_noted}
 use Rattle.rw_inspect.proofs.finding.Finder.note_of.Goals as goal
 

@@ -1,5 +1,5 @@
 use Rattle.std.proofs.Common.{◌≡◌, true, sym, subst}
-use Rattle.rw_inspect.specs.Finding.{Finding, is_asked}
+use Rattle.rw_inspect.specs.inner.Finding.{Finding, is_asked}
 use Rattle.rw_inspect.proofs.FindingLemmas.{is_not_there, is_there, said_not_there, said_there}
 use Rattle.rw_inspect.proofs.finding.Finder.push_line.Goals as goal
 

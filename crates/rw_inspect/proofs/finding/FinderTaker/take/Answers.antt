@@ -1,6 +1,6 @@
 use Rattle.std.proofs.Common.{◌≡◌, ℕ, List, ◌∷◌, [], ◌++◌, ◌∙◌, length, map, ap, sym, subst, Vec, Global}
 use Rattle.rw_types.specs.declared.entry.Entry.{Entry}
-use Rattle.rw_inspect.specs.Finding.{Finding, note_of, notes_in, told}
+use Rattle.rw_inspect.specs.inner.Finding.{Finding, note_of, notes_in, told}
 use Rattle.rw_inspect.proofs.FindingLemmas.{finder_more}
 use Rattle.rw_inspect.proofs.finding.FinderTaker.take.Goals as goal
 

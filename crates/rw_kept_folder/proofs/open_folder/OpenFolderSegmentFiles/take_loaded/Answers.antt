@@ -1,5 +1,5 @@
 use Rattle.std.proofs.Common.{subst}
-use Rattle.rw_kept_folder.specs.Noted.{AreUnread}
+use Rattle.rw_kept_folder.specs.inner.Noted.{AreUnread}
 use Rattle.rw_kept_folder.proofs.NotedLemmas.{taken}
 use Rattle.rw_kept_folder.proofs.open_folder.OpenFolderSegmentFiles.take_loaded.Goals as goal
 

@@ -1,7 +1,7 @@
 use Rattle.std.proofs.Common.{nat_eq, ap, sym, ◌∙◌}
 use Rattle.std.specs.Map.{lookup}
 use Rattle.rw_head.specs.Store.{Store, list_of}
-use Rattle.rw_head.proofs.StoreLemmas.{list_of-empty}
+use Rattle.rw_head.proofs.shared.StoreLemmas.{list_of-empty}
 use Rattle.rw_kept_head.proofs.RestoringLemmas.{nothing_yet, holds_nothing}
 use Rattle.rw_kept_head.proofs.restoring.Restoring.new.Goals as goal
 

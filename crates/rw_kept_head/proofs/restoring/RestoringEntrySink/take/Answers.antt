@@ -2,7 +2,7 @@ use Rattle.std.proofs.Common.{List, Bool, not, ◌||◌, nat_eq, ap, sym, subst,
 use Rattle.std.specs.HashMap.{get}
 use Rattle.rw_types.specs.declared.entry.Entry.{Entry}
 use Rattle.rw_head.specs.Verdicts.{LabelLimits}
-use Rattle.rw_kept_head.specs.Restoring.{IsRestoring}
+use Rattle.rw_kept_head.specs.inner.Restoring.{IsRestoring}
 use Rattle.rw_kept_head.proofs.RestoringLemmas.{restoring_next}
 use Rattle.rw_kept_head.proofs.restoring.RestoringEntrySink.take.Goals as goal
 

@@ -2,7 +2,7 @@ use Rattle.std.proofs.Common.{◌≡◌, ◌≢◌, refl, ap, subst, ◌∙◌, 
 use Rattle.rw_head.specs.declared.capacity.Capacity.{Capacity}
 use Rattle.rw_head.specs.Head.{State}
 use Rattle.rw_head.specs.Store.{total}
-use Rattle.rw_head.specs.Capacity.{told, unlimited, StaysWithin}
+use Rattle.rw_head.specs.Capacity.{status_of_admission, unlimited, StaysWithin}
 use Rattle.rw_recv_head.proofs.CapacityLemmas.{stays_twice}
 use Rattle.rw_recv_head.specs.Seats.{Seated}
 use Rattle.rw_recv_head.proofs.StoredLemmas.{Gives, noted_as, kept_again, asked, finds_full}
@@ -17,7 +17,7 @@ held g c = c.total-before.ensures.total ∙ ap (λ (h : State). total h.store) c
 holds : (g : Over) (c : goal.After-take g) → c.total.result ≡ total (g.H.Admit.state c.admit-admission.new.self).store
 holds g c = c.total.ensures.total ∙ ap (λ (h : State). total h.store) c.head-new.ensures
 
-gives : (g : Over) (c : goal.After-take g) → Gives (g.H.Admit.state c.self.inside.holder) (g.H.Admit.state c.admit-admission.new.self) c.args.body.now (told c.admit-admission.result)
+gives : (g : Over) (c : goal.After-take g) → Gives (g.H.Admit.state c.self.inside.holder) (g.H.Admit.state c.admit-admission.new.self) c.args.body.now (status_of_admission c.admit-admission.result)
 gives g c = record {
   told = c.admit-admission.ensures.status;
   is = c.admit-admission.ensures.head;
@@ -54,7 +54,7 @@ returns-clause-full g c = λ full.
     let a = c.admit-admission.ensures in
     let n = c.note.ensures in
     finds_full _ _ _ _ _ _ _ _ (gives g c) (noted_as _ _ _ _ _ _ c.status.ensures n.questions) _ c.self.inside.capacity _ i.holds i.limits
-    (ap (λ (s : Seated). s.asked) c.take.ensures.stored ∙ ap (λ (s : Seated). s.asked) n.seat) c.self.invariant.2 (ap told full) (a.full full)
+    (ap (λ (s : Seated). s.asked) c.take.ensures.stored ∙ ap (λ (s : Seated). s.asked) n.seat) c.self.invariant.2 (ap status_of_admission full) (a.full full)
 
 pub returns-clause-limited : goal.returns-clause-limited
 returns-clause-limited g c = λ full.

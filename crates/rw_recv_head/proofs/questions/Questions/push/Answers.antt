@@ -2,7 +2,7 @@ use Rattle.std.proofs.Common.{refl, sym, ◌∙◌, subst, ◌<◌, [], ap}
 use Rattle.atomic_table.specs.Table.{Me}
 use Rattle.rw_recv_head.specs.declared.question.Question.{Question}
 use Rattle.rw_recv_head.specs.declared.questions.View.{View}
-use Rattle.rw_recv_head.specs.Questions.{Sight, keeper, sitter, IsSeat}
+use Rattle.rw_recv_head.specs.inner.Questions.{Sight, keeper, sitter, IsSeat}
 use Rattle.rw_recv_head.proofs.QuestionMoves.{stands, takes_as, takes_is, adds_as, adds_is, leaves_as, keeper_again, sitter_again}
 use Rattle.rw_recv_head.proofs.questions.Questions.push.Goals as goal
 

@@ -3,7 +3,7 @@ use Rattle.std.proofs.lemmas.List.{nil_from_length}
 use Rattle.std.proofs.lemmas.List.Sums.{sum_by_push}
 use Rattle.rw_recv_head.specs.declared.questions.Known.{Known}
 use Rattle.rw_recv_head.specs.Seats.{bodies_of, store_after, Seated, Opening}
-use Rattle.rw_recv_head.specs.Questions.{Sight, IsSeat}
+use Rattle.rw_recv_head.specs.inner.Questions.{Sight, IsSeat}
 use Rattle.rw_recv_head.proofs.GatheringLemmas.{AreBack, none_are_back, one_more_back, gathers}
 use Rattle.rw_recv_head.proofs.shared_head.SharedHead.gather.Goals as goal
 

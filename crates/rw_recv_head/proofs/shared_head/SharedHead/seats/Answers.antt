@@ -1,6 +1,6 @@
 use Rattle.std.proofs.Common.{◌≡◌, ℕ, ◌+◌, ◌∙◌, [], Some, slice_get, rules, subst, sym, ap}
 use Rattle.rw_recv_head.specs.Seats.{Seated}
-use Rattle.rw_recv_head.specs.Questions.{Sight}
+use Rattle.rw_recv_head.specs.inner.Questions.{Sight}
 use Rattle.rw_recv_head.specs.declared.questions.Known.{Known}
 use Rattle.rw_recv_head.proofs.GatheringLemmas.{numbered_more}
 use Rattle.rw_recv_head.proofs.shared_head.SharedHead.seats.Goals as goal

@@ -3,7 +3,7 @@ use Rattle.std.proofs.lemmas.Result.{on_ok_weaker}
 use Rattle.rw_wal_format.specs.Pieces.{page_size}
 use Rattle.rw_wal_format.specs.Writing.{log_bytes}
 use Rattle.rw_replay.proofs.PlayedLemmas.{on_machine, same_fed, segment_fed}
-use Rattle.rw_replay.specs.Writing.{IsWritten}
+use Rattle.rw_replay.specs.inner.Writing.{IsWritten}
 use Rattle.rw_replay.specs.Played.{Played}
 use Rattle.rw_replay.proofs.player.Player.log_in_next.Goals as goal
 

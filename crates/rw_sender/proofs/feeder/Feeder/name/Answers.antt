@@ -1,7 +1,7 @@
 use Rattle.std.proofs.Common.{◌∙◌, length, take, refl, sym, ap, subst, arith}
 use Rattle.std.specs.FinMap.{insert}
 use Rattle.rw_types.specs.declared.entry.Entry.TheVariants.{Sample}
-use Rattle.rw_series_cache.proofs.KnowsLemmas.{knows_dropped}
+use Rattle.rw_series_cache.proofs.shared.KnowsLemmas.{knows_dropped}
 use Rattle.rw_sender.specs.Logs.{dropped_of, filtered_of}
 use Rattle.rw_sender.specs.Feeders.{Sorting, IsDropped}
 use Rattle.rw_sender.proofs.FeederLemmas.{placed_held, no_more, named_next, named_below, dropped_is}

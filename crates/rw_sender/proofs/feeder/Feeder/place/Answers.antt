@@ -3,11 +3,12 @@ use Rattle.std.specs.Prelude.{fold, drop}
 use Rattle.rw_series_cache.specs.Fates.{fate}
 use Rattle.rw_series_cache.specs.Routing.{Routing, Routes, KnowsMore, TakesMemory}
 use Rattle.rw_sender.specs.Logs.{with_name, sent_of}
-use Rattle.rw_sender.specs.Feeders.{Sorting, IsFeeder, IsDropped, IsDroppedSample, IsToBeSent, sent_by}
-use Rattle.rw_series_cache.proofs.RouteLemmas.{told_dropped}
-use Rattle.rw_wal_tail.proofs.AnswerLemmas.{err_holds}
+use Rattle.rw_sender.specs.Feeders.{Sorting, IsDropped, IsDroppedSample, IsToBeSent, sent_by}
+use Rattle.rw_sender.specs.inner.Feeders.{IsFeeder}
+use Rattle.rw_series_cache.proofs.shared.RouteLemmas.{told_dropped}
 use Rattle.rw_sender.proofs.FeederLemmas.{placed_held, placed_seen, router_placed, router_sends}
 use Rattle.rw_sender.proofs.feeder.Feeder.place.Goals as goal
+use Rattle.rw_types.proofs.shared.AnswerLemmas.{OnErr-always}
 
 pub invariant_of-self-in-Placed : goal.invariant_of-self-in-Placed
 invariant_of-self-in-Placed c =
@@ -75,7 +76,7 @@ returns-in-Sample-clause-ok c =
 pub returns-in_err-place-clause-sound : goal.returns-in_err-place-clause-sound
 returns-in_err-place-clause-sound c =
     let s = c.self.inside in
-    err_holds c.from_residual.result (subst (λ (x : Sorting). TakesMemory x.choice x.placed c.args.entry ⊎ IsDroppedSample x) c.self.view_is
+    OnErr-always c.from_residual.result (subst (λ (x : Sorting). TakesMemory x.choice x.placed c.args.entry ⊎ IsDroppedSample x) c.self.view_is
     (inl (c.in_err-place.ensures.sound (take s.count s.read) c.self.invariant.knows)))
 
 pub returns-in_err-name-in-Dropped-clause-sound : goal.returns-in_err-name-in-Dropped-clause-sound
@@ -88,4 +89,4 @@ returns-in_err-name-in-Dropped-clause-sound c =
     let d = told_dropped s.router c.place.new.self ps s.count c.args.entry c.in-Dropped.reason routes in
     let dropped : IsDropped (record { choice = s.router.cache.choice; pieces = s.tail.pieces; placed = ps; hand = drop s.count s.read }) c.in-Dropped.reason =
     record { reference = d.1.0; t = d.1.1; word = d.1.2; hand = hand ∙ ap (λ e. e ∷ []) d.1.3; fate_is = d.1.4 } in
-    err_holds c.from_residual-in_err-name-in-Dropped.result (inr (c.in-Dropped.reason, subst (λ (x : Sorting). IsDropped x c.in-Dropped.reason) c.self.view_is dropped))
+    OnErr-always c.from_residual-in_err-name-in-Dropped.result (inr (c.in-Dropped.reason, subst (λ (x : Sorting). IsDropped x c.in-Dropped.reason) c.self.view_is dropped))

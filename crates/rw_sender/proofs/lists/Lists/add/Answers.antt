@@ -1,6 +1,6 @@
 use Rattle.std.proofs.Common.{length, sym, subst}
 use Rattle.std.specs.Prelude.{◌+◌, ◌≤◌, vec_len, vec_capacity}
-use Rattle.rw_sender.proofs.ListingLemmas.{room_one, room_added, appended, longer}
+use Rattle.rw_sender.proofs.shared.ListingLemmas.{room_one, room_added, appended, longer}
 use Rattle.rw_sender.proofs.lists.Lists.add.Goals as goal
 
 pub unwrap-requires : goal.unwrap-requires

@@ -1,7 +1,7 @@
 use Rattle.std.proofs.Common.{ℕ, refl, arith}
-use Rattle.rw_sender.specs.Reports.{HasSpace}
+use Rattle.rw_sender.specs.inner.Reports.{HasSpace}
 use Rattle.rw_sender.specs.declared.lists.Lists.{Lists}
-use Rattle.rw_sender.proofs.ListingLemmas.{on_err, space_grown, space_more}
+use Rattle.rw_sender.proofs.shared.ListingLemmas.{on_err, space_grown, space_more}
 use Rattle.rw_sender.proofs.lists.Lists.reserve.Goals as goal
 
 pub returns-in_err-reserve-clause-kept : goal.returns-in_err-reserve-clause-kept

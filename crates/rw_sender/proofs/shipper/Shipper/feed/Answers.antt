@@ -1,9 +1,9 @@
 use Rattle.std.proofs.Common.{length, sym, ap, ◌∙◌, subst}
 use Rattle.rw_fleet.specs.Fleets.{Shards}
 use Rattle.rw_sender.specs.Shipping.{Shipping, PlacesAll}
-use Rattle.rw_sender.proofs.PlacementLemmas.{kept_self}
-use Rattle.rw_sender.proofs.ListingLemmas.{room_handed}
-use Rattle.rw_sender.proofs.ShippingLemmas.{rest_as, kept_still}
+use Rattle.rw_sender.proofs.shared.PlacementLemmas.{kept_self}
+use Rattle.rw_sender.proofs.shared.ListingLemmas.{room_handed}
+use Rattle.rw_sender.proofs.shared.ShippingLemmas.{rest_as, kept_still}
 use Rattle.rw_sender.proofs.shipper.Shipper.feed.Goals as goal
 
 pub invariant_of-self-in-Err : goal.invariant_of-self-in-Err

@@ -1,6 +1,6 @@
-use Rattle.rw_fleet.proofs.LaneLemmas.{same_self}
-use Rattle.rw_sender.proofs.ListingLemmas.{room_same}
-use Rattle.rw_sender.proofs.ShippingLemmas.{places_same, ready_same, reckoned_marked}
+use Rattle.rw_fleet.proofs.shared.LaneLemmas.{same_self}
+use Rattle.rw_sender.proofs.shared.ListingLemmas.{room_same}
+use Rattle.rw_sender.proofs.shared.ShippingLemmas.{places_same, ready_same, reckoned_marked}
 use Rattle.rw_sender.proofs.shipper.Shipper.flush.Goals as goal
 
 pub invariant_of-self : goal.invariant_of-self

@@ -1,6 +1,6 @@
 use Rattle.std.proofs.Common.{sym, ◌∙◌}
-use Rattle.rw_sender.proofs.ListingLemmas.{room_closed}
-use Rattle.rw_sender.proofs.ShippingLemmas.{places_shut, places_opened, ready_next, reckoned_fresh, on_ok}
+use Rattle.rw_sender.proofs.shared.ListingLemmas.{room_closed}
+use Rattle.rw_sender.proofs.shared.ShippingLemmas.{places_shut, places_opened, ready_next, reckoned_fresh, on_ok}
 use Rattle.rw_sender.proofs.shipper.Shipper.reshard.Goals as goal
 
 pub invariant_of-self-in_default-close : goal.invariant_of-self-in_default-close

@@ -4,8 +4,8 @@ use Rattle.rw_sender.specs.Feeders.{Sorting}
 use Rattle.rw_fleet.specs.ShardHistories.{AreFresh}
 use Rattle.rw_fleet.specs.Fleets.{Shards}
 use Rattle.rw_sender.proofs.CutLemmas.{counted_fresh}
-use Rattle.rw_sender.proofs.ListingLemmas.{resolved_none, room_begun}
-use Rattle.rw_sender.proofs.ShippingLemmas.{places_begun, read_begun, on_ok}
+use Rattle.rw_sender.proofs.shared.ListingLemmas.{resolved_none, room_begun}
+use Rattle.rw_sender.proofs.shared.ShippingLemmas.{places_begun, read_begun, on_ok}
 use Rattle.rw_sender.proofs.shipper.Shipper.start_within.Goals as goal
 
 pub open_listed-requires-clause-resolved : goal.open_listed-requires-clause-resolved

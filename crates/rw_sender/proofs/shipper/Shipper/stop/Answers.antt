@@ -1,9 +1,9 @@
 use Rattle.std.proofs.Common.{sym, ap, ◌∙◌, subst, length}
 use Rattle.rw_worker.specs.Report.{is_hard}
 use Rattle.rw_fleet.specs.Fleets.{EndBy}
-use Rattle.rw_sender.specs.Reports.{kind_of}
+use Rattle.rw_sender.specs.Reports.{end_kind}
 use Rattle.rw_sender.specs.Shipping.{Shipping}
-use Rattle.rw_sender.proofs.ShippingLemmas.{places_whole, stopped_seen, read_of, ends_so, is_abandoned, lists_cut, begins_less}
+use Rattle.rw_sender.proofs.shared.ShippingLemmas.{places_whole, stopped_seen, read_of, ends_so, is_abandoned, lists_cut, begins_less}
 use Rattle.rw_sender.proofs.shipper.Shipper.stop.Goals as goal
 
 pub returns-clause-stopped : goal.returns-clause-stopped
@@ -33,7 +33,7 @@ returns-clause-hard g c = λ hard. is_abandoned c.args.placed _ _ (c.outcome_of-
 pub returns-clause-cut : goal.returns-clause-cut
 returns-clause-cut g c = λ soft left.
     let l = c.finish_listed-lists.ensures in
-    lists_cut l.joined _ c.finish_listed-lists.result.1 c.args.placed c.self.inside.damage _ l.workers (l.cut (ap is_hard (c.kind_of-kind.ensures ∙ ap kind_of soft))) (c.outcome_of-outcome.ensures.whole soft) left
+    lists_cut l.joined _ c.finish_listed-lists.result.1 c.args.placed c.self.inside.damage _ l.workers (l.cut (ap is_hard (c.kind_of-kind.ensures ∙ ap end_kind soft))) (c.outcome_of-outcome.ensures.whole soft) left
 
 pub returns-clause-ended : goal.returns-clause-ended
 returns-clause-ended g c =

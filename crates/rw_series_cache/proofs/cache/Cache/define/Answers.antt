@@ -3,7 +3,7 @@ use Rattle.rw_types.specs.declared.entry.Entry.{Entry}
 use Rattle.rw_types.specs.declared.entry.Entry.TheVariants.{Def}
 use Rattle.rw_series_cache.specs.Known.{standing_of}
 use Rattle.rw_series_cache.specs.Numbers.{with_series}
-use Rattle.rw_series_cache.specs.Verdicts.{verdict_in, IsWithin}
+use Rattle.rw_series_cache.specs.inner.Verdicts.{verdict_in, IsWithin}
 use Rattle.rw_series_cache.proofs.CacheLemmas.{one_defined}
 use Rattle.rw_series_cache.proofs.NumberLemmas.{one_more_at_most}
 use Rattle.rw_series_cache.proofs.cache.Cache.define.Goals as goal

@@ -1,7 +1,7 @@
 use Rattle.std.proofs.Common.{◌≡◌, List, length, sym, ap, subst, arith}
 use Rattle.rw_types.specs.declared.entry.Entry.{Entry}
-use Rattle.rw_series_cache.specs.Cached.{Judged}
-use Rattle.rw_series_cache.specs.Verdicts.{verdict_in, IsWithin}
+use Rattle.rw_series_cache.specs.inner.Cached.{Judged}
+use Rattle.rw_series_cache.specs.inner.Verdicts.{verdict_in, IsWithin}
 use Rattle.rw_series_cache.proofs.CacheLemmas.{nothing_defined}
 use Rattle.rw_series_cache.proofs.cache.Cache.new.Goals as goal
 

@@ -2,7 +2,7 @@ use Rattle.std.proofs.Common.{◌≡◌, true, false, sym, ◌∙◌, ap, subst,
 use Rattle.std.specs.Arc.{arc_value}
 use Rattle.rw_types.specs.Labels.{IsLabelSet}
 use Rattle.rw_relabel.specs.Rules.{keeps}
-use Rattle.rw_series_cache.specs.Cached.{Judged, Judges}
+use Rattle.rw_series_cache.specs.inner.Cached.{Judged, Judges}
 use Rattle.rw_series_cache.specs.declared.verdict.Verdict.TheVariants as verdict
 use Rattle.rw_series_cache.proofs.JudgedLemmas.{judged_as, judged_too, found_again, newly_kept}
 use Rattle.rw_series_cache.proofs.label_sets.LabelSets.judge_set.Goals as goal

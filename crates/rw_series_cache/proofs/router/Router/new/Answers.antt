@@ -1,4 +1,4 @@
-use Rattle.rw_series_cache.proofs.KnowsLemmas.{knows_none}
+use Rattle.rw_series_cache.proofs.shared.KnowsLemmas.{knows_none}
 use Rattle.rw_series_cache.proofs.router.Router.new.Goals as goal
 
 pub returns-clause-knows : goal.returns-clause-knows

@@ -1,7 +1,7 @@
 use Rattle.std.proofs.Common.{◌∷◌, ◌++◌, [], sym, subst, OnErr}
 use Rattle.rw_types.specs.declared.entry.Entry.TheVariants.{Def}
 use Rattle.rw_series_cache.specs.Routing.{Routing, Knows, TakesMemory}
-use Rattle.rw_series_cache.proofs.KnowsLemmas.{knows_definition, takes_definition}
+use Rattle.rw_series_cache.proofs.shared.KnowsLemmas.{knows_definition, takes_definition}
 use Rattle.rw_series_cache.proofs.router.Router.place.Goals as goal
 
 pub returns-in_ok-define-in-Def-clause-knows : goal.returns-in_ok-define-in-Def-clause-knows

@@ -5,7 +5,7 @@ use Rattle.std.specs.FinMap.{get}
 use Rattle.rw_types.specs.declared.entry.Entry.TheVariants.{Sample}
 use Rattle.rw_series_cache.specs.Rising.{rises, is_after}
 use Rattle.rw_series_cache.specs.Routing.{Routing, Knows}
-use Rattle.rw_series_cache.proofs.KnowsLemmas.{knows_unknown, knows_bad, knows_filtered, knows_falling}
+use Rattle.rw_series_cache.proofs.shared.KnowsLemmas.{knows_unknown, knows_bad, knows_filtered, knows_falling}
 use Rattle.rw_series_cache.proofs.router.Router.place_sample.Goals as goal
 
 pub returns-in-Unknown-clause-knows : goal.returns-in-Unknown-clause-knows

@@ -2,7 +2,7 @@ use Rattle.std.proofs.Common.{◌∙◌, ℤ, ap, sym, subst}
 use Rattle.std.proofs.Math.Facts.{to_z-of_z}
 use Rattle.std.specs.FinMap.{insert}
 use Rattle.rw_series_cache.specs.Routing.{Routing, Knows, IsRising, IsSentNext}
-use Rattle.rw_series_cache.proofs.KnowsLemmas.{knows_sent, sent_within}
+use Rattle.rw_series_cache.proofs.shared.KnowsLemmas.{knows_sent, sent_within}
 use Rattle.rw_series_cache.proofs.router.Router.sent.Goals as goal
 
 pub note-requires-clause-within : goal.note-requires-clause-within

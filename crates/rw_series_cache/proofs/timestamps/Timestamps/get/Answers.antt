@@ -1,7 +1,7 @@
 use Rattle.std.proofs.Common.{◌≡◌, ◌<◌, length, slice_get, Some, sym, ap, ◌∙◌, subst}
 use Rattle.std.specs.FinMap as map
 use Rattle.std.proofs.lemmas.Option.{slice_get-get_or}
-use Rattle.rw_series_cache.specs.Noted.{Times}
+use Rattle.rw_series_cache.specs.inner.Noted.{Times}
 use Rattle.rw_series_cache.proofs.TimestampLemmas.{noted_in, noted_at}
 use Rattle.rw_series_cache.proofs.timestamps.Timestamps.get.Goals as goal
 

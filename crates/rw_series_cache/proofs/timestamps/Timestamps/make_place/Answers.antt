@@ -1,5 +1,5 @@
 use Rattle.std.proofs.Common.{ap, ◌∙◌}
-use Rattle.rw_series_cache.specs.Noted.{Times, times_from}
+use Rattle.rw_series_cache.specs.inner.Noted.{Times, times_from}
 use Rattle.rw_series_cache.proofs.TimestampLemmas.{place_more}
 use Rattle.rw_series_cache.proofs.timestamps.Timestamps.make_place.Goals as goal
 

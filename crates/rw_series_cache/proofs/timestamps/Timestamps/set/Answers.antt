@@ -2,7 +2,7 @@ use Rattle.std.proofs.Common.{◌≡◌, ◌<◌, ℤ, length, slice_set, Some, 
 use Rattle.std.specs.FinMap as map
 use Rattle.std.proofs.lemmas.Int.{to_z-of_z}
 use Rattle.std.proofs.lemmas.List.{length-set}
-use Rattle.rw_series_cache.specs.Noted.{Times, times_from}
+use Rattle.rw_series_cache.specs.inner.Noted.{Times, times_from}
 use Rattle.rw_series_cache.proofs.TimestampLemmas.{set_in}
 use Rattle.rw_series_cache.proofs.timestamps.Timestamps.set.Goals as goal
 

@@ -1,5 +1,5 @@
 use Rattle.rw_plain_queue.specs.Items.{samples_in}
-use Rattle.rw_shard_core.proofs.KeptLemmas.{kept_read}
+use Rattle.rw_shard_core.proofs.shared.KeptLemmas.{kept_read}
 use Rattle.rw_shard_core.proofs.shard.ShardCore.attempt.Goals as goal
 
 pub returns-then-self-clause-read : goal.returns-then-self-clause-read

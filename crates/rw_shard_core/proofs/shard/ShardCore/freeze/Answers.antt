@@ -3,7 +3,7 @@ use Rattle.rw_batch.specs.Batches.{Building, Frozen, batch_of}
 use Rattle.rw_batch.specs.Grouping.{message}
 use Rattle.rw_write_request.specs.Spells.{Spells}
 use Rattle.rw_plain_queue.specs.Items.{samples_in}
-use Rattle.rw_shard_core.proofs.KeptLemmas.{kept_freeze, freezes, core_frozen, room_frozen, all_pending}
+use Rattle.rw_shard_core.proofs.shared.KeptLemmas.{kept_freeze, freezes, core_frozen, room_frozen, all_pending}
 use Rattle.rw_shard_core.proofs.shard.ShardCore.freeze.Goals.{in-Some-1, in-None-3}
 use Rattle.rw_shard_core.proofs.shard.ShardCore.freeze.Goals as goal
 

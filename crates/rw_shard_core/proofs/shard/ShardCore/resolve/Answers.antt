@@ -1,5 +1,5 @@
 use Rattle.rw_plain_queue.specs.Items.{samples_in}
-use Rattle.rw_shard_core.proofs.NamingLemmas.{AreInRow-rest, batch_rises, positions_rise}
+use Rattle.rw_shard_core.proofs.shared.NamingLemmas.{AreInRow-rest, batch_rises, positions_rise}
 use Rattle.rw_shard_core.proofs.shard.ShardCore.resolve.Goals as goal
 
 pub returns-clause-rising : goal.returns-clause-rising

@@ -1,10 +1,10 @@
 use Rattle.std.proofs.Common.{refl}
 use Rattle.rw_plain_queue.specs.Items.{Placed, samples_in}
 use Rattle.rw_shard_core.specs.Shard.{placed}
-use Rattle.rw_shard_core.proofs.StepGuards.{take_parts}
-use Rattle.rw_shard_core.proofs.KeptLemmas.{kept_follows, kept_take, parts_take}
+use Rattle.rw_shard_core.proofs.shared.StepGuards.{take_parts}
+use Rattle.rw_shard_core.proofs.shared.KeptLemmas.{kept_follows, kept_take, parts_take}
 use Rattle.rw_shard_core.proofs.shard.ShardCore.take.Goals as goal
-use Rattle.rw_plain_queue.proofs.Histories.{samples_in-append}
+use Rattle.rw_plain_queue.proofs.shared.Histories.{samples_in-append}
 
 pub take-requires-clause-sample : goal.take-requires-clause-sample
 take-requires-clause-sample c =

@@ -1,5 +1,5 @@
 use Rattle.std.proofs.Common.{◌∙◌, sym, ap}
-use Rattle.rw_shard_queue.specs.Spares.{empty_block}
+use Rattle.rw_shard_queue.specs.inner.Spares.{empty_block}
 use Rattle.rw_shard_queue.proofs.SparesLemmas.{gives_back}
 use Rattle.rw_shard_queue.proofs.spares.Returns.give_back.Goals as goal
 

@@ -1,6 +1,6 @@
 use Rattle.std.proofs.Common.{map, rules, sym, ◌∙◌}
 use Rattle.rw_types.specs.Labels.{bytes_label, text_label}
-use Rattle.rw_types.proofs.JudgeLemmas.{all_texts}
+use Rattle.rw_types.proofs.shared.JudgeLemmas.{all_texts}
 use Rattle.rw_types.proofs.NameLemmas.{of_any_names}
 use Rattle.rw_types.proofs.label_set.LabelSet.check_as.Goals as goal
 

@@ -1,5 +1,5 @@
 use Rattle.std.proofs.Common.{rules, sym}
-use Rattle.rw_types.proofs.WordValues.{int_of_word-from_word, int_of_word-none}
+use Rattle.rw_types.proofs.shared.WordValues.{int_of_word-from_word, int_of_word-none}
 use Rattle.rw_types.proofs.word.Word.as_int.Goals as goal
 
 pub returns-then-is_word_of-clause-value : goal.returns-then-is_word_of-clause-value

@@ -2,7 +2,7 @@ use Rattle.std.proofs.Common.{◌≡◌, [], ap, sym, ◌∙◌, subst, map}
 use Rattle.rw_wal_format.specs.Laws.{sample_entry}
 use Rattle.rw_wal_append.specs.Additions.{definition_entry}
 use Rattle.rw_wal_append.specs.Ends.{EndsAt}
-use Rattle.rw_wal_append.proofs.HoldLemmas.{both_added, both_end}
+use Rattle.rw_wal_append.proofs.shared.HoldLemmas.{both_added, both_end}
 use Rattle.rw_wal_append.proofs.log_end.LogEnd.append.Goals as goal
 
 pub returns-clause-entries : goal.returns-clause-entries

@@ -1,7 +1,7 @@
 use Rattle.std.proofs.Common.{◌≡◌, ◌∙◌, ◌<◌, ◌++◌, deque_len, List, ℕ, drop, length, map, ap, refl, arith}
 use Rattle.std.proofs.lemmas.List.{drop-append-le, length-map}
 use Rattle.std.proofs.lemmas.Result.{on_ok_weaker}
-use Rattle.rw_wal_tail.specs.Held.{Held, fed, waits_as}
+use Rattle.rw_wal_tail.specs.inner.Held.{Held, fed, waits_as}
 use Rattle.rw_wal_tail.proofs.HeldLaws.{extended_ok, fed_ended, fed_here, fed_last, not_zero, is_zero}
 use Rattle.rw_wal_tail.proofs.input.Input.feed.Goals as goal
 

@@ -2,7 +2,7 @@ use Rattle.std.proofs.Common.{◌∙◌, ◌+◌, ◌≤◌, length, sym, refl, 
 use Rattle.std.proofs.lemmas.Result.{on_ok_weaker}
 use Rattle.rw_wal_tail.proofs.StepLaws.{takes_bytes, takes_nothing}
 use Rattle.std.specs.Prelude.{vec_capacity}
-use Rattle.rw_wal_tail.specs.Held.{unread}
+use Rattle.rw_wal_tail.specs.inner.Held.{unread}
 use Rattle.rw_wal_tail.proofs.KeptLaws.{kept_feed}
 use Rattle.rw_wal_tail.proofs.reader.Reader.feed.Goals as goal
 

@@ -3,10 +3,10 @@ use Rattle.rw_wal_format.specs.declared.tail_fault.TailFault.TheVariants.{BadRec
 use Rattle.rw_wal_tail.specs.declared.reader.Reader.{Reader}
 use Rattle.rw_wal_tail.proofs.StepLaws.{Advanced, Failing, data_of, read_as, same_full, bad_full}
 use Rattle.std.specs.Prelude.{vec_capacity}
-use Rattle.rw_wal_tail.specs.Steps.{Same}
-use Rattle.rw_wal_tail.proofs.AnswerLemmas.{err_holds}
+use Rattle.rw_wal_tail.specs.inner.Steps.{Same}
 use Rattle.rw_wal_tail.proofs.KeptLaws.{kept_same, kept_passed, lacks_full, skip_within}
 use Rattle.rw_wal_tail.proofs.reader.Reader.full.Goals as goal
+use Rattle.rw_types.proofs.shared.AnswerLemmas.{OnErr-always}
 
 pub returns-then-not-branch-clause-same : goal.returns-then-not-branch-clause-same
 returns-then-not-branch-clause-same c =
@@ -32,7 +32,7 @@ pub returns-in_err-read_whole-clause-certain : goal.returns-in_err-read_whole-cl
 returns-in_err-read_whole-clause-certain c n k =
     let d = data_of c.args.len c.args.self.now.input.rest c.rest.result.now c.fragment_data-data.result.now c.fragment_data-data.ensures c.rest.ensures in
     let s : Same c.args.self.now (record c.args.self.now { ready = c.read_whole.new.ready; passed = c.read_whole.new.passed }) = search rules in
-    err_holds c.from_residual.result (lacks_full c.args.self.now _ c.args.len n c.fragment_data-data.result.now s c.requires k d c.in_err-read_whole.ensures.certain)
+    OnErr-always c.from_residual.result (lacks_full c.args.self.now _ c.args.len n c.fragment_data-data.result.now s c.requires k d c.in_err-read_whole.ensures.certain)
 
 pub returns-then-not-branch-clause-kept : goal.returns-then-not-branch-clause-kept
 returns-then-not-branch-clause-kept c n k =

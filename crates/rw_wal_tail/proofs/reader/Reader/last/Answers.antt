@@ -3,7 +3,7 @@ use Rattle.rw_wal_format.specs.declared.tail_fault.TailFault.TheVariants.{BadRec
 use Rattle.rw_wal_tail.specs.declared.reader.Reader.{Reader}
 use Rattle.rw_wal_tail.proofs.StepLaws.{Advanced, Failing, data_of, data_length, read_as, same_last, bad_last}
 use Rattle.std.specs.Prelude.{vec_capacity}
-use Rattle.rw_wal_tail.specs.Steps.{Same}
+use Rattle.rw_wal_tail.specs.inner.Steps.{Same}
 use Rattle.rw_wal_tail.proofs.KeptLaws.{kept_same, kept_passed, has_room, lacks_last, skip_within, back_again, same_data}
 use Rattle.rw_wal_tail.proofs.reader.Reader.last.Goals as goal
 

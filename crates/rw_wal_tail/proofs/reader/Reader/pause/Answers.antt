@@ -1,7 +1,7 @@
 use Rattle.std.proofs.Common.{◌∙◌, true, false, ap, sym, refl}
 use Rattle.rw_wal_format.specs.declared.tail_fault.TailFault.TheVariants.{TornSegment}
 use Rattle.rw_wal_tail.specs.declared.reader.Reader.{Reader}
-use Rattle.rw_wal_tail.specs.Steps.{PausesAt}
+use Rattle.rw_wal_tail.specs.inner.Steps.{PausesAt}
 use Rattle.rw_wal_tail.proofs.StepLaws.{Failing, same_begun, same_torn}
 use Rattle.rw_wal_tail.proofs.reader.Reader.pause.Goals as goal
 

@@ -1,5 +1,5 @@
 use Rattle.std.proofs.Common.{ℕ}
-use Rattle.rw_wal_tail.specs.Steps.{Same, IsKept, weight}
+use Rattle.rw_wal_tail.specs.inner.Steps.{Same, IsKept, weight}
 use Rattle.rw_wal_tail.proofs.reader.Reader.run.Given as goal
 
 -- nothing that is still read has changed, and there is room as before

@@ -1,7 +1,7 @@
 use Rattle.std.proofs.Common.{◌≡◌, ◌∙◌, length, ap, sym, refl, inr, arith}
 use Rattle.rw_wal_format.specs.Segments.{nothing, zeros, wrong, item_at}
 use Rattle.rw_wal_tail.specs.declared.reader.Reader.{Reader}
-use Rattle.rw_wal_tail.specs.Steps.{CanStep}
+use Rattle.rw_wal_tail.specs.inner.Steps.{CanStep}
 use Rattle.std.specs.Prelude.{vec_capacity}
 use Rattle.rw_wal_tail.proofs.KeptLaws.{kept_same, kept_passed, lacks_count}
 use Rattle.rw_wal_tail.proofs.FoundLaws.{wrong_of_log, nothing_known}

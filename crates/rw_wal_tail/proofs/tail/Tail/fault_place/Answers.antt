@@ -1,6 +1,7 @@
 use Rattle.std.proofs.Common.{◌≡◌, ◌∙◌, Some, ap, sym, subst, map}
 use Rattle.rw_wal_format.specs.Pieces.{fault}
-use Rattle.rw_wal_tail.specs.Fed.{Fed, IsStuck, told_of}
+use Rattle.rw_wal_tail.specs.Fed.{Fed, told_of}
+use Rattle.rw_wal_tail.specs.inner.Fed.{IsStuck}
 use Rattle.rw_wal_tail.specs.Places.{told_place}
 use Rattle.rw_wal_tail.proofs.FedLaws.{has_fault, places_fault}
 use Rattle.rw_wal_tail.proofs.tail.Tail.fault_place.Goals as goal

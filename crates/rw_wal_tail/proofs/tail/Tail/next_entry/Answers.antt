@@ -1,20 +1,21 @@
 use Rattle.std.proofs.Common.{◌∙◌, ◌+◌, ◌∷◌, [], Some, ap, sym, refl, inl, inr, arith, length-append, subst, List, Option, map}
 use Rattle.rw_wal_tail.specs.declared.reader.Step.TheVariants.{Failed, More}
-use Rattle.rw_wal_tail.specs.Steps.{IsOfLog, Ends, Ran}
+use Rattle.rw_wal_tail.specs.inner.Steps.{IsOfLog, Ends, Ran}
 use Rattle.rw_wal_format.specs.declared.skipped_type.SkippedType.{SkippedType}
 use Rattle.rw_wal_format.specs.declared.tail_fault.TailFault.{TailFault}
-use Rattle.rw_wal_tail.specs.Fed.{Fed, answered, IsStuck, told_of}
+use Rattle.rw_wal_tail.specs.Fed.{Fed, after_answer, told_of}
+use Rattle.rw_wal_tail.specs.inner.Fed.{IsStuck}
 use Rattle.rw_wal_tail.proofs.FedLaws.{follows_same, follows_given, gives_entry, gives_none, passes_none, gives_fault, passes_fault, asked, counted_none, counted_fault}
 use Rattle.rw_wal_tail.proofs.KeptLaws.{tail_same, kept_taken, gives_ready, tail_lacks, not_of_log}
 use Rattle.rw_wal_tail.proofs.TakingLemmas.{takes_next, same_pieces}
 use Rattle.rw_wal_tail.proofs.tail.Tail.next_entry.Goals as goal
 
 pub returns-then-self-eq-COUNT_END-clause-after : goal.returns-then-self-eq-COUNT_END-clause-after
-unfolding answered
+unfolding after_answer
 returns-then-self-eq-COUNT_END-clause-after c = c.self.view_is
 
 pub returns-in-Err-clause-after : goal.returns-in-Err-clause-after
-unfolding answered
+unfolding after_answer
 returns-in-Err-clause-after c = c.self.view_is
 
 pub invariant_of-self-in-Ok-More : goal.invariant_of-self-in-Ok-More
@@ -67,7 +68,7 @@ returns-else-self-eq-COUNT_END-clause-answer c =
     inr (sym (asked _ c.args.self.now c.self.inside.count c.self.inside.told c.self.inside.given c.self.inside.skipped c.self.view_is i.counted ∙ gives_entry _ c.self.inside.given c.run.new.self f c.take_entry-entry.result c.take_entry-entry.new.self.ready.items c.take_entry-entry.ensures.taken))
 
 pub returns-else-self-eq-COUNT_END-clause-after : goal.returns-else-self-eq-COUNT_END-clause-after
-unfolding answered
+unfolding after_answer
 returns-else-self-eq-COUNT_END-clause-after c = ap (λ (t : Fed). record t { given = t.given + 1 }) c.self.view_is
 
 pub returns-in-Some-clause-answer : goal.returns-in-Some-clause-answer

@@ -1,7 +1,7 @@
 use Rattle.std.proofs.Common.{◌≤◌, length, arith}
 use Rattle.rw_wal_format.specs.Pieces.{page_size}
 use Rattle.rw_wal_format.specs.Writing.{room}
-use Rattle.rw_wal_write.proofs.Fitting.{room_fits}
+use Rattle.rw_wal_write.proofs.shared.Fitting.{room_fits}
 use Rattle.rw_wal_write.proofs.segment.SegmentWriter.log.Goals as goal
 
 pub put_record-requires-clause-fits : goal.put_record-requires-clause-fits

@@ -1,6 +1,6 @@
 use Rattle.std.proofs.Common.{refl, subst}
 use Rattle.rw_worker.specs.Report.{IsState}
-use Rattle.rw_worker.specs.Setups.{Setup}
+use Rattle.rw_worker.specs.Setups.{WorkerSetup}
 use Rattle.rw_worker.specs.Steps.{working}
 use Rattle.rw_worker.specs.declared.state.Intake.TheVariants as intake
 use Rattle.rw_worker.proofs.StateLemmas.{state-begun}
@@ -14,8 +14,8 @@ returns g c =
     let ledger = c.self.inside.ledger in
     let backoff = c.self.inside.backoff in
     let tally = c.self.inside.tally in
-    let setup : Setup = record { queue = drain.queue; target = core.target; batch = core.full; min_backoff = backoff.0; max_backoff = backoff.1 } in
-    subst (λ (s : Setup). IsState g.T.Transport.tells g.T.Transport.seen g.P.Pause.tells g.P.Pause.paused s c.args.transport c.args._pause.now (intake.Open drain) (record {
+    let setup : WorkerSetup = record { queue = drain.queue; target = core.target; batch = core.full; min_backoff = backoff.0; max_backoff = backoff.1 } in
+    subst (λ (s : WorkerSetup). IsState g.T.Transport.tells g.T.Transport.seen g.P.Pause.tells g.P.Pause.paused s c.args.transport c.args._pause.now (intake.Open drain) (record {
       core = core;
       ledger = ledger;
       backoff = backoff;

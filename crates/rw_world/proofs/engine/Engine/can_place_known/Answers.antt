@@ -6,7 +6,8 @@ use Rattle.rw_series_cache.specs.Numbers.{number_of}
 use Rattle.rw_series_cache.specs.Fates.{fate}
 use Rattle.rw_series_cache.specs.Routing.{WouldSend}
 use Rattle.rw_machine.specs.Settling.{can_place_known}
-use Rattle.rw_world.specs.Machine.{Machine, placed_entries}
+use Rattle.rw_world.specs.Machine.{Machine}
+use Rattle.rw_world.specs.inner.Machine.{placed_entries}
 use Rattle.rw_world.specs.contracts.engine.Engine.{the_view}
 use Rattle.rw_world.proofs.RoundLemmas.{sent_placed}
 use Rattle.rw_world.proofs.WorldLemmas.{same_series}

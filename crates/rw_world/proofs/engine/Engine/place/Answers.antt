@@ -6,9 +6,10 @@ use Rattle.rw_wal_format.specs.Pieces.{entries}
 use Rattle.rw_series_cache.specs.Fates.{Fate, Drops, Filters, Sends, fate}
 use Rattle.rw_series_cache.specs.Routing.{Routing, Routes, RoutesAs, KnowsMore}
 use Rattle.rw_series_cache.specs.declared.router.Routed.TheVariants as routed
-use Rattle.rw_series_cache.proofs.RouteLemmas.{placed_filtered, told_dropped, told_sample}
+use Rattle.rw_series_cache.proofs.shared.RouteLemmas.{placed_filtered, told_dropped, told_sample}
 use Rattle.rw_machine.specs.Steps.{place, place_as, place_entry}
-use Rattle.rw_world.specs.Machine.{Machine, IsWorld}
+use Rattle.rw_world.specs.Machine.{Machine}
+use Rattle.rw_world.specs.inner.Machine.{IsWorld}
 use Rattle.rw_world.specs.contracts.engine.Engine.{the_view}
 use Rattle.rw_world.proofs.WorldLemmas.{world_more, series_defined}
 use Rattle.rw_world.proofs.PlaceLemmas.{place_is}

@@ -7,9 +7,10 @@ use Rattle.rw_types.specs.declared.entry.Entry.TheVariants.{Sample}
 use Rattle.rw_wal_format.specs.Pieces.{entries}
 use Rattle.rw_series_cache.specs.Numbers.{number_of}
 use Rattle.rw_series_cache.specs.Routing.{Routing, IsSentNext}
-use Rattle.rw_machine.specs.Steps.{shard_of, put_if_room}
-use Rattle.rw_world_parts.specs.Sending.{Sending, room_at, put_to}
-use Rattle.rw_world.specs.Machine.{Machine, IsSampleNext, with_sample}
+use Rattle.rw_machine.specs.Steps.{shard_of_labels, put_if_room}
+use Rattle.rw_world_parts.specs.Sending.{Sending, has_room_at, put_to}
+use Rattle.rw_world.specs.Machine.{Machine}
+use Rattle.rw_world.specs.inner.Machine.{IsSampleNext, with_sample}
 use Rattle.rw_world.specs.contracts.engine.Engine.{the_view}
 use Rattle.rw_world.proofs.WorldLemmas.{world_more, same_series}
 use Rattle.rw_world.proofs.PlaceLemmas.{no_room, put_next_is, put_target, put_seen}
@@ -42,7 +43,7 @@ invariant_of-self-2 c =
     let next = subst (λ (m : Machine). IsSampleNext m x) (sym c.self.view_is) c.requires.next in
     let fits : FitsSigned w64 x.t = search rules in
     let entry = Sample next.reference x.t x.word in
-    let room : room_at s.senders.capacity (slice_get s.senders.shards at) ≡ true = sym c.has_room.ensures ∙ c.if-not-has_room.false in
+    let room : has_room_at s.senders.capacity (slice_get s.senders.shards at) ≡ true = sym c.has_room.ensures ∙ c.if-not-has_room.false in
     let put = c.in_ok-put.ensures.ok ∙ ap (λ (z : ℤ). put_to s.senders at x.pos x.series z x.word l (slice_get s.senders.shards at)) (to_z-of_z w64 x.t fits) in
     let n : c.put.new.self.next ≡ x.pos + 1 = ap (λ (v : Sending). v.next) put ∙ put_next_is s.senders at x.pos x.series x.t x.word l (slice_get s.senders.shards at) room in
     let target = ap (λ (v : Sending). v.target) put ∙ put_target s.senders at x.pos x.series x.t x.word l (slice_get s.senders.shards at) in
@@ -60,8 +61,8 @@ returns-then-not-has_room-clause-ok c =
     let at : ℕ = x.series % c.len.result in
     let next = subst (λ (m : Machine). IsSampleNext m x) (sym c.self.view_is) c.requires.next in
     let number : x.series ≡ number_of u.world.series l = next.numbered.numbered ∙ ap (λ xs. number_of xs l) (same_series (take s.placed (entries s.log)) s.router.cache c.self.invariant.0.knows) in
-    let here : at ≡ shard_of u.world l = ap (λ k. k % c.len.result) number ∙ ap (λ k. number_of u.world.series l % k) c.len.ensures.len in
-    let none : room_at u.setup.capacity (slice_get u.world.shards at) ≡ false = sym c.has_room.ensures ∙ c.if-not-has_room.true in
+    let here : at ≡ shard_of_labels u.world l = ap (λ k. k % c.len.result) number ∙ ap (λ k. number_of u.world.series l % k) c.len.ensures.len in
+    let none : has_room_at u.setup.capacity (slice_get u.world.shards at) ≡ false = sym c.has_room.ensures ∙ c.if-not-has_room.true in
     sym c.self.view_is
     ∙ ap (λ w. record u { world = w }) (sym (no_room u.setup u.world at l x.t x.word (slice_get u.world.shards at) none))
     ∙ ap (λ k. record u { world = put_if_room u.setup u.world k l x.t x.word (slice_get u.world.shards k) }) here
@@ -77,8 +78,8 @@ returns-clause-ok c =
     let next = subst (λ (m : Machine). IsSampleNext m x) (sym c.self.view_is) c.requires.next in
     let fits : FitsSigned w64 x.t = search rules in
     let number : x.series ≡ number_of u.world.series l = next.numbered.numbered ∙ ap (λ xs. number_of xs l) (same_series (take s.placed (entries s.log)) s.router.cache c.self.invariant.0.knows) in
-    let here : at ≡ shard_of u.world l = ap (λ k. k % c.len.result) number ∙ ap (λ k. number_of u.world.series l % k) c.len.ensures.len in
-    let room : room_at s.senders.capacity (slice_get s.senders.shards at) ≡ true = sym c.has_room.ensures ∙ c.if-not-has_room.false in
+    let here : at ≡ shard_of_labels u.world l = ap (λ k. k % c.len.result) number ∙ ap (λ k. number_of u.world.series l % k) c.len.ensures.len in
+    let room : has_room_at s.senders.capacity (slice_get s.senders.shards at) ≡ true = sym c.has_room.ensures ∙ c.if-not-has_room.false in
     let put = c.in_ok-put.ensures.ok ∙ ap (λ (z : ℤ). put_to s.senders at x.pos x.series z x.word l (slice_get s.senders.shards at)) (to_z-of_z w64 x.t fits) ∙ ap (λ p. put_to s.senders at p x.series x.t x.word l (slice_get s.senders.shards at)) next.pos_is in
     ap (λ (k : Routing). the_view (record s { placed = s.placed + 1; router = k; senders = c.put.new.self })) c.sent.ensures.noted
     ∙ put_seen u s.senders c.put.new.self at x.series x.t x.word l (slice_get s.senders.shards at) room put number refl refl refl refl refl refl

@@ -1,4 +1,4 @@
-use Rattle.rw_world_parts.proofs.ReadingLemmas.{nothing_read}
+use Rattle.rw_world_parts.proofs.shared.ReadingLemmas.{nothing_read}
 use Rattle.rw_world_parts.proofs.log.Log.new.Goals as goal
 
 pub invariant_of-result : goal.invariant_of-result

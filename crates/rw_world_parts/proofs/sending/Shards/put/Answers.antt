@@ -6,7 +6,7 @@ use Rattle.rw_world_parts.specs.Sending.{Sending}
 use Rattle.rw_world_parts.specs.contracts.sending.Shards.{the_view}
 use Rattle.std.proofs.Common.{ℤ}
 use Rattle.std.proofs.Math.Facts.{to_z-of_z}
-use Rattle.rw_world_parts.specs.Held.{sample_for}
+use Rattle.rw_world_parts.specs.inner.Held.{sample_for}
 use Rattle.rw_machine.specs.Shards.{shard_put}
 use Rattle.rw_world_parts.proofs.ReplyLemmas.{put_kept, last_put, put_is}
 use Rattle.rw_world_parts.proofs.sending.Shards.put.Goals as goal

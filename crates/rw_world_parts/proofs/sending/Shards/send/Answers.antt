@@ -8,7 +8,7 @@ use Rattle.rw_world_parts.specs.contracts.sending.Shards.{the_view}
 use Rattle.rw_world_parts.proofs.SendingLemmas.{past_is, changed_is, quiet_same, send_quiet}
 use Rattle.rw_world_parts.proofs.ReplyLemmas.{shard_seen}
 use Rattle.rw_world_parts.specs.Answering.{IsSentTo}
-use Rattle.rw_world_parts.proofs.AnswerLemmas.{sent_to}
+use Rattle.rw_world_parts.proofs.shared.AnswerLemmas.{sent_to}
 use Rattle.rw_world_parts.proofs.sending.Shards.send.Goals as goal
 
 pub returns-then-i-len-clause-ok : goal.returns-then-i-len-clause-ok

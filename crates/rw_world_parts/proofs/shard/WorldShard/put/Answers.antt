@@ -5,9 +5,10 @@ use Rattle.rw_plain_queue.specs.Items.{Placed, samples_in}
 use Rattle.rw_plain_queue.specs.Queue.{put_in}
 use Rattle.rw_plain_queue.specs.declared.item.Item.{Item}
 use Rattle.rw_plain_queue.specs.declared.item.Item.TheVariants.{Sample}
-use Rattle.rw_shard_core.specs.Shard.{last_of}
+use Rattle.rw_shard_core.specs.Shard.{last_sample}
 use Rattle.rw_machine.specs.Shards.{shard_put}
-use Rattle.rw_world_parts.specs.Held.{Held, held_of, sample_for}
+use Rattle.rw_world_parts.specs.Held.{Held}
+use Rattle.rw_world_parts.specs.inner.Held.{held_of, sample_for}
 use Rattle.rw_world_parts.proofs.ShardLemmas.{put_sample_kept, held_more}
 use Rattle.rw_world_parts.proofs.shard.WorldShard.put.Goals as goal
 
@@ -17,7 +18,7 @@ invariant_of-self c =
     let h = held_of s.queue s.end_put s.core in
     let len : length (samples_in (put_in s.queue)) ≡ length c.args.self.now.shard.put = ap (λ (h : Held). length h.shard.put) c.self.view_is in
     let few : s.count < 2 ^ 60 = omega (arith, c.self.invariant.2.counted, len, c.requires.few) in
-    let later : IfSome (last_of (samples_in (put_in s.queue))) (λ (z : Placed). z.place.pos < c.args.pos) = subst (λ (h : Held). IfSome (last_of h.shard.put) (λ (z : Placed). z.place.pos < c.args.pos)) (sym c.self.view_is) c.requires.later in
+    let later : IfSome (last_sample (samples_in (put_in s.queue))) (λ (z : Placed). z.place.pos < c.args.pos) = subst (λ (h : Held). IfSome (last_sample h.shard.put) (λ (z : Placed). z.place.pos < c.args.pos)) (sym c.self.view_is) c.requires.later in
     let place : Place = record { epoch = s.epoch; shard = s.shard; seq = s.count; pos = c.args.pos; series = c.args.series } in
     let x : Item = Sample place c.args.t c.args.word c.args.labels in
     let y : Placed = record { place = place; t = c.args.t; word = c.args.word; labels = c.args.labels.value } in
@@ -30,7 +31,7 @@ returns c =
     let s = c.self.inside in
     let len : length (samples_in (put_in s.queue)) ≡ length c.args.self.now.shard.put = ap (λ (h : Held). length h.shard.put) c.self.view_is in
     let few : s.count < 2 ^ 60 = omega (arith, c.self.invariant.2.counted, len, c.requires.few) in
-    let later : IfSome (last_of (samples_in (put_in s.queue))) (λ (z : Placed). z.place.pos < c.args.pos) = subst (λ (h : Held). IfSome (last_of h.shard.put) (λ (z : Placed). z.place.pos < c.args.pos)) (sym c.self.view_is) c.requires.later in
+    let later : IfSome (last_sample (samples_in (put_in s.queue))) (λ (z : Placed). z.place.pos < c.args.pos) = subst (λ (h : Held). IfSome (last_sample h.shard.put) (λ (z : Placed). z.place.pos < c.args.pos)) (sym c.self.view_is) c.requires.later in
     let place : Place = record { epoch = s.epoch; shard = s.shard; seq = s.count; pos = c.args.pos; series = c.args.series } in
     let x : Item = Sample place c.args.t c.args.word c.args.labels in
     let y : Placed = record { place = place; t = c.args.t; word = c.args.word; labels = c.args.labels.value } in

@@ -1,0 +1,3 @@
+pub mod LabelLemmas
+pub mod MessageLemmas
+pub mod NumberLemmas

@@ -1,0 +1,3 @@
+pub mod Batches
+pub mod Grouping
+pub mod Kept

@@ -1,0 +1,6 @@
+pub mod BodyLemmas
+pub mod GrowthLemmas
+pub mod OrderLemmas
+pub mod StagingLemmas
+pub mod StoreLemmas
+pub mod VerdictLemmas

@@ -1,0 +1,16 @@
+pub mod Classes
+pub mod Counts
+pub mod Frames
+pub mod Ids
+pub mod Lists
+pub mod Named
+pub mod Names
+pub mod Others
+pub mod Places
+pub mod Requests
+pub mod Resolves
+pub mod Runs
+pub mod Settles
+pub mod Steps
+pub mod Stored
+pub mod Views

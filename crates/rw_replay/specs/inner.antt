@@ -1,0 +1,4 @@
+pub mod Played
+pub mod Runs
+pub mod Ways
+pub mod Writing

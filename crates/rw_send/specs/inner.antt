@@ -1,0 +1,4 @@
+pub mod FeedErrors
+pub mod Following
+pub mod Segments
+pub mod Sending

@@ -1,0 +1,4 @@
+pub mod ListingLemmas
+pub mod PlacementLemmas
+pub mod ShippingLemmas
+pub mod SpreadLemmas

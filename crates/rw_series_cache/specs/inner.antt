@@ -1,0 +1,3 @@
+pub mod Cached
+pub mod Noted
+pub mod Verdicts

@@ -1,0 +1,4 @@
+pub mod EmptyLemmas
+pub mod KeptLemmas
+pub mod NamingLemmas
+pub mod StepGuards

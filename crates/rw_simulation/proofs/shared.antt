@@ -1,0 +1,4 @@
+pub mod Passed
+pub mod Pasts
+pub mod ReceivedRuns
+pub mod Seatings

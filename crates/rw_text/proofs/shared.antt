@@ -1,0 +1,4 @@
+pub mod LineLemmas
+pub mod OneLemmas
+pub mod RecordLemmas
+pub mod SplitLemmas

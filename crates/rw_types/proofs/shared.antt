@@ -1,0 +1,13 @@
+pub mod Booleans
+pub mod AllLemmas
+pub mod AnswerLemmas
+pub mod BeginningLemmas
+pub mod FittingLemmas
+pub mod GatherLemmas
+pub mod JudgeLemmas
+pub mod OrderLemmas
+pub mod RisingLemmas
+pub mod TextLemmas
+pub mod TimeLemmas
+pub mod WordReads
+pub mod WordValues

@@ -1,0 +1,2 @@
+pub mod AdditionLemmas
+pub mod HoldLemmas

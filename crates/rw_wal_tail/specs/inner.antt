@@ -1,0 +1,9 @@
+pub mod Fed
+pub mod Form
+pub mod Found
+pub mod Held
+pub mod Placed
+pub mod Skips
+pub mod Steps
+pub mod Still
+pub mod Unread

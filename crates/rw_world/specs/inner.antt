@@ -1,0 +1,4 @@
+pub mod Arriving
+pub mod Machine
+pub mod Reached
+pub mod Rounds

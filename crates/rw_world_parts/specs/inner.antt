@@ -1,0 +1,4 @@
+pub mod Answering
+pub mod Guards
+pub mod Held
+pub mod Sending
