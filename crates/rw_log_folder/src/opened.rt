@@ -54,15 +54,6 @@ impl<O: Open> Opened<O> {
         &self.place
     }
 
-    /// Returns a source whose reads fail. Nothing is opened.
-    pub(crate) fn unreadable(place: O) -> Opened<O> {
-        Opened {
-            place,
-            source: None,
-            failed: true,
-        }
-    }
-
     fn read_on(&mut self, buf: &mut [u8]) -> Result<usize, Failed>
         ensures bound { ReadsAtMost result buf.new }
         ensures bytes { ReadConsumes

@@ -107,18 +107,6 @@ fn perform<R: Threads + Wait + Clock + Copy + Send + Sync + 'static>(
     }
 }
 
-/// Does what the arguments ask for, as the command-line parser found them.
-fn perform_matches<R: Threads + Wait + Clock + Copy + Send + Sync + 'static>(
-    rt: &HostRuntime,
-    threads: &R,
-    matches: &ArgMatches<'_>,
-) -> ExitCode {
-    match task_of(matches) {
-        Some(task) => perform(rt, threads, &task, matches),
-        None => report_bad_address(rt, matches),
-    }
-}
-
 /// Parses the arguments, and does what they ask for.
 fn perform_words<R: Threads + Wait + Clock + Copy + Send + Sync + 'static>(
     rt: &HostRuntime,
@@ -126,7 +114,10 @@ fn perform_words<R: Threads + Wait + Clock + Copy + Send + Sync + 'static>(
     words: &[String],
 ) -> Result<ExitCode, ToolFault> {
     match command_line(rt.alloc())?.try_get_matches_from(words) {
-        Ok(matches) => Ok(perform_matches(rt, threads, &matches)),
+        Ok(matches) => match task_of(&matches) {
+            Some(task) => Ok(perform(rt, threads, &task, &matches)),
+            None => Ok(report_bad_address(rt, &matches)),
+        },
         Err(error) => Ok(report_parse_error(rt, error)),
     }
 }

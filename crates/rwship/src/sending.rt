@@ -4,18 +4,20 @@ use crate::ending::{
     empty_status, point_to_explain, print_device_error, report_dropped, report_result,
     report_settings_fault, report_skipped,
 };
-use crate::inspecting::{files_of, log_fault, note_checkpoint, passes_checkpoint_over};
+use crate::inspecting::{
+    fault_of_folder, files_of, log_fault, note_checkpoint, passes_checkpoint_over,
+};
 use crate::reporting::{begin_reporting, end_reporting, is_watched};
 use crate::settings::settings_in;
 use crate::stopping::stop_signal;
 use rw_follow::Timed;
-use rw_log_folder::{Folder, LogFiles, watch_newest_segment};
+use rw_log_folder::{Folder, FolderFault, Opened, SegmentFile, check_folder, watch_newest_segment};
 use rw_metrics::{Counters, SendCounters, show_stalls};
 use rw_send::{FollowFault, SendOptions, StopFlag, TcpConnect, run_follow, run_send};
 use rw_settings::Settings;
 use rw_tcp::look_up;
 use rw_text::{Address, ToolFault};
-use rw_types::{Bounded, Std};
+use rw_types::{Bounded, Std, write_all};
 use rw_words::{Following, LogDir, Reading, Sending, SettingsFile};
 use std::alloc::{AllocError, Global};
 use std::io::{Error, ErrorKind, IsTerminal};
@@ -25,10 +27,13 @@ use std::sync::{Arc, Wait};
 use std::thread::{self, Threads};
 use std::time::{Clock, Duration};
 
+/// The report of a log of which nothing could be read.
+const NOTHING_READ: &[u8] = b"filtered 0\nreport abandoned 0\n";
+
 /// The log that is shipped.
 enum Log {
     /// The files of the folder.
-    Whole(LogFiles<HostRuntime>),
+    Whole(Vec<Opened<SegmentFile<HostRuntime>>>),
     /// The folder while it grows, and the watch that ends it.
     Growing(Folder<HostRuntime>, Timed<HostRuntime>),
 }
@@ -79,10 +84,11 @@ fn log_of<R: Threads>(
     sending: &Sending<'_>,
     stop: &StopFlag,
     counters: &Arc<SendCounters, Global>,
-) -> Result<Log, AllocError> {
+) -> Result<Log, FolderFault> {
     match &sending.reading {
         Reading::Whole => Ok(Log::Whole(files_of(rt, sending.dir, Some(counters))?)),
         Reading::Follow(following) => {
+            check_folder(rt, sending.dir.path)?;
             let folder = folder_of(rt, sending.dir, counters)?;
             Ok(Log::Growing(folder, watch_of(rt, threads, following, stop)?))
         }
@@ -97,7 +103,7 @@ fn shipment_to<R: Threads>(
     addresses: Vec<SocketAddr>,
     timeout_ms: Bounded<1, 3_600_000>,
     counters: &Arc<SendCounters, Global>,
-) -> Result<Shipment, AllocError> {
+) -> Result<Shipment, FolderFault> {
     let stop = StopFlag::new(rt.alloc())?;
     let theirs = Arc::try_clone(counters)?;
     let counters = Arc::try_clone(counters)?;
@@ -168,6 +174,17 @@ fn reported_counters<R: Threads>(
     Ok(counters)
 }
 
+/// Prints the report of a log whose files cannot be listed or opened. If memory ran out, there is
+/// none.
+fn report_nothing_read(rt: &HostRuntime, fault: &FolderFault) {
+    match fault {
+        FolderFault::OutOfMemory => {}
+        _ => {
+            let _ = write_all(&mut Std::new(rt.stdout()), NOTHING_READ);
+        }
+    }
+}
+
 /// Begins to report, and returns what shipping needs.
 fn prepare<R: Threads>(
     rt: &HostRuntime,
@@ -175,22 +192,15 @@ fn prepare<R: Threads>(
     sending: &Sending<'_>,
     addresses: Vec<SocketAddr>,
     timeout_ms: Bounded<1, 3_600_000>,
-) -> Result<Shipment, ToolFault> {
+) -> Result<Shipment, FollowFault> {
     let counters = reported_counters(rt, threads, sending)?;
     match shipment_to(rt, threads, sending, addresses, timeout_ms, &counters) {
         Ok(shipment) => Ok(shipment),
         Err(fault) => {
+            report_nothing_read(rt, &fault);
             end_reporting(rt, &sending.reporting, &Counters::Send(counters));
-            Err(ToolFault::from(fault))
+            Err(fault_of_folder(fault))
         }
-    }
-}
-
-/// Returns the fault of a log that is read as it is, of which this segment is missing.
-fn whole_fault(missing: Option<u64>, fault: ToolFault) -> FollowFault {
-    match (missing, fault) {
-        (Some(number), ToolFault::Device) => FollowFault::Missing(number),
-        _ => FollowFault::Tool(fault),
     }
 }
 
@@ -204,10 +214,10 @@ fn ship_log<R: Threads + Wait + Clock + Copy + Send + 'static>(
 ) -> Result<(), FollowFault> {
     let mut output = Std::new(rt.stdout());
     match log {
-        Log::Whole(LogFiles { files, missing }) => {
+        Log::Whole(files) => {
             match run_send(threads, rt.alloc(), settings, files, options, &mut output) {
                 Ok(()) => Ok(()),
-                Err(fault) => Err(whole_fault(missing, fault)),
+                Err(fault) => Err(FollowFault::Tool(fault)),
             }
         }
         Log::Growing(mut folder, mut watch) => run_follow(
@@ -350,10 +360,7 @@ fn start<R: Threads>(
     match look_up(rt, rt.alloc(), to.name(), to.port) {
         Ok(addresses) => match prepare(rt, threads, sending, addresses, timeout_ms) {
             Ok(shipment) => Ok(shipment),
-            Err(fault) => {
-                let outcome = Err(FollowFault::Tool(fault));
-                Err(report_outcome(rt, sending, outcome, is_explained))
-            }
+            Err(fault) => Err(report_outcome(rt, sending, Err(fault), is_explained)),
         },
         Err(error) => Err(report_lookup_error(rt, to.name(), &error, is_explained)),
     }
@@ -362,7 +369,7 @@ fn start<R: Threads>(
 /// Returns whether the folder has no segment.
 fn is_empty(log: &Log) -> bool {
     match log {
-        Log::Whole(log) => log.missing.is_none() && log.files.is_empty(),
+        Log::Whole(files) => files.is_empty(),
         Log::Growing(..) => false,
     }
 }
