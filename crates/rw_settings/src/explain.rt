@@ -103,7 +103,7 @@ fn note_part(
         (noted notes.new.items ≡ lesser (noted notes.old.items) (Some WrongType)) }
 {
     let place = String::from_str(alloc, key)?;
-    let text = format!(in alloc; "has another type; it takes {takes}")?;
+    let text = format!(in alloc; "has the wrong type; it takes {takes}")?;
     push_note(notes, SettingsFault::WrongType, place, text)
 }
 
@@ -182,7 +182,7 @@ fn refusal(alloc: Global, pattern: &str) -> Result<Option<&'static str>, AllocEr
         Ok(_) => Ok(None),
         Err(regex::Error::OutOfMemory) => Err(AllocError),
         Err(regex::Error::Syntax(error)) => Ok(Some(error.kind.message())),
-        Err(_) => Ok(Some("it takes too much room when it is compiled")),
+        Err(_) => Ok(Some("it is too large when it is compiled")),
     }
 }
 

@@ -165,9 +165,9 @@ receive.names: has type integer; it takes 'legacy' or 'utf8'
     ),
     Told(
         "receive = 2\nrule = 3\n[[send]]",
-        "send: has another type; it takes a table, [send]
-receive: has another type; it takes a table, [receive]
-rule: has another type; it takes a list of tables, each [[rule]]
+        "send: has the wrong type; it takes a table, [send]
+receive: has the wrong type; it takes a table, [receive]
+rule: has the wrong type; it takes a list of tables, each [[rule]]
 ",
     ),
     Told(
