@@ -63,6 +63,9 @@ digits_read has a b text held segment read ended stands is faulty = record {
   faulty = faulty;
 }
 
+pub stands_for : (text seen held slice : List ℕ) → read_text seen ≡ Ok held → seen ≡ text → slice ≡ held → read_text text ≡ Ok slice
+stands_for text seen held slice stands same is = ap read_text (sym same) ∙ stands ∙ ap (λ s. Ok s) (sym is)
+
 pub plans_digits : (choice : Choice) (a b left before after : Option (List ℕ)) (text held : List ℕ) → Consumes a b text → IsAtEnd b → read_text text ≡ Ok held → WritesPlan choice false (Some held) left before after → WritesPlan choice true a b before after
 plans_digits choice a b left before after text held read ended stands h =
     let input = h.1 in
@@ -77,7 +80,7 @@ plans_digits_part choice a b left before after text held read ended stands h =
 pub digits_to_fault : (f : TailFault) (a b left : Option (List ℕ)) (text held : List ℕ) → Consumes a b text → IsAtEnd b → read_text text ≡ Ok held → ReadsFault false f (Some held) left → ReadsFault true f a b
 digits_to_fault f a b None text held read ended stands h = absurd h.read
 digits_to_fault f a b (Some rest) text held read ended stands h =
-    (h.named, held, digits_read (Some f) a b text held held read ended stands refl (ap (λ s. fault (bytes s ∷ [])) h.read ∙ h.stays rest))
+    (h.named, (held, digits_read (Some f) a b text held held read ended stands refl (ap (λ s. fault (bytes s ∷ [])) h.read ∙ h.stays rest)))
 
 -- what follows of an answer that is `Ok`
 pub ok_so : {A E : Type 0} (r : Result A E) (P Q : Type 0) → (P → Q) → OnOk r P → OnOk r Q
