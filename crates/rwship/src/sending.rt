@@ -266,42 +266,6 @@ struct Unshipped {
     skipped_records: u64,
 }
 
-/// Ships what was prepared, and ends the reporting. Returns what was not shipped.
-fn ship<R: Threads + Wait + Clock + Copy + Send + 'static>(
-    rt: &HostRuntime,
-    threads: &R,
-    settings: Settings,
-    sending: &Sending<'_>,
-    shipment: Shipment,
-    is_explained: bool,
-) -> Result<Unshipped, FollowFault> {
-    let Shipment {
-        log,
-        connect,
-        stop,
-        counters,
-    } = shipment;
-    let options = SendOptions {
-        connect,
-        counters: &counters,
-        max_batch_bytes: sending.max_batch_bytes,
-        stop,
-    };
-    let outcome = ship_log(rt, threads, settings, log, options);
-    let unshipped = Unshipped {
-        dropped_samples: counters.dropped(),
-        skipped_records: counters.skipped().lost(),
-    };
-    if is_explained {
-        explain_missing(rt, sending, &counters);
-    }
-    end_reporting(rt, &sending.reporting, &Counters::Send(counters));
-    match outcome {
-        Ok(()) => Ok(unshipped),
-        Err(fault) => Err(fault),
-    }
-}
-
 /// Reports that a receiver cannot be looked up and, if that is asked for, why. Returns the exit
 /// status.
 fn report_lookup_error(
@@ -333,39 +297,6 @@ fn report_unshipped(rt: &HostRuntime, sending: &Sending<'_>, unshipped: Unshippe
     }
 }
 
-/// Reports how shipping ended and, if that is asked for, what is wrong with the folder. Returns the
-/// exit status.
-fn report_outcome(
-    rt: &HostRuntime,
-    sending: &Sending<'_>,
-    outcome: Result<Unshipped, FollowFault>,
-    is_explained: bool,
-) -> ExitCode {
-    match outcome {
-        Ok(unshipped) => report_unshipped(rt, sending, unshipped),
-        Err(fault) => log_fault(rt, sending.dir, fault, is_explained),
-    }
-}
-
-/// Looks the receiver up and prepares to ship. If that fails, it reports why, and returns the exit
-/// status.
-fn start<R: Threads>(
-    rt: &HostRuntime,
-    threads: &R,
-    sending: &Sending<'_>,
-    timeout_ms: Bounded<1, 3_600_000>,
-    is_explained: bool,
-) -> Result<Shipment, ExitCode> {
-    let to = sending.to;
-    match look_up(rt, rt.alloc(), to.name(), to.port) {
-        Ok(addresses) => match prepare(rt, threads, sending, addresses, timeout_ms) {
-            Ok(shipment) => Ok(shipment),
-            Err(fault) => Err(report_outcome(rt, sending, Err(fault), is_explained)),
-        },
-        Err(error) => Err(report_lookup_error(rt, to.name(), &error, is_explained)),
-    }
-}
-
 /// Returns whether the folder has no segment.
 fn is_empty(log: &Log) -> bool {
     match log {
@@ -385,30 +316,50 @@ fn note_empty(rt: &HostRuntime, sending: &Sending<'_>, is_explained: bool) {
     }
 }
 
-/// Ships a folder by settings.
-fn send_by<R: Threads + Wait + Clock + Copy + Send + 'static>(
+/// Looks the receiver up and prepares to ship. If that fails, it reports why, and returns the exit
+/// status.
+fn start<R: Threads>(
     rt: &HostRuntime,
     threads: &R,
-    settings: Settings,
     sending: &Sending<'_>,
+    timeout_ms: Bounded<1, 3_600_000>,
     is_explained: bool,
-) -> ExitCode {
-    let timeout_ms = settings.config.fields().timeout_ms;
+) -> Result<Shipment, ExitCode> {
     if is_explained || sending.reporting.has_progress {
         note_checkpoint(rt, sending.dir);
     }
-    match start(rt, threads, sending, timeout_ms, is_explained) {
-        Ok(shipment) => {
-            let has_nothing = is_empty(&shipment.log);
-            if has_nothing {
-                note_empty(rt, sending, is_explained);
-            }
-            match ship(rt, threads, settings, sending, shipment, is_explained) {
-                Ok(_) if has_nothing && sending.fails_on_empty => empty_status(),
-                outcome => report_outcome(rt, sending, outcome, is_explained),
-            }
-        }
-        Err(status) => status,
+    let to = sending.to;
+    match look_up(rt, rt.alloc(), to.name(), to.port) {
+        Ok(addresses) => match prepare(rt, threads, sending, addresses, timeout_ms) {
+            Ok(shipment) => Ok(shipment),
+            Err(fault) => Err(log_fault(rt, sending.dir, fault, is_explained)),
+        },
+        Err(error) => Err(report_lookup_error(rt, to.name(), &error, is_explained)),
+    }
+}
+
+/// Ends the reporting, and reports how shipping ended and, if that is asked for, what is wrong with
+/// the folder. Returns the exit status.
+fn finish(
+    rt: &HostRuntime,
+    sending: &Sending<'_>,
+    counters: Arc<SendCounters, Global>,
+    has_nothing: bool,
+    outcome: Result<(), FollowFault>,
+    is_explained: bool,
+) -> ExitCode {
+    let unshipped = Unshipped {
+        dropped_samples: counters.dropped(),
+        skipped_records: counters.skipped().lost(),
+    };
+    if is_explained {
+        explain_missing(rt, sending, &counters);
+    }
+    end_reporting(rt, &sending.reporting, &Counters::Send(counters));
+    match outcome {
+        Ok(()) if has_nothing && sending.fails_on_empty => empty_status(),
+        Ok(()) => report_unshipped(rt, sending, unshipped),
+        Err(fault) => log_fault(rt, sending.dir, fault, is_explained),
     }
 }
 
@@ -419,8 +370,31 @@ pub fn send<R: Threads + Wait + Clock + Copy + Send + 'static>(
     file: SettingsFile<'_>,
     sending: &Sending<'_>,
 ) -> ExitCode {
-    match settings_in(rt, file) {
-        Ok(settings) => send_by(rt, threads, settings, sending, file.is_explained),
-        Err(fault) => report_settings_fault(rt, fault),
+    let settings = match settings_in(rt, file) {
+        Ok(settings) => settings,
+        Err(fault) => return report_settings_fault(rt, fault),
+    };
+    let timeout_ms = settings.config.fields().timeout_ms;
+    match start(rt, threads, sending, timeout_ms, file.is_explained) {
+        Ok(Shipment {
+            log,
+            connect,
+            stop,
+            counters,
+        }) => {
+            let has_nothing = is_empty(&log);
+            if has_nothing {
+                note_empty(rt, sending, file.is_explained);
+            }
+            let options = SendOptions {
+                connect,
+                counters: &counters,
+                max_batch_bytes: sending.max_batch_bytes,
+                stop,
+            };
+            let outcome = ship_log(rt, threads, settings, log, options);
+            finish(rt, sending, counters, has_nothing, outcome, file.is_explained)
+        }
+        Err(status) => status,
     }
 }
