@@ -6,6 +6,7 @@ use Rattle.rw_worker.specs.declared.state.Sending.{Sending}
 use Rattle.rw_worker.specs.declared.state.Progress.{Progress}
 use Rattle.rw_worker.specs.declared.state.Progress.TheVariants.{Goes, Stops}
 use Rattle.rw_worker.specs.Report.{given_back}
+use Rattle.rw_worker.specs.Stops.{StopRead}
 
 -- no stop flag was read as set
 abbrev pub IsNotStopped : Progress → Type 0
