@@ -47,7 +47,7 @@ static ASKED: [Row<'static>; 7] = [
     ("half a request", b"GET /metrics", b""),
 ];
 
-const PAGE: &[u8] = b"# HELP rwship_receive_connections Connections that are served.
+const PAGE: &[u8] = b"# HELP rwship_receive_connections Open connections.
 # TYPE rwship_receive_connections gauge
 rwship_receive_connections 1
 # HELP rwship_receive_connections_total Connections that were accepted.
@@ -63,13 +63,13 @@ rwship_receive_requests_total{code=\"429\"} 1
 # HELP rwship_receive_samples_held Samples that are held.
 # TYPE rwship_receive_samples_held gauge
 rwship_receive_samples_held 17
-# HELP rwship_receive_label_sets Label sets of which samples are held.
+# HELP rwship_receive_label_sets Label sets that are held.
 # TYPE rwship_receive_label_sets gauge
 rwship_receive_label_sets 3
-# HELP rwship_receive_max_samples How many samples may be held; 0 if there is no limit.
+# HELP rwship_receive_max_samples Limit of held samples; 0 if none.
 # TYPE rwship_receive_max_samples gauge
 rwship_receive_max_samples 0
-# HELP rwship_receive_max_label_sets Of how many label sets samples may be held; 0 if there is no limit.
+# HELP rwship_receive_max_label_sets Limit of label sets; 0 if none.
 # TYPE rwship_receive_max_label_sets gauge
 rwship_receive_max_label_sets 0
 ";
