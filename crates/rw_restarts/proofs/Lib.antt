@@ -1,0 +1,11 @@
+mod AnswerLemmas
+mod BatchLemmas
+mod ExampleLemmas
+mod LogLemmas
+mod OrderLemmas
+mod PartLemmas
+mod RefusalLemmas
+mod RelayLemmas
+mod RunLemmas
+mod TurnLemmas
+mod WorkerLemmas
