@@ -58,6 +58,9 @@ rising_after-append before (p ∷ xs) ys =
     push_either (is_after_each p.0 before) p (rising_after (before ++ p ∷ []) (xs ++ ys)) (rising_after (before ++ p ∷ []) xs) (rising_after (before ++ p ∷ xs) ys)
     (rising_after-append (before ++ p ∷ []) xs ys ∙ ap (λ b. rising_after (before ++ p ∷ []) xs ++ rising_after b ys) (append_assoc before (p ∷ []) xs))
 
+pub rising-next : (ps : List Point) (p : Point) → rising (ps ++ p ∷ []) ≡ rising ps ++ cond (is_after_each p.0 ps) (p ∷ []) []
+rising-next ps p = rising_after-append [] ps (p ∷ [])
+
 -- ---- a list that rises
 is_after_all : (before : List Point) (p : Point) (ps : List Point) → Rises IsEarlier (before ++ p ∷ ps) → is_after_each p.0 before ≡ true
 is_after_all [] p ps h = refl

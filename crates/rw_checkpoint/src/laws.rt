@@ -1,7 +1,7 @@
 //! Laws of what a log owes a receiver, also if it is read from a checkpoint on. Each function has an
 //! empty body: its contract is the law.
 
-ghost use Rattle.std.specs.Prelude.{◌≡◌, ℤ, List, [], ◌++◌};
+ghost use Rattle.std.specs.Prelude.{◌≡◌, ℤ, if◌then◌else◌, List, [], ◌∷◌, ◌++◌};
 ghost use Rattle.rw_types.specs.Beginnings.{Begins};
 ghost use Rattle.rw_types.specs.Labels.{Labels};
 ghost use Rattle.rw_types.specs.Rising.{Rises};
@@ -10,17 +10,20 @@ ghost use Rattle.rw_wal_format.specs.Series.{samples_after};
 ghost use Rattle.rw_relabel.specs.declared.choice.Choice.{Choice};
 ghost use Rattle.rw_head.specs.Lists.{IsEarlier};
 ghost use Rattle.rw_head.specs.Order.{Point};
-ghost use Rattle.rw_checkpoint.specs.Owed.{pairs_of, rising, owed_of, EndsWith, those_from};
+ghost use Rattle.rw_checkpoint.specs.Owed.{pairs_of, is_after_each, rising};
+ghost use Rattle.rw_checkpoint.specs.Owed.{owed_of, EndsWith, those_from};
 ghost use Rattle.rw_checkpoint.specs.Checkpoints.{SaySame, IsCheckpointFor, IsInTime};
 
 /// Law: what a log owes of a label set rises, and is a prefix of what a longer log owes. Samples that
-/// rise are owed as they are.
+/// rise are owed as they are, and one more sample is owed if it is later than all before it.
 pub fn what_is_owed_rises()
     ensures rises { (choice : Choice) (log : List Entry) (l : Labels)
         → Rises IsEarlier (owed_of choice log l) }
     ensures longer { (choice : Choice) (log more : List Entry) (l : Labels)
         → Begins (owed_of choice log l) (owed_of choice (log ++ more) l) }
     ensures same { (ps : List Point) → Rises IsEarlier ps → rising ps ≡ ps }
+    ensures next { (ps : List Point) (p : Point) → rising (ps ++ p ∷ [])
+        ≡ rising ps ++ (if is_after_each p.0 ps then p ∷ [] else []) }
 {}
 
 /// Law: a log whose oldest segments were replaced by a checkpoint gives each label set, after the

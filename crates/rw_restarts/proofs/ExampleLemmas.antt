@@ -77,8 +77,14 @@ runs-are-over = each_run (IsRunOver whole) (in_order killed_run None refl) (in_o
 list_is : (xs : List Point) (store : Store) → list_of (with_list series xs store) series ≡ xs
 list_is xs store = list_of-with_list series xs store series ∙ ap (λ b. cond b xs (list_of store series)) itself
 
+-- the label set is not refused
+taken_series : refusal limits series ≡ None
+taken_series = refl
+
 takes : (p : Point) (store : Store) (xs ys : List Point) → list_of store series ≡ xs → accept (Some xs) (p ∷ []) ≡ Some ys → taken_all limits (Ok store) (message_of p) ≡ Ok (with_list series ys store)
-takes p store xs ys has gives = ap (accepted series store) (ap (λ zs. accept (Some zs) (p ∷ [])) has ∙ gives)
+takes p store xs ys has gives =
+    ap (λ o. taken_unless o store (record { labels = series; samples = (p.1, p.0) ∷ [] })) taken_series
+    ∙ ap (λ zs. accepted series store (accept (Some zs) (p ∷ []))) has ∙ ap (accepted series store) gives
 
 grows : (store : Store) (l : Labels) → Begins (list_of (with_list series (first ∷ []) store) l) (list_of (with_both (with_list series (first ∷ []) store)) l)
 grows store l =
@@ -156,7 +162,7 @@ nothing_earlier i run l ys at = each_run (λ (r : SenderRun). Begins (r.earlier 
 
 pub receiver-is : IsReceiverOf limits runs events states
 receiver-is = record {
-  within = λ i n run x sent. each_message (λ i n (x : SentMessage). AreWithinLimits limits x.message) (refl, tt) (refl, tt) (refl, tt) (refl, tt) i n run x sent.exists sent.is;
+  within = λ i n run x sent. each_message (λ i n (x : SentMessage). AreWithinLimits limits x.message) (taken_series, tt) (taken_series, tt) (taken_series, tt) (taken_series, tt) i n run x sent.exists sent.is;
   begins = refl;
   happens = happens;
   answers = record {

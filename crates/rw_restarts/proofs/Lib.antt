@@ -7,5 +7,6 @@ mod PartLemmas
 mod RefusalLemmas
 mod RelayLemmas
 mod RunLemmas
+mod SenderLemmas
 mod TurnLemmas
 mod WorkerLemmas

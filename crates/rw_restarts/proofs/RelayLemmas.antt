@@ -1,5 +1,7 @@
 -- What a second receiver holds of the log of a first one.
-use Rattle.std.proofs.Common.{◌≡◌, ℕ, Bool, true, false, cond, List, [], ◌∷◌, ◌++◌, length, slice_get, Some, refl, sym, ap, ◌∙◌, subst}
+use Rattle.std.proofs.Common.{◌≡◌, ℕ, Bool, true, false, cond, List, [], ◌∷◌, ◌++◌, length, map, slice_get, Some, refl, sym, ap, ◌∙◌, subst}
+use Rattle.std.specs.Ordering.{nat_cmp}
+use Rattle.std.specs.FinMap.{FinMap}
 use Rattle.rw_types.specs.Beginnings.{Begins}
 use Rattle.rw_types.specs.Labels.{Labels}
 use Rattle.rw_types.specs.Rising.{Rises}
@@ -9,7 +11,7 @@ use Rattle.rw_types.proofs.shared.RisingLemmas.{Rises-left}
 use Rattle.rw_wal_format.specs.Pieces.{page_size}
 use Rattle.rw_wal_format.specs.Series.{samples_after}
 use Rattle.rw_relabel.specs.declared.choice.Choice.{Choice}
-use Rattle.rw_series_cache.specs.Points.{is_kept}
+use Rattle.rw_series_cache.specs.Points.{is_kept, kept_points}
 use Rattle.rw_journal.specs.Journal.{Segments}
 use Rattle.rw_journal.specs.Logs.{entries_of}
 use Rattle.rw_wal_append.specs.Additions.{samples_in}
@@ -23,7 +25,9 @@ use Rattle.rw_checkpoint.specs.Owed.{pairs_of, rising, owed_of}
 use Rattle.rw_restarts.specs.Runs.{SenderRun, acknowledged_in}
 use Rattle.rw_restarts.specs.Receivers.{ReceiverEvent, ReceiverState, IsReceiverOf}
 use Rattle.rw_restarts.specs.Logs.{AreRunsOverLog, IsRunOverPart, HoldsLog}
-use Rattle.rw_restarts.specs.Relay.{ReadsSegments, AllReadSegments, IsRelayed}
+use Rattle.rw_ledger.specs.declared.ledger.Reason.{Reason}
+use Rattle.rw_machine.specs.Promises.{owed, pair_of}
+use Rattle.rw_restarts.specs.Relay.{ReadsSegments, AllReadSegments, IsRelayed, IsRelayedLess}
 
 -- a list that rises is what rises of it
 abbrev RisesAsItIs : Type 0
@@ -147,3 +151,16 @@ pub read-after-crash : (choice : Choice) (old new : Store) (segments left : Segm
     → ReadsSegments choice segments run → ReadsSegments choice left run
 read-after-crash choice old new segments left run says between =
     read-of-more choice segments left run (λ l. subst (λ ys. Begins ys (samples_in (entries_of page_size left) l)) (says l) (between l).0)
+
+-- ---- one run that reports what it lacks
+pub relayed-less : (choice : Choice) (names : FinMap nat_cmp Reason) (read : List Entry) (first second : Store) (segments : Segments) (l : Labels) → SaysWhat segments first
+    → Begins (samples_in read l) (samples_in (entries_of page_size segments) l) → is_kept choice l ≡ true → list_of second l ≡ map pair_of (owed names (kept_points choice read l))
+    → IsRelayedLess names read first second l
+relayed-less choice names read first second segments l says b keep holds = record {
+  prefix = subst (Begins (samples_in read l)) (sym (says l)) b;
+  less = record {
+    logged = samples_after l [] read;
+    first_is = refl;
+    second_is = holds ∙ ap (λ k. map pair_of (owed names (cond k (samples_after l [] read) []))) keep;
+  };
+}

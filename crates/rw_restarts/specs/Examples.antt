@@ -15,9 +15,9 @@ use Rattle.rw_head.specs.Verdicts.{LabelLimits}
 use Rattle.rw_restarts.specs.Runs.{SentMessage, SenderRun}
 use Rattle.rw_restarts.specs.Receivers.{ReceiverEvent, Answers, RestartsDuring, ReceiverState, empty_receiver}
 
--- the label set {a="b"}, and its samples in the log
+-- the label set without labels, and its samples in the log
 abbrev pub series : Labels
-series = (97 ∷ [], 98 ∷ []) ∷ []
+series = []
 
 abbrev pub first : Point
 first = (pos 10, 1)

@@ -5,4 +5,5 @@ pub mod Receivers
 pub mod Refusals
 pub mod Relay
 pub mod Runs
+pub mod Senders
 pub mod Workers

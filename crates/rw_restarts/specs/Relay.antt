@@ -1,5 +1,7 @@
 -- A second receiver, to which the log is sent that a first receiver keeps of what it holds.
-use Rattle.std.specs.Prelude.{◌≡◌, ℕ, true, false, List, [], Some, slice_get}
+use Rattle.std.specs.Prelude.{◌≡◌, ℕ, true, false, List, [], map, Some, slice_get}
+use Rattle.std.specs.Ordering.{nat_cmp}
+use Rattle.std.specs.FinMap.{FinMap}
 use Rattle.rw_types.specs.Beginnings.{Begins}
 use Rattle.rw_types.specs.Labels.{Labels}
 use Rattle.rw_types.specs.declared.entry.Entry.{Entry}
@@ -9,7 +11,10 @@ use Rattle.rw_series_cache.specs.Points.{is_kept}
 use Rattle.rw_journal.specs.Journal.{Segments}
 use Rattle.rw_journal.specs.Logs.{entries_of}
 use Rattle.rw_wal_append.specs.Additions.{samples_in}
+use Rattle.rw_ledger.specs.declared.ledger.Reason.{Reason}
+use Rattle.rw_head.specs.Order.{Point}
 use Rattle.rw_head.specs.Store.{Store, list_of}
+use Rattle.rw_machine.specs.Promises.{LoggedPoint, owed, pair_of}
 use Rattle.rw_checkpoint.specs.Owed.{owed_of}
 use Rattle.rw_restarts.specs.Runs.{SenderRun, acknowledged_in}
 use Rattle.rw_restarts.specs.Logs.{SendsOwed}
@@ -44,3 +49,18 @@ pub record IsRelayed (choice : Choice) (segments : Segments) (runs : List Sender
       → is_kept choice l ≡ true
       → acknowledged_in l run.sent ≡ owed_of choice (entries_of page_size segments) l
       → list_of second l ≡ list_of first l
+
+-- The second list has the samples of the first one, in order, each once, less those at positions of
+-- the log that are named.
+pub record IsLessNamed (names : FinMap nat_cmp Reason) (first second : List Point) : Type 0 where
+  pub logged : List LoggedPoint
+  pub first_is : first ≡ map pair_of logged
+  pub second_is : second ≡ map pair_of (owed names logged)
+
+-- What the report of one run says that began with an empty receiver: the samples of a label set
+-- that it read are a prefix of what the first receiver holds, and the second one holds these, less
+-- those that the report names.
+pub record IsRelayedLess (names : FinMap nat_cmp Reason) (read : List Entry) (first second : Store)
+    (l : Labels) : Type 0 where
+  pub prefix : Begins (samples_in read l) (list_of first l)
+  pub less : IsLessNamed names (samples_in read l) (list_of second l)

@@ -2,15 +2,19 @@
 //! This crate has only laws: nothing here runs.
 #![tactic(auto)]
 
+mod examples;
 mod logs;
 mod relay;
 mod runs;
+mod senders;
 mod workers;
 
+pub use examples::a_small_history_is_allowed;
 pub use logs::{a_run_over_a_part_is_a_run_over_the_log, many_runs_hold_one_log};
 pub use relay::{a_relay_holds_what_the_first_receiver_holds, what_was_read_stays_in_the_log};
 pub use runs::{
     a_head_answers_so, acknowledged_samples_stay, many_runs_fill_one_head,
     what_comes_next_is_accepted,
 };
+pub use senders::{a_sender_with_one_shard_is_a_run, what_is_put_is_what_is_owed};
 pub use workers::{a_batch_has_its_samples, a_worker_sends_in_order, a_worker_sends_its_samples};

@@ -1,5 +1,5 @@
 use Rattle.rw_checkpoint.proofs.CheckpointLemmas.{owed-rises, owed-longer}
-use Rattle.rw_checkpoint.proofs.OwedLemmas.{rising-itself}
+use Rattle.rw_checkpoint.proofs.OwedLemmas.{rising-itself, rising-next}
 use Rattle.rw_checkpoint.proofs.laws.what_is_owed_rises.Goals as goal
 
 pub returns-clause-rises : goal.returns-clause-rises
@@ -10,3 +10,6 @@ returns-clause-longer c = owed-longer
 
 pub returns-clause-same : goal.returns-clause-same
 returns-clause-same c = rising-itself
+
+pub returns-clause-next : goal.returns-clause-next
+returns-clause-next c = rising-next
