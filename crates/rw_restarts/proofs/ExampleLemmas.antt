@@ -1,5 +1,5 @@
 -- The small history is one of those that the laws speak of.
-use Rattle.std.proofs.Common.{◌≡◌, ◌≢◌, ℕ, zero, suc, ◌<◌, Bool, true, false, cond, List, [], ◌∷◌, ◌++◌, length, slice_get, Option, Some, None, Result, Ok, refl, sym, ap, ◌∙◌, subst, arith}
+use Rattle.std.proofs.Common.{◌≡◌, ℕ, zero, suc, ◌<◌, Bool, true, false, cond, List, [], ◌∷◌, ◌++◌, length, slice_get, Option, Some, None, Ok, refl, sym, ap, ◌∙◌, subst, arith}
 use Rattle.std.proofs.lemmas.Option.{same_Some}
 use Rattle.std.specs.FinMap.{empty}
 use Rattle.rw_types.specs.Beginnings.{Begins}
@@ -8,15 +8,14 @@ use Rattle.rw_types.specs.Labels.{Labels}
 use Rattle.rw_types.specs.LabelOrder.{labels_eq}
 use Rattle.rw_types.proofs.shared.OrderLemmas.{equal_if_same}
 use Rattle.rw_retry.specs.declared.judgement.Judgement.{Judgement}
-use Rattle.rw_retry.specs.declared.judgement.Judgement.TheVariants.{Done, Again, Refused}
-use Rattle.rw_head.specs.declared.verdict.Verdict.{Verdict}
+use Rattle.rw_retry.specs.declared.judgement.Judgement.TheVariants.{Done, Again}
 use Rattle.rw_head.specs.Order.{Point, accept}
 use Rattle.rw_head.specs.Store.{Store, list_of, with_list}
 use Rattle.rw_head.specs.Verdicts.{accepted, refusal, taken_all, taken_unless}
 use Rattle.rw_head.proofs.shared.StoreLemmas.{list_of-empty, list_of-with_list}
 use Rattle.rw_restarts.specs.Parts.{points_in, AreWithinLimits}
 use Rattle.rw_restarts.specs.Runs.{SentMessage, SenderRun, IsSentBy, IsRunOver, AreRunsOver, acknowledged_in}
-use Rattle.rw_restarts.specs.Receivers.{ReceiverEvent, Answers, Restarts, RestartsDuring, ReceiverState, Brings, Happens, IsAnsweredAmong, IsReceiverOf}
+use Rattle.rw_restarts.specs.Receivers.{ReceiverEvent, Answers, RestartsDuring, Brings, Happens, IsAnsweredAmong, IsReceiverOf}
 use Rattle.rw_restarts.specs.Examples.{series, first, second, whole, message_of, sent_with, killed_run, second_run, runs, limits, events, with_first, with_both, states}
 
 nothing_at : {X : Type 0} (x : X) (n : ℕ) → (let none : List X = [] in slice_get none n ≡ Some x) → ⊥

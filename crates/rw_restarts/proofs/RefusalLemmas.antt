@@ -11,7 +11,6 @@ use Rattle.rw_types.proofs.shared.BeginningLemmas.{begins_itself, begins_twice}
 use Rattle.rw_types.proofs.shared.RisingLemmas.{Rises-left}
 use Rattle.rw_types.proofs.shared.OrderLemmas.{same_if_equal}
 use Rattle.rw_write_request.specs.Message.{TimeSeries, WriteRequest}
-use Rattle.rw_retry.specs.declared.judgement.Judgement.{Judgement}
 use Rattle.rw_retry.specs.declared.judgement.Judgement.TheVariants.{Done, Again, Refused}
 use Rattle.rw_head.specs.declared.verdict.Verdict.{Verdict}
 use Rattle.rw_head.specs.Growth.{EachRises}

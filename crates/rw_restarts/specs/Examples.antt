@@ -1,7 +1,7 @@
 -- A small history of two runs. The first one is acknowledged one of its two messages, and is killed
 -- before it has an answer to the other one, while the receiver is started again: what came with it
 -- is kept, but was not acknowledged. The second run sends both again, and has answers.
-use Rattle.std.specs.Prelude.{ℕ, zero, suc, ℤ, pos, List, [], ◌∷◌, if◌then◌else◌, Option, Some, None}
+use Rattle.std.specs.Prelude.{ℕ, zero, suc, pos, List, [], ◌∷◌, if◌then◌else◌, Option, Some, None}
 use Rattle.std.specs.FinMap.{empty}
 use Rattle.rw_types.specs.Labels.{Labels}
 use Rattle.rw_types.specs.LabelOrder.{labels_eq}
