@@ -8,5 +8,6 @@ mod RefusalLemmas
 mod RelayLemmas
 mod RunLemmas
 mod SenderLemmas
+mod ShardLemmas
 mod TurnLemmas
 mod WorkerLemmas

@@ -48,7 +48,7 @@ no_more (x ∷ xs) more rest e = ap (λ ys. x ∷ ys) (no_more xs more rest (tai
 Begins-both : (xs ys : List Point) → Begins xs ys → Begins ys xs → ys ≡ xs
 Begins-both xs ys a b = a.1 ∙ no_more xs a.0 b.0 (b.1 ∙ ap (λ zs. zs ++ b.0) a.1)
 
-no_samples : (xs : List Point) → Begins xs [] → xs ≡ []
+pub no_samples : (xs : List Point) → Begins xs [] → xs ≡ []
 no_samples [] b = refl
 no_samples (x ∷ xs) b = absurd (no_cons b.1)
   where

@@ -122,7 +122,7 @@ pub sent-is-owed : OwesNext → (choice : Choice) (log : List Entry) (l : Labels
 sent-is-owed owes_next choice log l = entries_from owes_next choice l [] log (sym (none_owed (is_kept choice l)))
 
 -- ---- a sender with one shard
-same_samples : (l : Labels) (ps : List Placed) → samples_in_batch l ps ≡ samples_sent l (map as_sent ps)
+pub same_samples : (l : Labels) (ps : List Placed) → samples_in_batch l ps ≡ samples_sent l (map as_sent ps)
 same_samples l [] = refl
 same_samples l (p ∷ ps) = by_label (labels_eq l p.labels) (same_samples l ps)
   where

@@ -1,5 +1,5 @@
 -- The requests of a worker go through its samples in order.
-use Rattle.std.proofs.Common.{◌≡◌, Bool, true, false, not, ◌&&◌, ◌==◌, cond, List, [], ◌∷◌, ◌++◌, append_assoc, Result, Ok, Err, refl, sym, ap, ◌∙◌, subst}
+use Rattle.std.proofs.Common.{◌≡◌, Bool, true, false, not, ◌&&◌, ◌==◌, cond, List, [], ◌∷◌, ◌++◌, append-nil, append_assoc, Result, Ok, Err, refl, sym, ap, ◌∙◌, subst}
 use Rattle.std.proofs.lemmas.Bool.{and_from, and_parts, cond-true, not-true}
 use Rattle.std.proofs.lemmas.Bool.Decides.{Decides-eqb}
 use Rattle.rw_retry.specs.Judgements.{judgement_of}
@@ -8,12 +8,12 @@ use Rattle.rw_retry.specs.declared.judgement.Judgement.TheVariants.{Done, Again,
 use Rattle.rw_plain_queue.specs.Items.{Placed, samples_in}
 use Rattle.rw_plain_queue.specs.declared.item.Item.TheVariants.{Sample, Flush, End}
 use Rattle.rw_batch.specs.declared.batch.BatchId.{BatchId}
-use Rattle.rw_shard_core.specs.Shard.{Core, is_empty, batch_id, same_id, can_freeze, freeze, can_send, send, awaits, lose, again, resolve, settle, is_answer, reply, placed}
+use Rattle.rw_shard_core.specs.Shard.{Core, is_empty, pending, batch_id, same_id, can_freeze, freeze, can_send, send, awaits, lose, again, resolve, settle, is_answer, reply, placed}
 use Rattle.rw_shard_core.proofs.shared.EmptyLemmas.{nil_from_empty}
 use Rattle.rw_worker.specs.declared.transport.Reply.{Reply}
 use Rattle.rw_worker.specs.declared.transport.Lost.{Lost}
 use Rattle.rw_worker.specs.Setups.{WorkerSetup, start_of}
-use Rattle.rw_worker.specs.Steps.{Working, Step, Takes, Freezes, Sends, Waits, AreSteps, after_step, after_attempt, items_of, exchanges_of}
+use Rattle.rw_worker.specs.Steps.{Working, Step, Takes, Freezes, Sends, Waits, AreSteps, after, after_step, after_attempt, items_of, exchanges_of}
 use Rattle.rw_worker.specs.Transcript.{is_again, is_again_by}
 use Rattle.rw_restarts.specs.Workers.{SendInOrder, WorkerSendsInOrder}
 
@@ -24,8 +24,8 @@ same_id_own d = and_from (d.epoch == d.epoch && d.shard == d.shard) (d.seq == d.
 abbrev to_come : Core → List Step → List Placed
 to_come c ss = c.batch ++ (c.builder ++ samples_in (items_of ss))
 
-abbrev Goes : Core → List Step → Type 0
-Goes c ss = SendInOrder c.target (to_come c ss) (exchanges_of ss)
+abbrev Goes : Core → List Step → List Placed → Type 0
+Goes c ss last = SendInOrder c.target (to_come c ss) (exchanges_of ss) last
 
 -- ---- an attempt
 abbrev sent : Core → Core
@@ -59,29 +59,31 @@ answers (Ok r) w h =
     ∙ settles (judgement_of r.status) w.core
 answers (Err lost) w h = ap lose (sends w.core h) ∙ cond-true (awaits (sent w.core)) (again (sent w.core)) (sent w.core) (waits w.core h)
 
-by_again : (b : Bool) (c : Core) (ss : List Step) → Goes (after_answer b c) ss → SendInOrder c.target (cond b (to_come c ss) (c.builder ++ samples_in (items_of ss))) (exchanges_of ss)
-by_again true c ss h = h
-by_again false c ss h = h
+by_again : (b : Bool) (c : Core) (ss : List Step) (last : List Placed) → Goes (after_answer b c) ss last
+    → SendInOrder c.target (cond b (to_come c ss) (c.builder ++ samples_in (items_of ss))) (exchanges_of ss) last
+by_again true c ss last h = h
+by_again false c ss last h = h
 
 -- ---- a builder is frozen
 abbrev frozen : Core → Core
 frozen c = record c { builder = []; marked = false; batch = c.builder; waiting = false }
 
-freezes : (c : Core) (ss : List Step) → can_freeze c ≡ true → Goes (freeze c) ss → Goes c ss
-freezes c ss h goes =
+freezes : (c : Core) (ss : List Step) (last : List Placed) → can_freeze c ≡ true → Goes (freeze c) ss last → Goes c ss last
+freezes c ss last h goes =
     let none : c.batch ≡ [] = nil_from_empty c.batch (and_parts (is_empty c.batch) (not (is_empty c.builder)) (and_parts (not c.killed) (is_empty c.batch && not (is_empty c.builder)) h).1).0 in
-    subst (λ ys. SendInOrder c.target ys (exchanges_of ss)) (ap (λ ys. ys ++ (c.builder ++ samples_in (items_of ss))) (sym none))
-    (subst (λ (k : Core). Goes k ss) (cond-true (can_freeze c) (frozen c) c h) goes)
+    subst (λ ys. SendInOrder c.target ys (exchanges_of ss) last) (ap (λ ys. ys ++ (c.builder ++ samples_in (items_of ss))) (sym none))
+    (subst (λ (k : Core). Goes k ss last) (cond-true (can_freeze c) (frozen c) c h) goes)
 
 -- ---- all steps
-goes : (w : Working) (ss : List Step) → AreSteps w ss → Goes w.core ss
-goes w [] h = tt
+goes : (w : Working) (ss : List Step) → AreSteps w ss → Goes w.core ss (pending (after w ss).core)
+goes w [] h = ap (λ ys. w.core.batch ++ ys) (append-nil w.core.builder)
 goes w (Takes (Sample place t word labels) ∷ ss) h =
-    subst (λ ys. SendInOrder w.core.target (w.core.batch ++ ys) (exchanges_of ss)) (append_assoc w.core.builder (placed place t word labels.value ∷ []) (samples_in (items_of ss)))
+    subst (λ ys. SendInOrder w.core.target (w.core.batch ++ ys) (exchanges_of ss) (pending (after w (Takes (Sample place t word labels) ∷ ss)).core))
+    (append_assoc w.core.builder (placed place t word labels.value ∷ []) (samples_in (items_of ss)))
     (goes (after_step (Takes (Sample place t word labels)) w) ss h.1)
 goes w (Takes Flush ∷ ss) h = goes (after_step (Takes Flush) w) ss h.1
 goes w (Takes (End kind) ∷ ss) h = goes (after_step (Takes (End kind)) w) ss h.1
-goes w (Freezes ∷ ss) h = freezes w.core ss h.0.1 (goes (after_step Freezes w) ss h.1)
+goes w (Freezes ∷ ss) h = freezes w.core ss (pending (after w (Freezes ∷ ss)).core) h.0.1 (goes (after_step Freezes w) ss h.1)
 goes w (Sends e ∷ ss) h = (
   w.core.batch,
   w.core.builder ++ samples_in (items_of ss),
@@ -89,7 +91,8 @@ goes w (Sends e ∷ ss) h = (
   not-true (is_empty w.core.batch) (is_open w.core h.0.0).1,
   h.0.2,
   h.0.1,
-  by_again (is_again e.answer) w.core ss (subst (λ (k : Core). Goes k ss) (answers e.answer w h.0.0) (goes (after_step (Sends e) w) ss h.1)),
+  by_again (is_again e.answer) w.core ss (pending (after w (Sends e ∷ ss)).core)
+      (subst (λ (k : Core). Goes k ss (pending (after w (Sends e ∷ ss)).core)) (answers e.answer w h.0.0) (goes (after_step (Sends e) w) ss h.1)),
 )
 goes w (Waits ∷ ss) h = goes w ss h.1
 

@@ -6,4 +6,5 @@ pub mod Refusals
 pub mod Relay
 pub mod Runs
 pub mod Senders
+pub mod Shards
 pub mod Workers

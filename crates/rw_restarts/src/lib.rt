@@ -16,5 +16,7 @@ pub use runs::{
     a_head_answers_so, acknowledged_samples_stay, many_runs_fill_one_head,
     what_comes_next_is_accepted,
 };
-pub use senders::{a_sender_with_one_shard_is_a_run, what_is_put_is_what_is_owed};
+pub use senders::{
+    a_sender_in_one_epoch_is_a_run, a_sender_with_one_shard_is_a_run, what_is_put_is_what_is_owed,
+};
 pub use workers::{a_batch_has_its_samples, a_worker_sends_in_order, a_worker_sends_its_samples};
