@@ -1,5 +1,5 @@
-//! Laws of what a log owes a receiver, also if it is read from a checkpoint on. Each function has an
-//! empty body: its contract is the law.
+//! Laws of what a log owes a receiver, also if it is read from a checkpoint on. Each function has
+//! an empty body: its contract is the law.
 
 ghost use Rattle.std.specs.Prelude.{◌≡◌, ℤ, if◌then◌else◌, List, [], ◌∷◌, ◌++◌};
 ghost use Rattle.rw_types.specs.Beginnings.{Begins};
@@ -14,8 +14,8 @@ ghost use Rattle.rw_checkpoint.specs.Owed.{pairs_of, is_after_each, rising};
 ghost use Rattle.rw_checkpoint.specs.Owed.{owed_of, EndsWith, those_from};
 ghost use Rattle.rw_checkpoint.specs.Checkpoints.{SaySame, IsCheckpointFor, IsInTime};
 
-/// Law: what a log owes of a label set rises, and is a prefix of what a longer log owes. Samples that
-/// rise are owed as they are, and one more sample is owed if it is later than all before it.
+/// Law: what a log owes of a label set rises, and is a prefix of what a longer log owes. Samples
+/// that rise are owed as they are, and one more sample is owed if it is later than all before it.
 pub fn what_is_owed_rises()
     ensures rises { (choice : Choice) (log : List Entry) (l : Labels)
         → Rises IsEarlier (owed_of choice log l) }

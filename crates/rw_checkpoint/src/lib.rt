@@ -1,5 +1,5 @@
-//! What a log owes a receiver, also if its oldest segments were replaced by a checkpoint. This crate
-//! has only laws: nothing here runs.
+//! What a log owes a receiver, also if its oldest segments were replaced by a checkpoint. This
+//! crate has only laws: nothing here runs.
 #![tactic(auto)]
 
 mod laws;

@@ -25,7 +25,7 @@ use Rattle.rw_types.specs.Beginnings.{Begins}
 use Rattle.rw_restarts.specs.Parts.{points_in}
 use Rattle.rw_restarts.specs.Runs.{SentMessage, acknowledged_in}
 use Rattle.rw_restarts.specs.Workers.{samples_in_batch, SendsSamples, WorkerSendsSamples}
-use Rattle.rw_restarts.specs.Senders.{samples_sent, IsRunOfWorker}
+use Rattle.rw_restarts.specs.Senders.{samples_sent}
 
 abbrev Logged : Type 0
 Logged = List (ℕ × ℤ × ℕ)
@@ -38,7 +38,7 @@ same_after : (t : ℤ) (ps : Logged) → is_after_all t ps ≡ is_after_each t (
 same_after t [] = refl
 same_after t (p ∷ ps) = ap (λ b. int_lt p.1 t && b) (same_after t ps)
 
-samples_sent-append : (l : Labels) (xs ys : List Sent) → samples_sent l (xs ++ ys) ≡ samples_sent l xs ++ samples_sent l ys
+pub samples_sent-append : (l : Labels) (xs ys : List Sent) → samples_sent l (xs ++ ys) ≡ samples_sent l xs ++ samples_sent l ys
 samples_sent-append l xs ys =
     ap (map (λ (s : Sent). (s.t, s.word))) (filter-append (λ (s : Sent). labels_eq l s.labels) xs ys)
     ∙ map-append (λ (s : Sent). (s.t, s.word)) (filter (λ (s : Sent). labels_eq l s.labels) xs) (filter (λ (s : Sent). labels_eq l s.labels) ys)
@@ -121,7 +121,7 @@ none_owed false = refl
 pub sent-is-owed : OwesNext → (choice : Choice) (log : List Entry) (l : Labels) → samples_sent l (sent choice log) ≡ owed_of choice log l
 sent-is-owed owes_next choice log l = entries_from owes_next choice l [] log (sym (none_owed (is_kept choice l)))
 
--- ---- a sender with one shard
+-- ---- the samples of a queue
 pub same_samples : (l : Labels) (ps : List Placed) → samples_in_batch l ps ≡ samples_sent l (map as_sent ps)
 same_samples l [] = refl
 same_samples l (p ∷ ps) = by_label (labels_eq l p.labels) (same_samples l ps)
@@ -137,18 +137,3 @@ same_samples l (p ∷ ps) = by_label (labels_eq l p.labels) (same_samples l ps)
         ≡ map {B = Point} (λ (s : Sent). (s.t, s.word)) (cond b (as_sent p ∷ sent_rest) sent_rest)
     by_label true h = ap (λ ys. (p.t, p.word) ∷ ys) h
     by_label false h = h
-
-pub one-shard : OwesNext → ((setup : WorkerSetup) (steps : List Step) → AreSteps (start_of setup) steps → WorkerSendsSamples setup steps)
-    → ((taken more : List Placed) (sent : List SentMessage) → SendsSamples taken sent → SendsSamples (taken ++ more) sent)
-    → (setup : WorkerSetup) (steps : List Step) (more : List Placed) (choice : Choice) (log : List Entry) → AreSteps (start_of setup) steps
-    → map as_sent (samples_in (items_of steps) ++ more) ≡ sent choice log → IsRunOfWorker choice log setup steps
-one-shard owes_next sends further setup steps more choice log h put =
-    let worker = sends setup steps h in
-    record {
-      sent = worker.sent;
-      exchanges = worker.exchanges;
-      sends = λ n x l is fine.
-          subst (Begins (acknowledged_in l (take n worker.sent) ++ points_in l x.message))
-          (same_samples l (samples_in (items_of steps) ++ more) ∙ ap (samples_sent l) put ∙ sent-is-owed owes_next choice log l)
-          (further (samples_in (items_of steps)) more worker.sent worker.sends n x l is fine);
-    }

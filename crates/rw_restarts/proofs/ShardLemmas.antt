@@ -1,4 +1,4 @@
--- The workers of one epoch together send what the log owes.
+-- The workers of all epochs together send what the log owes.
 use Rattle.std.proofs.Common.{◌≡◌, ℕ, ℤ, zero, suc, ◌+◌, ◌<◌, ◌≤◌, ◌==◌, ◌%◌, Bool, true, false, cond, eq-eqb, List, [], ◌∷◌, ◌++◌, length, map, filter, take, slice_get, append-nil, append_assoc, Option, Some, None, refl, sym, ap, ◌∙◌, subst, arith}
 use Rattle.std.specs.List.{AllByRecursion}
 use Rattle.std.proofs.lemmas.Bool.Decides.{nat_tests}
@@ -29,16 +29,17 @@ use Rattle.rw_shard_core.specs.Shard.{pending}
 use Rattle.rw_worker.specs.Steps.{Step, AreSteps, after, items_of}
 use Rattle.rw_fleet.specs.ShardHistories.{ShardHistory}
 use Rattle.rw_sender.specs.Logs.{Sent, sent, sent_of, sent_by_fate}
-use Rattle.rw_sender.specs.Placement.{as_sent, of_shard, shard_of, samples_put, IsDealt}
+use Rattle.rw_sender.specs.Placement.{as_sent, of_shard, shard_of, samples_put, IsDealt, Places}
 use Rattle.rw_head.specs.Order.{Point}
 use Rattle.rw_checkpoint.specs.Owed.{owed_of}
 use Rattle.rw_restarts.specs.Parts.{points_in}
 use Rattle.rw_restarts.specs.Runs.{SentMessage, acknowledged_by, acknowledged_in, NoneRefused}
 use Rattle.rw_restarts.specs.Workers.{samples_in_batch, SendsSamples, NeverRefused, WorkerSendsSamples}
 use Rattle.rw_restarts.specs.Senders.{samples_sent}
-use Rattle.rw_restarts.specs.Shards.{HasMadeSteps, HaveMadeSteps, AreDone, AreExchangesOfShards, IsRunOfShards}
+use Rattle.rw_restarts.specs.Shards.{HasMadeSteps, HaveMadeSteps, AreDone, AreExchangesOfShards, AreExchangesOfEpochs, HaveRun, AreAllDone, IsRunOfEpochs}
 use Rattle.rw_restarts.proofs.RelayLemmas.{no_samples}
-use Rattle.rw_restarts.proofs.SenderLemmas.{same_samples}
+use Rattle.rw_restarts.proofs.LogLemmas.{Begins-after}
+use Rattle.rw_restarts.proofs.SenderLemmas.{samples_sent-append, same_samples}
 
 -- ---- messages of one label set
 -- each message has what comes next of the list, unless one was refused
@@ -97,10 +98,12 @@ silent_at l (suc n) x (y ∷ ys) all e = silent_at l n x ys all.1 e
 silent_if_none : (l : Labels) (xs : List SentMessage) → SendsList l [] xs → AreSilent l xs
 silent_if_none l [] s = tt
 silent_if_none l (x ∷ xs) s =
-    let own : points_in l x.message ≡ [] = no_samples (points_in l x.message) (s 0 x refl (none_before l (x ∷ xs))) in
-    (own, silent_if_none l xs (λ n y is fine.
-        subst (λ ys. Begins ((ys ++ acknowledged_in l (take n xs)) ++ points_in l y.message) []) (no_acknowledged l x x.judgement own)
-        (s (suc n) y is (first_unrefused l x n xs (λ _. own) fine))))
+    let own : points_in l x.message ≡ [] = no_samples (points_in l x.message) (s 0 x refl (none_before l (x ∷ xs))) in (
+      own,
+      silent_if_none l xs (λ n y is fine.
+          subst (λ ys. Begins ((ys ++ acknowledged_in l (take n xs)) ++ points_in l y.message) []) (no_acknowledged l x x.judgement own)
+          (s (suc n) y is (first_unrefused l x n xs (λ _. own) fine))),
+    )
 
 -- ---- messages one after the other
 before_silent : (l : Labels) (whole : List Point) (xs ys : List SentMessage) → AreSilent l xs → SendsList l whole ys → SendsList l whole (xs ++ ys)
@@ -234,17 +237,14 @@ all_from_each P k (x ∷ xs) each = (
   all_from_each P (suc k) xs (λ j y e. subst (λ i. P i y) (omega arith) (each (suc j) y e)),
 )
 
-module _ (choice : Choice) (log : List Entry) (n : ℕ) (steps : ℕ → List Step) where
-  abbrev all_sent : List Sent
-  all_sent = sent choice log
-
+module _ (choice : Choice) (log : List Entry) (all_sent : List Sent) (numbered : AllByRecursion (IsNumbered choice log) all_sent) (n : ℕ) (steps : ℕ → List Step) where
   -- the samples of a label set that these shards were put
   abbrev share : ℕ → List ShardHistory → Labels → List Point
   share k [] l = []
   share k (x ∷ xs) l = samples_sent l (of_shard n k all_sent) ++ share (suc k) xs l
 
   share_is : (k : ℕ) (l : Labels) → samples_sent l (of_shard n k all_sent) ≡ cond (own choice log n l == k) (samples_sent l all_sent) []
-  share_is k l = share_of choice log n l k all_sent (all_numbered choice [] log)
+  share_is k l = share_of choice log n l k all_sent numbered
 
   no_share : (k : ℕ) (xs : List ShardHistory) (l : Labels) → own choice log n l < k → share k xs l ≡ []
   no_share k [] l lt = refl
@@ -325,26 +325,105 @@ module _ (choice : Choice) (log : List Entry) (n : ℕ) (steps : ℕ → List St
     joins k (x ∷ xs) all = join k x xs all.0 (joins (suc k) xs all.1)
 
 -- ---- all shards of an epoch
-all_shares : (choice : Choice) (log : List Entry) (epoch : ℕ) (shards : List ShardHistory) (steps : ℕ → List Step) (l : Labels) → IsDealt epoch shards (sent choice log)
-    → share choice log (length shards) steps 0 shards l ≡ samples_sent l (sent choice log)
-all_shares choice log epoch [] steps l d = sym (ap (samples_sent l) (d.none refl))
-all_shares choice log epoch (x ∷ xs) steps l d = own_share choice log (length (x ∷ xs)) steps 0 (x ∷ xs) l (omega arith) (omega arith)
+all_shares : (choice : Choice) (log : List Entry) (part : List Sent) (numbered : AllByRecursion (IsNumbered choice log) part) (epoch : ℕ) (shards : List ShardHistory) (steps : ℕ → List Step) (l : Labels) → IsDealt epoch shards part
+    → share choice log part numbered (length shards) steps 0 shards l ≡ samples_sent l part
+all_shares choice log part numbered epoch [] steps l d = sym (ap (samples_sent l) (d.none refl))
+all_shares choice log part numbered epoch (x ∷ xs) steps l d = own_share choice log part numbered (length (x ∷ xs)) steps 0 (x ∷ xs) l (omega arith) (omega arith)
 
-pub epoch-is-run : ((choice : Choice) (log : List Entry) (l : Labels) → samples_sent l (sent choice log) ≡ owed_of choice log l)
+-- ---- epoch after epoch
+then_next : (l : Labels) (p one two : List Point) (xs ys : List SentMessage) → SendsAfter l p one xs → (NeverRefused l xs → p ++ acknowledged_in l xs ≡ one) → SendsList l two ys → SendsAfter l p (one ++ two) (xs ++ ys)
+then_next l p one two [] ys s all next n y is fine =
+    let same : one ≡ p = sym (sym (append-nil p) ∙ all tt) in
+    subst (λ ps. Begins ((p ++ acknowledged_in l (take n ys)) ++ points_in l y.message) (ps ++ two)) (sym same)
+    (Begins-after p (acknowledged_in l (take n ys)) (points_in l y.message) two (next n y is fine))
+then_next l p one two (x ∷ xs) ys s all next zero y is fine =
+    begins_twice ((p ++ []) ++ points_in l y.message) one (one ++ two)
+    (subst (λ (z : SentMessage). Begins ((p ++ []) ++ points_in l z.message) one) (same_Some x y is) (s 0 x refl (none_before l (x ∷ xs)))) (two, refl)
+then_next l p one two (x ∷ xs) ys s all next (suc n) y is fine =
+    let own : x.judgement ≡ Some Refused → points_in l x.message ≡ [] = fine 0 x (omega arith) refl in
+    let q : List Point = p ++ acknowledged_by l x.message x.judgement in
+    let rest = then_next l q one two xs ys (next_after l p one x xs own s) (λ never. append_assoc p (acknowledged_by l x.message x.judgement) (acknowledged_in l xs) ∙ all (own, never)) next n y is (later_unrefused l x n (xs ++ ys) fine) in
+    subst (λ ps. Begins (ps ++ points_in l y.message) (one ++ two)) (append_assoc p (acknowledged_by l x.message x.judgement) (acknowledged_in l (take n (xs ++ ys)))) rest
+
+module _ (choice : Choice) (log : List Entry) (steps : ℕ → ℕ → List Step)
+    (worker : (setup : WorkerSetup) (ss : List Step) → AreSteps (start_of setup) ss → WorkerSendsSamples setup ss)
+    (more_put : (taken more : List Placed) (xs : List SentMessage) → SendsSamples taken xs → SendsSamples (taken ++ more) xs) where
+  -- what the shards of these epochs sent of the samples that they were put
+  record Epochs (e : ℕ) (epochs : List (List ShardHistory)) (samples : List Sent) : Type 0 where
+    messages : List SentMessage
+    exchanges : AreExchangesOfEpochs e epochs steps messages
+    sends : (l : Labels) → SendsList l (samples_sent l samples) messages
+    done : AreAllDone e epochs steps → (l : Labels) → NeverRefused l messages → acknowledged_in l messages ≡ samples_sent l samples
+
+  record OneEpoch (e : ℕ) (shards : List ShardHistory) (part : List Sent) : Type 0 where
+    messages : List SentMessage
+    exchanges : AreExchangesOfShards 0 shards (steps e) messages
+    sends : (l : Labels) → SendsList l (samples_sent l part) messages
+    done : AreDone shards (steps e) → (l : Labels) → NeverRefused l messages → acknowledged_in l messages ≡ samples_sent l part
+
+  one_epoch : (e : ℕ) (shards : List ShardHistory) (part : List Sent) → AllByRecursion (IsNumbered choice log) part → IsDealt e shards part → HaveMadeSteps shards (steps e) → OneEpoch e shards part
+  one_epoch e shards part numbered d made =
+      let n : ℕ = length shards in
+      let all = joins choice log part numbered n (steps e) worker more_put 0 shards
+      (all_from_each (IsWorking choice log part numbered n (steps e)) 0 shards (λ j x at. subst (λ i. IsWorking choice log part numbered n (steps e) i x) (omega arith) (record { put = (d.each j x at).2; made = made j x at }))) in
+      record {
+        messages = all.messages;
+        exchanges = all.exchanges;
+        sends = λ l. subst (λ ps. SendsList l ps all.messages) (all_shares choice log part numbered e shards (steps e) l d) (all.sends l);
+        done = λ is l fine.
+            all.done (all_from_each (IsDone choice log part numbered n (steps e)) 0 shards (λ j x at. subst (λ i. IsDone choice log part numbered n (steps e) i x) (omega arith) (is j x at))) l fine
+            ∙ all_shares choice log part numbered e shards (steps e) l d;
+      }
+
+  -- an epoch, and those after it
+  turn : (e : ℕ) (shards : List ShardHistory) (later : List (List ShardHistory)) (samples first rest : List Sent) → samples ≡ first ++ rest → AreDone shards (steps e) → OneEpoch e shards first → Epochs (suc e) later rest → Epochs e (shards ∷ later) samples
+  turn e shards later samples first rest is was one next =
+      record {
+        messages = one.messages ++ next.messages;
+        exchanges = (one.messages, next.messages, refl, one.exchanges, next.exchanges);
+        sends = λ l.
+            subst (λ ps. SendsList l ps (one.messages ++ next.messages)) (sym (parts l))
+            (then_next l [] (samples_sent l first) (samples_sent l rest) one.messages next.messages (one.sends l) (one.done was l) (next.sends l));
+        done = λ all l fine.
+            acknowledged_in-append l one.messages next.messages
+            ∙ ap (λ ps. ps ++ acknowledged_in l next.messages) (one.done all.0 l (AllByRecursion-left (λ (y : SentMessage). y.judgement ≡ Some Refused → points_in l y.message ≡ []) one.messages next.messages fine))
+            ∙ ap (λ ps. samples_sent l first ++ ps) (next.done all.1 l (AllByRecursion-right (λ (y : SentMessage). y.judgement ≡ Some Refused → points_in l y.message ≡ []) one.messages next.messages fine))
+            ∙ sym (parts l);
+      }
+    where
+      parts : (l : Labels) → samples_sent l samples ≡ samples_sent l first ++ samples_sent l rest
+      parts l = ap (samples_sent l) is ∙ samples_sent-append l first rest
+
+  last_turn : (e : ℕ) (shards : List ShardHistory) (samples first rest : List Sent) → samples ≡ first ++ rest → rest ≡ [] → OneEpoch e shards first → Epochs e (shards ∷ []) samples
+  last_turn e shards samples first rest is none one =
+      let same : first ≡ samples = sym (is ∙ ap (λ ss. first ++ ss) none ∙ append-nil first) in
+      record {
+        messages = one.messages;
+        exchanges = (one.messages, [], sym (append-nil one.messages), one.exchanges, refl);
+        sends = λ l. subst (λ ss. SendsList l (samples_sent l ss) one.messages) same (one.sends l);
+        done = λ all l fine. one.done all.0 l fine ∙ ap (samples_sent l) same;
+      }
+
+  epochs_send : (e : ℕ) (epochs : List (List ShardHistory)) (samples : List Sent) → AllByRecursion (IsNumbered choice log) samples → Places e epochs samples → HaveRun e epochs steps → Epochs e epochs samples
+  epochs_send e [] samples numbered p r = record { messages = []; exchanges = refl; sends = λ l m y is fine. absurd (none_at m y is); done = λ is l fine. sym (ap (samples_sent l) p) }
+  epochs_send e (shards ∷ []) samples numbered p r =
+      let numbered_here = subst (AllByRecursion (IsNumbered choice log)) p.2 numbered in
+      last_turn e shards samples p.0 p.1 p.2 p.4 (one_epoch e shards p.0 (AllByRecursion-left (IsNumbered choice log) p.0 p.1 numbered_here) p.3 r)
+  epochs_send e (shards ∷ next ∷ later) samples numbered p r =
+      let numbered_here = subst (AllByRecursion (IsNumbered choice log)) p.2 numbered in
+      turn e shards (next ∷ later) samples p.0 p.1 p.2 r.1 (one_epoch e shards p.0 (AllByRecursion-left (IsNumbered choice log) p.0 p.1 numbered_here) p.3 r.0)
+      (epochs_send (suc e) (next ∷ later) p.1 (AllByRecursion-right (IsNumbered choice log) p.0 p.1 numbered_here) p.4 r.2)
+
+pub sender-is-run : ((choice : Choice) (log : List Entry) (l : Labels) → samples_sent l (sent choice log) ≡ owed_of choice log l)
     → ((setup : WorkerSetup) (ss : List Step) → AreSteps (start_of setup) ss → WorkerSendsSamples setup ss)
     → ((taken more : List Placed) (xs : List SentMessage) → SendsSamples taken xs → SendsSamples (taken ++ more) xs)
-    → (choice : Choice) (log : List Entry) (epoch : ℕ) (shards : List ShardHistory) (steps : ℕ → List Step) → IsDealt epoch shards (sent choice log) → HaveMadeSteps shards steps
-    → IsRunOfShards choice log shards steps
-epoch-is-run put_owed worker more_put choice log epoch shards steps d made =
-    let n : ℕ = length shards in
-    let all = joins choice log n steps worker more_put 0 shards
-        (all_from_each (IsWorking choice log n steps) 0 shards (λ j x e. subst (λ i. IsWorking choice log n steps i x) (omega arith) (record { put = (d.each j x e).2; made = made j x e }))) in
+    → (choice : Choice) (log : List Entry) (epochs : List (List ShardHistory)) (steps : ℕ → ℕ → List Step) → Places 0 epochs (sent choice log) → HaveRun 0 epochs steps
+    → IsRunOfEpochs choice log epochs steps
+sender-is-run put_owed worker more_put choice log epochs steps p r =
+    let all = epochs_send choice log steps worker more_put 0 epochs (sent choice log) (all_numbered choice [] log) p r in
     record {
       sent = all.messages;
       exchanges = all.exchanges;
-      sends = λ m y l is fine.
-          subst (Begins (acknowledged_in l (take m all.messages) ++ points_in l y.message)) (all_shares choice log epoch shards steps l d ∙ put_owed choice log l) (all.sends l m y is fine);
-      done = λ is l fine.
-          all.done (all_from_each (IsDone choice log n steps) 0 shards (λ j x e. subst (λ i. IsDone choice log n steps i x) (omega arith) (is j x e))) l fine
-          ∙ all_shares choice log epoch shards steps l d ∙ put_owed choice log l;
+      sends = λ m y l is fine. subst (Begins (acknowledged_in l (take m all.messages) ++ points_in l y.message)) (put_owed choice log l) (all.sends l m y is fine);
+      done = λ is l fine. all.done is l fine ∙ put_owed choice log l;
     }

@@ -19,8 +19,8 @@ SendsOwed choice entries sent = (n : ℕ) (x : SentMessage) (l : Labels) → sli
     → NoneRefused l n sent
     → Begins (acknowledged_in l (take n sent) ++ points_in l x.message) (owed_of choice entries l)
 
--- A run that read a part of the log: what this part owes comes after `earlier` in what the log owes.
--- So it is of the first entries, with nothing earlier, and of entries from a checkpoint on.
+-- A run that read a part of the log: what this part owes comes after `earlier` in what the log
+-- owes. So it is of the first entries, with nothing earlier, and of entries from a checkpoint on.
 pub record IsRunOverPart (choice : Choice) (log : List Entry) (run : SenderRun) : Type 0 where
   pub read : List Entry
   pub part : (l : Labels) → Begins (run.earlier l ++ owed_of choice read l) (owed_of choice log l)

@@ -1,4 +1,4 @@
--- What a sender puts of a log, and a sender with one shard as a run.
+-- What a sender puts of a log.
 use Rattle.std.specs.Prelude.{List, map, filter}
 use Rattle.rw_types.specs.Labels.{Labels}
 use Rattle.rw_types.specs.LabelOrder.{labels_eq}
@@ -16,10 +16,3 @@ use Rattle.rw_restarts.specs.Workers.{AreExchangesOfMessages}
 abbrev pub samples_sent : Labels → List Sent → List Point
 samples_sent l samples =
     map (λ (s : Sent). (s.t, s.word)) (filter (λ (s : Sent). labels_eq l s.labels) samples)
-
--- the exchanges of a worker are those of messages that send what these entries owe
-pub record IsRunOfWorker (choice : Choice) (log : List Entry) (setup : WorkerSetup)
-    (steps : List Step) : Type 0 where
-  pub sent : List SentMessage
-  pub exchanges : AreExchangesOfMessages setup.target (exchanges_of steps) sent
-  pub sends : SendsOwed choice log sent

@@ -1,5 +1,5 @@
--- A sender with many shards in one epoch, as one run.
-use Rattle.std.specs.Prelude.{◌≡◌, ℕ, suc, List, [], ◌∷◌, ◌++◌, Some, slice_get}
+-- The shards of a sender in all its epochs, as one run.
+use Rattle.std.specs.Prelude.{◌≡◌, ℕ, suc, List, [], ◌∷◌, ◌++◌, Some, slice_get, ⊤}
 use Rattle.rw_types.specs.Beginnings.{Begins}
 use Rattle.rw_types.specs.Labels.{Labels}
 use Rattle.rw_types.specs.declared.entry.Entry.{Entry}
@@ -37,12 +37,34 @@ AreExchangesOfShards k (shard ∷ shards) steps sent =
     × AreExchangesOfMessages shard.setup.target (exchanges_of (steps k)) first
     × AreExchangesOfShards (suc k) shards steps rest
 
+-- and so are those of the shards of these epochs, epoch after epoch
+abbrev pub AreExchangesOfEpochs : ℕ → List (List ShardHistory) → (ℕ → ℕ → List Step)
+    → List SentMessage → Type 0
+AreExchangesOfEpochs e [] steps sent = sent ≡ []
+AreExchangesOfEpochs e (shards ∷ later) steps sent =
+    (first : List SentMessage) × (rest : List SentMessage) × (sent ≡ first ++ rest)
+    × AreExchangesOfShards 0 shards (steps e) first × AreExchangesOfEpochs (suc e) later steps rest
+
+-- the workers of these epochs made these steps, by their epoch and shard, and those of each epoch
+-- but the last one are done
+abbrev pub HaveRun : ℕ → List (List ShardHistory) → (ℕ → ℕ → List Step) → Type 0
+HaveRun e [] steps = ⊤
+HaveRun e (shards ∷ []) steps = HaveMadeSteps shards (steps e)
+HaveRun e (shards ∷ next ∷ later) steps =
+    HaveMadeSteps shards (steps e) × AreDone shards (steps e) × HaveRun (suc e) (next ∷ later) steps
+
+-- those of the last one are done too
+abbrev pub AreAllDone : ℕ → List (List ShardHistory) → (ℕ → ℕ → List Step) → Type 0
+AreAllDone e [] steps = ⊤
+AreAllDone e (shards ∷ later) steps =
+    AreDone shards (steps e) × AreAllDone (suc e) later steps
+
 -- Their messages send what the log owes. If all workers are done, all samples that the log owes of
 -- a label set of which no message was refused are acknowledged.
-pub record IsRunOfShards (choice : Choice) (log : List Entry) (shards : List ShardHistory)
-    (steps : ℕ → List Step) : Type 0 where
+pub record IsRunOfEpochs (choice : Choice) (log : List Entry) (epochs : List (List ShardHistory))
+    (steps : ℕ → ℕ → List Step) : Type 0 where
   pub sent : List SentMessage
-  pub exchanges : AreExchangesOfShards 0 shards steps sent
+  pub exchanges : AreExchangesOfEpochs 0 epochs steps sent
   pub sends : SendsOwed choice log sent
-  pub done : AreDone shards steps → (l : Labels) → NeverRefused l sent
+  pub done : AreAllDone 0 epochs steps → (l : Labels) → NeverRefused l sent
       → acknowledged_in l sent ≡ owed_of choice log l

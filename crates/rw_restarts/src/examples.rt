@@ -8,9 +8,9 @@ ghost use Rattle.rw_restarts.specs.Runs.{AreRunsOver, acknowledged_in};
 ghost use Rattle.rw_restarts.specs.Receivers.{IsReceiverOf};
 ghost use Rattle.rw_restarts.specs.Examples as examples;
 
-/// Law: of samples at the times 10, 5 and 20 the first and the last rise. A message that is answered
-/// with 429 and then with 204 is acknowledged once. A small history, of two runs and a receiver that
-/// is started again, is one of those that the laws speak of.
+/// Law: of samples at the times 10, 5 and 20 the first and the last rise. A message that is
+/// answered with 429 and then with 204 is acknowledged once. A small history, of two runs and a
+/// receiver that is started again, is one of those that the laws speak of.
 pub fn a_small_history_is_allowed()
     ensures rising { rising ((pos 10, 1) ∷ (pos 5, 2) ∷ (pos 20, 3) ∷ [])
         ≡ (pos 10, 1) ∷ (pos 20, 3) ∷ [] }

@@ -1,5 +1,5 @@
-//! Laws of a receiver to which the log of another receiver is sent. Each function has no body but the
-//! laws that it rests on: its contract is the law.
+//! Laws of a receiver to which the log of another receiver is sent. Each function has no body but
+//! the laws that it rests on: its contract is the law.
 
 ghost use Rattle.std.specs.Prelude.{◌≡◌, true, ℕ, List, length, map};
 ghost use Rattle.std.specs.Ordering.{nat_cmp};
@@ -27,10 +27,11 @@ ghost use Rattle.rw_restarts.specs.Relay.{IsRelayed, IsRelayedLess};
 use crate::logs::many_runs_hold_one_log;
 use rw_checkpoint::what_is_owed_rises;
 
-/// Law: a first receiver keeps what it holds in a log, which a sender sends to a second one. However
-/// often all three are started again, the second receiver holds of each label set a prefix of what
-/// the first one holds, and nothing of one that the sender's rules drop. Of the others it holds all
-/// that the first one holds, once all samples of its log were acknowledged in one run of the sender.
+/// Law: a first receiver keeps what it holds in a log, which a sender sends to a second one.
+/// However often all three are started again, the second receiver holds of each label set a prefix
+/// of what the first one holds, and nothing of one that the sender's rules drop. Of the others it
+/// holds all that the first one holds, once all samples of its log were acknowledged in one run of
+/// the sender.
 pub fn a_relay_holds_what_the_first_receiver_holds()
     ensures { (limits : LabelLimits) (choice : Choice) (first : Store) (segments : Segments)
         (runs : List SenderRun) (events : List ReceiverEvent) (states : ℕ → ReceiverState)
@@ -54,10 +55,10 @@ pub fn what_was_read_stays_in_the_log()
         → ReadsSegments choice segments run → ReadsSegments choice left run }
 {}
 
-/// Law: of one run into a second receiver that began empty, the report says what this receiver lacks.
-/// The last premise is what `HoldsAllOf` of `rw_sent_held` says of a run that ended complete. Of
-/// each label set that the rules keep, the second receiver then holds the samples that the run read
-/// of what the first one holds, less those that the report names.
+/// Law: of one run into a second receiver that began empty, the report says what this receiver
+/// lacks. The last premise is what `HoldsAllOf` of `rw_sent_held` says of a run that ended
+/// complete. Of each label set that the rules keep, the second receiver then holds the samples that
+/// the run read of what the first one holds, less those that the report names.
 pub fn a_report_names_what_a_relay_lacks()
     ensures { (choice : Choice) (names : FinMap nat_cmp Reason) (read : List Entry)
         (first second : Store) (segments : Segments) (l : Labels) → SaysWhat segments first
