@@ -1,6 +1,7 @@
 mod AnswerLemmas
 mod BatchLemmas
 mod ExampleLemmas
+mod KeptReceiverLemmas
 mod LogLemmas
 mod OrderLemmas
 mod PartLemmas

@@ -13,7 +13,7 @@ use Rattle.rw_head.specs.Order.{Point}
 use Rattle.rw_head.specs.Store.{Store, with_list}
 use Rattle.rw_head.specs.Verdicts.{LabelLimits}
 use Rattle.rw_restarts.specs.Runs.{SentMessage, SenderRun}
-use Rattle.rw_restarts.specs.Receivers.{ReceiverEvent, Answers, RestartsDuring, ReceiverState, empty_receiver}
+use Rattle.rw_restarts.specs.Receivers.{ReceiverEvent, Answers, RestartsDuring, ReceiverState, empty_receiver, state_of}
 
 -- the label set without labels, and its samples in the log
 abbrev pub series : Labels
@@ -63,9 +63,6 @@ with_first = with_list series (first ∷ []) empty
 
 abbrev pub with_both : Store → Store
 with_both store = with_list series (first ∷ second ∷ []) store
-
-abbrev pub state_of : Store → Store → ReceiverState
-state_of store acknowledged = record { store = store; acknowledged = acknowledged }
 
 -- its state before each event, and at the end
 abbrev pub states : ℕ → ReceiverState

@@ -1,4 +1,5 @@
 pub mod Examples
+pub mod KeptReceivers
 pub mod Logs
 pub mod Parts
 pub mod Receivers

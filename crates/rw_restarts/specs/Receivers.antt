@@ -25,8 +25,11 @@ pub record ReceiverState : Type 0 where
   pub store : Store
   pub acknowledged : Store
 
+abbrev pub state_of : Store → Store → ReceiverState
+state_of store acknowledged = record { store = store; acknowledged = acknowledged }
+
 abbrev pub empty_receiver : ReceiverState
-empty_receiver = record { store = empty; acknowledged = empty }
+empty_receiver = state_of empty empty
 
 -- It answers as a head does: it acknowledges a message that it takes whole, and refuses one that it
 -- cannot take. Else it may ask for the message again.
