@@ -34,7 +34,7 @@ use Rattle.rw_head.specs.Order.{Point}
 use Rattle.rw_checkpoint.specs.Owed.{owed_of}
 use Rattle.rw_restarts.specs.Parts.{points_in}
 use Rattle.rw_restarts.specs.Runs.{SentMessage, acknowledged_by, acknowledged_in, NoneRefused}
-use Rattle.rw_restarts.specs.Workers.{samples_in_batch, SendsSamples, NeverRefused, WorkerSendsSamples}
+use Rattle.rw_restarts.specs.Workers.{samples_in_batch, SendsSamples, HasResolvedAll, NeverRefused, WorkerSendsSamples}
 use Rattle.rw_restarts.specs.Senders.{samples_sent}
 use Rattle.rw_restarts.specs.Shards.{HasMadeSteps, HaveMadeSteps, AreDone, AreExchangesOfShards, AreExchangesOfEpochs, HaveRun, AreAllDone, IsRunOfEpochs}
 use Rattle.rw_restarts.proofs.RelayLemmas.{no_samples}
@@ -271,7 +271,7 @@ module _ (choice : Choice) (log : List Entry) (all_sent : List Sent) (numbered :
     made : HasMadeSteps x (steps k)
 
   abbrev IsDone : ℕ → ShardHistory → Type 0
-  IsDone k x = (items_of (steps k) ≡ x.put) × (pending (after (start_of x.setup) (steps k)).core ≡ [])
+  IsDone k x = (items_of (steps k) ≡ x.put) × HasResolvedAll x.setup (steps k)
 
   record Joins (k : ℕ) (xs : List ShardHistory) : Type 0 where
     messages : List SentMessage

@@ -1,6 +1,7 @@
 -- The requests of a worker go through its samples in order.
 use Rattle.std.proofs.Common.{◌≡◌, Bool, true, false, not, ◌&&◌, ◌==◌, cond, List, [], ◌∷◌, ◌++◌, append-nil, append_assoc, Result, Ok, Err, refl, sym, ap, ◌∙◌, subst}
 use Rattle.std.proofs.lemmas.Bool.{and_from, and_parts, cond-true, not-true}
+use Rattle.std.proofs.lemmas.List.{append_cancel_left}
 use Rattle.std.proofs.lemmas.Bool.Decides.{Decides-eqb}
 use Rattle.rw_retry.specs.Judgements.{judgement_of}
 use Rattle.rw_retry.specs.declared.judgement.Judgement.{Judgement}
@@ -98,3 +99,33 @@ goes w (Waits ∷ ss) h = goes w ss h.1
 
 pub sends-in-order : (setup : WorkerSetup) (steps : List Step) → WorkerSendsInOrder setup steps
 sends-in-order setup steps h = goes (start_of setup) steps h
+
+-- ---- what is resolved, and what is pending
+abbrev so_far : List Step → Core → List Placed
+so_far ss c = c.resolved ++ to_come c ss
+
+by_answer : (b : Bool) (c : Core) (ss : List Step) → so_far ss c ≡ so_far ss (after_answer b c)
+by_answer true c ss = refl
+by_answer false c ss = sym (append_assoc c.resolved c.batch (c.builder ++ samples_in (items_of ss)))
+
+by_freezing : (c : Core) (ss : List Step) → can_freeze c ≡ true → so_far ss c ≡ so_far ss (freeze c)
+by_freezing c ss h =
+    let none : c.batch ≡ [] = nil_from_empty c.batch (and_parts (is_empty c.batch) (not (is_empty c.builder)) (and_parts (not c.killed) (is_empty c.batch && not (is_empty c.builder)) h).1).0 in
+    ap (λ ys. c.resolved ++ (ys ++ (c.builder ++ samples_in (items_of ss)))) none ∙ ap (so_far ss) (sym (cond-true (can_freeze c) (frozen c) c h))
+
+resolves : (w : Working) (ss : List Step) → AreSteps w ss → so_far ss w.core ≡ (after w ss).core.resolved ++ pending (after w ss).core
+resolves w [] h = ap (λ ys. w.core.resolved ++ (w.core.batch ++ ys)) (append-nil w.core.builder)
+resolves w (Takes (Sample place t word labels) ∷ ss) h =
+    ap (λ ys. w.core.resolved ++ (w.core.batch ++ ys)) (sym (append_assoc w.core.builder (placed place t word labels.value ∷ []) (samples_in (items_of ss))))
+    ∙ resolves (after_step (Takes (Sample place t word labels)) w) ss h.1
+resolves w (Takes Flush ∷ ss) h = resolves (after_step (Takes Flush) w) ss h.1
+resolves w (Takes (End kind) ∷ ss) h = resolves (after_step (Takes (End kind)) w) ss h.1
+resolves w (Freezes ∷ ss) h = by_freezing w.core ss h.0.1 ∙ resolves (after_step Freezes w) ss h.1
+resolves w (Sends e ∷ ss) h = by_answer (is_again e.answer) w.core ss ∙ ap (so_far ss) (sym (answers e.answer w h.0.0)) ∙ resolves (after_step (Sends e) w) ss h.1
+resolves w (Waits ∷ ss) h = resolves w ss h.1
+
+-- if all that was taken is resolved, nothing is pending
+pub nothing-pending : (setup : WorkerSetup) (steps : List Step) → AreSteps (start_of setup) steps → (after (start_of setup) steps).core.resolved ≡ samples_in (items_of steps) → pending (after (start_of setup) steps).core ≡ []
+nothing-pending setup steps h all =
+    let c : Core = (after (start_of setup) steps).core in
+    append_cancel_left c.resolved (pending c) [] (sym (resolves (start_of setup) steps h) ∙ sym all ∙ sym (append-nil c.resolved))

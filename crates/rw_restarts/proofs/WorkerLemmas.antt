@@ -20,7 +20,7 @@ use Rattle.rw_worker.specs.declared.transport.Lost.{Lost}
 use Rattle.rw_worker.specs.Setups.{WorkerSetup, start_of}
 use Rattle.rw_worker.specs.Steps.{Step, AreSteps, after, items_of, exchanges_of}
 use Rattle.rw_worker.specs.Transcript.{Exchange, is_again, is_again_by}
-use Rattle.rw_restarts.proofs.TurnLemmas.{sends-in-order}
+use Rattle.rw_restarts.proofs.TurnLemmas.{sends-in-order, nothing-pending}
 use Rattle.rw_head.specs.Order.{Point}
 use Rattle.rw_restarts.specs.Parts.{points_in}
 use Rattle.rw_restarts.specs.Runs.{SentMessage, acknowledged_by, acknowledged_in}
@@ -104,7 +104,7 @@ goes target (e ∷ es) rest last h =
 pub sends-its-samples : (setup : WorkerSetup) (steps : List Step) → AreSteps (start_of setup) steps → WorkerSendsSamples setup steps
 sends-its-samples setup steps h =
     let all = goes setup.target (exchanges_of steps) (samples_in (items_of steps)) (pending (after (start_of setup) steps).core) (sends-in-order setup steps h) in
-    record { sent = all.sent; exchanges = all.exchanges; sends = all.sends; done = all.done }
+    record { sent = all.sent; exchanges = all.exchanges; sends = all.sends; done = λ resolved. all.done (nothing-pending setup steps h resolved) }
 
 pub sends-more : (taken more : List Placed) (sent : List SentMessage) → SendsSamples taken sent → SendsSamples (taken ++ more) sent
 sends-more taken more sent sends n x l at fine =

@@ -4,14 +4,13 @@ use Rattle.rw_types.specs.Beginnings.{Begins}
 use Rattle.rw_types.specs.Labels.{Labels}
 use Rattle.rw_types.specs.declared.entry.Entry.{Entry}
 use Rattle.rw_relabel.specs.declared.choice.Choice.{Choice}
-use Rattle.rw_shard_core.specs.Shard.{pending}
 use Rattle.rw_worker.specs.Setups.{start_of}
-use Rattle.rw_worker.specs.Steps.{Step, AreSteps, after, items_of, exchanges_of}
+use Rattle.rw_worker.specs.Steps.{Step, AreSteps, items_of, exchanges_of}
 use Rattle.rw_fleet.specs.ShardHistories.{ShardHistory}
 use Rattle.rw_checkpoint.specs.Owed.{owed_of}
 use Rattle.rw_restarts.specs.Runs.{SentMessage, acknowledged_in}
 use Rattle.rw_restarts.specs.Logs.{SendsOwed}
-use Rattle.rw_restarts.specs.Workers.{AreExchangesOfMessages, NeverRefused}
+use Rattle.rw_restarts.specs.Workers.{AreExchangesOfMessages, HasResolvedAll, NeverRefused}
 
 -- the worker of this shard made these steps: it took what its queue was put, or the first of it
 pub record HasMadeSteps (shard : ShardHistory) (steps : List Step) : Type 0 where
@@ -23,10 +22,10 @@ abbrev pub HaveMadeSteps : List ShardHistory → (ℕ → List Step) → Type 0
 HaveMadeSteps shards steps =
     (k : ℕ) (shard : ShardHistory) → slice_get shards k ≡ Some shard → HasMadeSteps shard (steps k)
 
--- each worker took all that its queue was put, and nothing of it is pending
+-- each worker took all that its queue was put, and has resolved all of it
 abbrev pub AreDone : List ShardHistory → (ℕ → List Step) → Type 0
 AreDone shards steps = (k : ℕ) (shard : ShardHistory) → slice_get shards k ≡ Some shard
-    → (items_of (steps k) ≡ shard.put) × (pending (after (start_of shard.setup) (steps k)).core ≡ [])
+    → (items_of (steps k) ≡ shard.put) × HasResolvedAll shard.setup (steps k)
 
 -- The exchanges of the shards from number k on are those of these messages, shard after shard.
 -- Shards share no label set, so it does not matter how their exchanges overlapped.

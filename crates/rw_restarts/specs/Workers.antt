@@ -75,12 +75,17 @@ abbrev pub NeverRefused : Labels → List SentMessage → Type 0
 NeverRefused l sent = AllByRecursion
     (λ (x : SentMessage). x.judgement ≡ Some Refused → points_in l x.message ≡ []) sent
 
--- The exchanges of these steps are those of messages that send the samples that were taken. If none
--- of these is pending after the steps, all samples of a label set of which no message was refused
--- are acknowledged.
+-- all samples that were taken are resolved, as a worker reports that was not stopped
+abbrev pub HasResolvedAll : WorkerSetup → List Step → Type 0
+HasResolvedAll setup steps =
+    (after (start_of setup) steps).core.resolved ≡ samples_in (items_of steps)
+
+-- The exchanges of these steps are those of messages that send the samples that were taken. If all
+-- of these are resolved, all samples of a label set of which no message was refused are
+-- acknowledged.
 pub record WorkerSendsSamples (setup : WorkerSetup) (steps : List Step) : Type 0 where
   pub sent : List SentMessage
   pub exchanges : AreExchangesOfMessages setup.target (exchanges_of steps) sent
   pub sends : SendsSamples (samples_in (items_of steps)) sent
-  pub done : pending (after (start_of setup) steps).core ≡ [] → (l : Labels) → NeverRefused l sent
+  pub done : HasResolvedAll setup steps → (l : Labels) → NeverRefused l sent
       → acknowledged_in l sent ≡ samples_in_batch l (samples_in (items_of steps))

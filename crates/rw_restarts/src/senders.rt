@@ -28,7 +28,7 @@ pub fn what_is_put_is_what_is_owed()
 /// Law: a sender sends what its log owes. The workers of all epochs took the samples that their
 /// shards were put, or the first of them, and may have been ended at any point, except that an
 /// epoch begins only once the workers of the one before it are done: they have taken all that they
-/// were put, and nothing of it is pending. If the workers of the last epoch are done too, all that
+/// were put, and have resolved all of it. If the workers of the last epoch are done too, all that
 /// the log owes of a label set of which no message was refused is acknowledged.
 pub fn a_sender_is_a_run()
     ensures { (choice : Choice) (log : List Entry) (epochs : List (List ShardHistory))
