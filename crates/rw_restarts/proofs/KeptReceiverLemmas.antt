@@ -1,18 +1,13 @@
 -- A head over a journal answers, and is started again, as the laws ask of a receiver.
-use Rattle.std.proofs.Common.{◌≡◌, ◌≢◌, ◌⊎◌, inl, inr, ℕ, List, Result, Ok, Err, refl, sym, ap, ◌∙◌, subst, arith}
+use Rattle.std.proofs.Common.{◌≡◌, ◌≢◌, inl, inr, ℕ, Ok, refl, sym, ap, ◌∙◌, subst, arith}
 use Rattle.rw_types.specs.Beginnings.{Begins}
 use Rattle.rw_types.proofs.shared.BeginningLemmas.{begins_twice}
 use Rattle.rw_types.specs.Labels.{Labels}
 use Rattle.rw_write_request.specs.Message.{WriteRequest}
 use Rattle.rw_retry.specs.Judgements.{judgement_of}
-use Rattle.rw_head.specs.declared.verdict.Verdict.{Verdict}
-use Rattle.rw_head.specs.Head.{State, IsStatus, answer_to}
+use Rattle.rw_head.specs.Head.{State, IsStatus}
 use Rattle.rw_head.specs.Store.{Store, list_of}
-use Rattle.rw_head.specs.Verdicts.{taken_all}
 use Rattle.rw_journal.specs.Journal.{Segments}
-use Rattle.rw_journal.specs.Logs.{entries_of}
-use Rattle.rw_wal_format.specs.Pieces.{page_size}
-use Rattle.rw_wal_append.specs.Additions.{samples_in}
 use Rattle.rw_kept_head.specs.Kept.{SaysWhat, LiesBetween}
 use Rattle.rw_restarts.specs.Receivers.{AnswersAs, IsRestarted, state_of}
 use Rattle.rw_restarts.specs.KeptReceivers.{IsAdmission, acknowledged_after}

@@ -1,5 +1,5 @@
 -- What a sender puts of a log is what the log owes.
-use Rattle.std.proofs.Common.{◌≡◌, ℕ, ℤ, int_lt, Bool, true, false, true≢false, ◌&&◌, cond, List, [], ◌∷◌, ◌++◌, length, map, filter, take, append-nil, append_assoc, refl, sym, ap, ◌∙◌, subst}
+use Rattle.std.proofs.Common.{◌≡◌, ℕ, ℤ, int_lt, Bool, true, false, true≢false, ◌&&◌, cond, List, [], ◌∷◌, ◌++◌, length, map, filter, append-nil, append_assoc, refl, sym, ap, ◌∙◌, subst}
 use Rattle.std.proofs.lemmas.List.{map-append}
 use Rattle.std.proofs.lemmas.List.Elements.{filter-append}
 use Rattle.rw_types.proofs.shared.GatherLemmas.{gather-push}
@@ -17,14 +17,9 @@ use Rattle.rw_series_cache.proofs.shared.PointLemmas.{definition_gives_none, sam
 use Rattle.rw_sender.specs.Logs.{Sent, kept_sample, sent, sent_of, sent_by_fate}
 use Rattle.rw_head.specs.Order.{Point}
 use Rattle.rw_checkpoint.specs.Owed.{pairs_of, is_after_each, rising, owed_of}
-use Rattle.rw_plain_queue.specs.Items.{Placed, samples_in}
-use Rattle.rw_worker.specs.Setups.{WorkerSetup, start_of}
-use Rattle.rw_worker.specs.Steps.{Step, AreSteps, items_of}
+use Rattle.rw_plain_queue.specs.Items.{Placed}
 use Rattle.rw_sender.specs.Placement.{as_sent}
-use Rattle.rw_types.specs.Beginnings.{Begins}
-use Rattle.rw_restarts.specs.Parts.{points_in}
-use Rattle.rw_restarts.specs.Runs.{SentMessage, acknowledged_in}
-use Rattle.rw_restarts.specs.Workers.{samples_in_batch, SendsSamples, WorkerSendsSamples}
+use Rattle.rw_restarts.specs.Workers.{samples_in_batch}
 use Rattle.rw_restarts.specs.Senders.{samples_sent}
 
 abbrev Logged : Type 0

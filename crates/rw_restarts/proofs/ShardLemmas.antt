@@ -1,5 +1,5 @@
 -- The workers of all epochs together send what the log owes.
-use Rattle.std.proofs.Common.{◌≡◌, ℕ, ℤ, zero, suc, ◌+◌, ◌<◌, ◌≤◌, ◌==◌, ◌%◌, Bool, true, false, cond, eq-eqb, List, [], ◌∷◌, ◌++◌, length, map, filter, take, slice_get, append-nil, append_assoc, Option, Some, None, refl, sym, ap, ◌∙◌, subst, arith}
+use Rattle.std.proofs.Common.{◌≡◌, ℕ, ℤ, zero, suc, ◌+◌, ◌<◌, ◌≤◌, ◌==◌, Bool, true, false, cond, List, [], ◌∷◌, ◌++◌, length, map, filter, take, slice_get, append-nil, append_assoc, Option, Some, None, refl, sym, ap, ◌∙◌, subst, arith}
 use Rattle.std.specs.List.{AllByRecursion}
 use Rattle.std.proofs.lemmas.Bool.Decides.{nat_tests}
 use Rattle.std.proofs.lemmas.Bool.{eqb-true, cond-true, cond-false}
@@ -22,14 +22,12 @@ use Rattle.rw_series_cache.specs.Numbers.{series_of, number_of}
 use Rattle.rw_series_cache.specs.Rising.{rises}
 use Rattle.rw_series_cache.proofs.shared.SeriesLemmas.{kept_has_number, number_stays_on}
 use Rattle.rw_plain_queue.specs.Items.{Placed, samples_in}
-use Rattle.rw_plain_queue.specs.declared.item.Item.{Item}
 use Rattle.rw_plain_queue.proofs.shared.Histories.{samples_in-append}
 use Rattle.rw_worker.specs.Setups.{WorkerSetup, start_of}
-use Rattle.rw_shard_core.specs.Shard.{pending}
-use Rattle.rw_worker.specs.Steps.{Step, AreSteps, after, items_of}
+use Rattle.rw_worker.specs.Steps.{Step, AreSteps, items_of}
 use Rattle.rw_fleet.specs.ShardHistories.{ShardHistory}
 use Rattle.rw_sender.specs.Logs.{Sent, sent, sent_of, sent_by_fate}
-use Rattle.rw_sender.specs.Placement.{as_sent, of_shard, shard_of, samples_put, IsDealt, Places}
+use Rattle.rw_sender.specs.Placement.{of_shard, shard_of, samples_put, IsDealt, Places}
 use Rattle.rw_head.specs.Order.{Point}
 use Rattle.rw_checkpoint.specs.Owed.{owed_of}
 use Rattle.rw_restarts.specs.Parts.{points_in}

@@ -2,15 +2,8 @@
 use Rattle.std.specs.Prelude.{List, map, filter}
 use Rattle.rw_types.specs.Labels.{Labels}
 use Rattle.rw_types.specs.LabelOrder.{labels_eq}
-use Rattle.rw_types.specs.declared.entry.Entry.{Entry}
-use Rattle.rw_relabel.specs.declared.choice.Choice.{Choice}
-use Rattle.rw_worker.specs.Setups.{WorkerSetup}
-use Rattle.rw_worker.specs.Steps.{Step, exchanges_of}
 use Rattle.rw_head.specs.Order.{Point}
 use Rattle.rw_sender.specs.Logs.{Sent}
-use Rattle.rw_restarts.specs.Runs.{SentMessage}
-use Rattle.rw_restarts.specs.Logs.{SendsOwed}
-use Rattle.rw_restarts.specs.Workers.{AreExchangesOfMessages}
 
 -- the samples of a label set among those that a sender puts, as a head takes them
 abbrev pub samples_sent : Labels → List Sent → List Point
