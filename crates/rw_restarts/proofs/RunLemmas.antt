@@ -91,11 +91,11 @@ module _ (limits : LabelLimits) (whole : Labels → List Point) (runs : List Sen
           subst (λ ys. Begins ys (list_of (states t).acknowledged l)) (sym (reached_next run l k y is ∙ ap (λ o. acknowledged_before run l k ++ acknowledged_by l y.message o) taken))
           (inv.reached a.at i k run y l a.early a.is sent some)
 
-      by_told : (o : Option Judgement) → y.judgement ≡ o → Begins (acknowledged_before run l (suc k)) (list_of (states t).acknowledged l)
-      by_told None e = none_more (ap (acknowledged_by l y.message) e)
-      by_told (Some Again) e = none_more (ap (acknowledged_by l y.message) e)
-      by_told (Some Refused) e = none_more (ap (acknowledged_by l y.message) e)
-      by_told (Some Done) e =
+      by_judgement : (o : Option Judgement) → y.judgement ≡ o → Begins (acknowledged_before run l (suc k)) (list_of (states t).acknowledged l)
+      by_judgement None e = none_more (ap (acknowledged_by l y.message) e)
+      by_judgement (Some Again) e = none_more (ap (acknowledged_by l y.message) e)
+      by_judgement (Some Refused) e = none_more (ap (acknowledged_by l y.message) e)
+      by_judgement (Some Done) e =
           by_empty (Begins (acknowledged_before run l (suc k)) (list_of (states t).acknowledged l)) (points_in l y.message)
           (λ none. none_more (ap (acknowledged_by l y.message) e ∙ none)) (some_more e)
 
@@ -105,7 +105,7 @@ module _ (limits : LabelLimits) (whole : Labels → List Point) (runs : List Sen
     prefix zero within base judgement = subst (λ ys. Begins ys (list_of (states t).acknowledged l)) (sym (append-nil (run.earlier l))) base
     prefix (suc k) within base judgement =
         let found = get_some run.sent k (omega (arith, within)) in
-        by_told k (prefix k (omega (arith, within)) base (λ j y answer lt. judgement j y answer (omega (arith, lt)))) found.0 found.1
+        by_judgement k (prefix k (omega (arith, within)) base (λ j y answer lt. judgement j y answer (omega (arith, lt)))) found.0 found.1
         (λ answer. judgement k found.0 answer (omega arith)) found.0.judgement refl
 
   -- ---- a request comes
@@ -115,8 +115,8 @@ module _ (limits : LabelLimits) (whole : Labels → List Point) (runs : List Sen
         by_empty (points_in l y.message ≡ []) (points_in l y.message) (λ none. none)
         (λ has. absurd (let a = r.answers.before t m i k n run y x Refused l here brings sent (record { exists = sent.exists; is = is }) lt refused has some in inv.none_refused a.at i k a.early a.is))
 
-    reached_sure : (l : Labels) → points_in l x.message ≢ [] → Begins (acknowledged_before run l n) (list_of (states t).acknowledged l)
-    reached_sure l some =
+    reached_acknowledged : (l : Labels) → points_in l x.message ≢ [] → Begins (acknowledged_before run l n) (list_of (states t).acknowledged l)
+    reached_acknowledged l some =
         prefix t inv i run sent.exists l n (omega (arith, slice_get_within run.sent n x sent.is)) (r.covered t m i n run x l here brings sent)
         (λ k y judgement lt was said has. r.answers.before t m i k n run y x judgement l here brings sent was lt said has some)
 
@@ -135,7 +135,7 @@ module _ (limits : LabelLimits) (whole : Labels → List Point) (runs : List Sen
             before = acknowledged_before run l n;
             more = b.0;
             place = b.1 ∙ append_assoc (acknowledged_before run l n) (points_in l x.message) b.0;
-            reached = begins_twice (acknowledged_before run l n) (list_of (states t).acknowledged l) (list_of (states t).store l) (reached_sure l some) (inv.acknowledged l);
+            reached = begins_twice (acknowledged_before run l n) (list_of (states t).acknowledged l) (list_of (states t).store l) (reached_acknowledged l some) (inv.acknowledged l);
           };
           at = λ _. refl;
         })

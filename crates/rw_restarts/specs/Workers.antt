@@ -30,8 +30,8 @@ SendInOrder target rest (e ∷ es) last =
     × (is_empty batch ≡ false) × IsReadAgain batch × (e.request ≡ batch_request target batch)
     × SendInOrder target (if is_again e.answer then rest else more) es last
 
--- those of a worker do, up to the samples that are still pending. It may have come any way: these
--- are any first steps of it
+-- so do those of a worker, up to the samples that are still pending, whatever it was answered:
+-- these are any first steps of it
 abbrev pub WorkerSendsInOrder : WorkerSetup → List Step → Type 0
 WorkerSendsInOrder setup steps = AreSteps (start_of setup) steps
     → SendInOrder setup.target (samples_in (items_of steps)) (exchanges_of steps)
