@@ -12,4 +12,4 @@ returns-clause-ok g c =
 
 pub returns-in_err-segments-clause-sure : goal.returns-in_err-segments-clause-sure
 returns-in_err-segments-clause-sure g c = λ all is.
-    c.in_err-segments.ensures.sure (all_sure _ _ c.new-log.ensures.sure all) (c.in_err-segments.was ∙ ap Err (sym (handed_on _ _ _ c.from_residual.ensures.1 is)))
+    c.in_err-segments.ensures.sure (all_sure _ _ c.new-log.ensures.sure all) (ap Err (sym (handed_on _ _ _ c.from_residual.ensures.1 is)))
