@@ -184,8 +184,9 @@ fn send_listed<R: Threads + Wait + Clock + Copy + Send + 'static>(
     Ok(run_send(threads, alloc, settings, segments, options, printed))
 }
 
-/// What happens to a folder of two segments once they are listed, the answer, and what is printed.
-type Row<'a> = (&'a [Change], Result<(), ToolFault>, &'a [u8]);
+/// A name, what happens to a folder of two segments once they are listed, the answer, and what is
+/// printed.
+type Row<'a> = (&'static str, &'a [Change], Result<(), ToolFault>, &'a [u8]);
 
 fn does<R: Threads + Wait + Clock + Copy + Send + 'static>(
     rt: &HostRuntime,
@@ -195,31 +196,33 @@ fn does<R: Threads + Wait + Clock + Copy + Send + 'static>(
     let dir = new_folder(rt, "rwship-what-is-gone-is-no-end")?;
     write_two(rt, dir.as_str())?;
     let mut printed = Room::new(rt.alloc(), 4096)?;
-    let answer = send_listed(rt, threads, dir.as_path(), row.0, &mut printed)?;
-    Ok(answer == row.1 && printed.as_slice() == row.2)
+    let answer = send_listed(rt, threads, dir.as_path(), row.1, &mut printed)?;
+    Ok(answer == row.2 && printed.as_slice() == row.3)
 }
 
 fn wrong_row<R: Threads + Wait + Clock + Copy + Send + 'static>(
     rt: &HostRuntime,
     threads: &R,
     rows: &[Row<'_>],
-) -> Result<Option<usize>, Fail> {
-    for (i, row) in rows.iter().enumerate() {
+) -> Result<Option<&'static str>, Fail> {
+    for row in rows {
         if !does(rt, threads, row)? {
-            return Ok(Some(i));
+            return Ok(Some(row.0));
         }
     }
     Ok(None)
 }
 
 static LISTED: [Row<'static>; 3] = [
-    (&[], Ok(()), b"filtered 0\nreport complete 2\n"),
+    ("nothing", &[], Ok(()), b"filtered 0\nreport complete 2\n"),
     (
+        "the second segment is gone",
         &[Goes("00000001")],
         Err(ToolFault::Device),
         b"filtered 0\nreport abandoned 1\n",
     ),
     (
+        "a folder in its place",
         &[Goes("00000001"), Dir("00000001")],
         Err(ToolFault::Device),
         b"filtered 0\nreport abandoned 1\n",

@@ -1,0 +1,62 @@
+//! What watches the calls on the files of a folder.
+
+use rw_follow::StopSignal;
+use rw_metrics::ReceiveCounters;
+use std::alloc::Global;
+use std::sync::Arc;
+use std::time::Duration;
+
+/// What counts the calls on the files of a folder, and what is stopped once one has failed. No
+/// clause says anything about it.
+#[derive(Drop)]
+pub struct FolderMonitor {
+    /// They count what is written, the syncs, the segments that are begun, and the failed calls.
+    pub counters: Option<Arc<ReceiveCounters, Global>>,
+    /// It is asked to finish once a call has failed.
+    pub signal: Option<Arc<StopSignal, Global>>,
+}
+
+impl FolderMonitor {
+    /// Returns a monitor that counts nothing and stops nothing.
+    pub fn none() -> FolderMonitor {
+        FolderMonitor {
+            counters: None,
+            signal: None,
+        }
+    }
+
+    /// Counts bytes that were written.
+    pub(crate) fn write(&self, bytes: usize) {
+        if let Some(counters) = &self.counters {
+            counters.write_log(bytes as u64);
+        }
+    }
+
+    /// Counts a sync, and for how long it took, if the clock could be read.
+    pub(crate) fn sync(&self, took: Option<Duration>) {
+        let micros = match took {
+            Some(took) => took.as_micros().min(u64::MAX as u128) as u64,
+            None => 0,
+        };
+        if let Some(counters) = &self.counters {
+            counters.sync_log(micros);
+        }
+    }
+
+    /// Counts a segment that was begun.
+    pub(crate) fn begin_segment(&self) {
+        if let Some(counters) = &self.counters {
+            counters.begin_log_segment();
+        }
+    }
+
+    /// Counts a call that has failed, and asks to stop.
+    pub(crate) fn fail(&self) {
+        if let Some(counters) = &self.counters {
+            counters.fail_log();
+        }
+        if let Some(signal) = &self.signal {
+            signal.finish();
+        }
+    }
+}
