@@ -7,6 +7,7 @@ use Rattle.rw_wal_format.specs.declared.tail_fault.TailFault.TheVariants as tail
 use Rattle.rw_text.specs.HexText.{hex_text, read_text}
 use Rattle.rw_log_commands.specs.Body.{body_of_segment}
 use Rattle.rw_log_commands.specs.Taking.{ReadsToFault}
+use Rattle.rw_text.specs.declared.tool_fault.ToolFault.TheVariants.{OutOfMemory}
 
 -- the bytes that an input stands for, which may be hexadecimal text
 abbrev pub IsInputFor : Bool → List ℕ → List ℕ → Type 0

@@ -7,6 +7,7 @@ use Rattle.rw_wal_format.specs.declared.tail_fault.TailFault.{TailFault}
 use Rattle.rw_wal_format.specs.declared.tail_fault.TailFault.TheVariants as tail
 use Rattle.rw_log_read.specs.Left.{current}
 use Rattle.rw_log_read.specs.Logs.{ReadsTo, log_of}
+use Rattle.rw_text.specs.declared.tool_fault.ToolFault.TheVariants.{OutOfMemory}
 
 -- all segments of a log were read to their ends, the log has no fault, and these are its entries
 pub record ReadsWhole (before after : List (Option (List ℕ))) (taken : List Entry) : Type 0 where

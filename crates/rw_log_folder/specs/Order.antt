@@ -1,5 +1,5 @@
 -- Which files of a log are read, and in which order.
-use Rattle.std.specs.Prelude.{◌≡◌, ℕ, ◌<◌, ◌≤◌, ltb, ◌==◌, Bool, true, false, List, [], ◌++◌, map, Option, None, Some}
+use Rattle.std.specs.Prelude.{◌≡◌, ℕ, ◌+◌, ◌<◌, ◌≤◌, ltb, ◌==◌, Bool, true, false, List, [], ◌++◌, map, Option, None, Some}
 use Rattle.std.specs.List.{All, Contains, filter, list_any}
 use Rattle.std.specs.List.Sorted.{IsPermutation, IsSortedBy}
 use Rattle.std.specs.Ordering.{is_lt, nat_cmp, ordering_then}

@@ -1,4 +1,4 @@
-use Rattle.std.proofs.Common.{inl, inr}
+use Rattle.std.proofs.Common.{arith, inl, inr}
 use Rattle.rw_log_commands.proofs.PlanRuns.{ok_so, plans_segment, plans_segment_part}
 use Rattle.rw_log_commands.proofs.TakingLemmas.{segment_to_fault}
 use Rattle.rw_log_commands.proofs.plan.plan_segment.Goals as goal
