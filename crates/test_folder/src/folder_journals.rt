@@ -98,7 +98,7 @@ fn a_folder_that_cannot_be_listed_says_why(rt: HostRuntime) -> Result<(), Fail> 
 /// Returns whether only the last of these failed.
 fn journals_until_a_fault(
     rt: &HostRuntime,
-    dir: &Path,
+    dir: Path<'_>,
     monitor: FolderMonitor,
 ) -> Result<bool, Fail> {
     let Ok(journal) = open_journal(rt, dir.as_str(), monitor) else {
