@@ -16,6 +16,9 @@ pub struct FolderMonitor {
     pub signal: Option<Arc<StopSignal, Global>>,
 }
 
+// Proved here, so that the proof of the same for a head over a folder, which threads share, is short.
+unsafe impl Send for FolderMonitor {}
+
 impl FolderMonitor {
     /// Returns a monitor that counts nothing and stops nothing.
     pub fn none() -> FolderMonitor {
