@@ -4,25 +4,21 @@ use crate::bounds::service_of;
 use crate::ending::report_result;
 use crate::reporting::is_watched;
 use crate::stopping::stop_signal;
-use rw_follow::StopSignal;
 use rw_head::Limits;
-use rw_kept_folder::{
-    FolderError, FolderFault, FolderJournal, FolderMonitor, OpenFolder, open_journal,
-};
+use rw_kept_folder::{FolderError, FolderFault, FolderJournal, OpenFolder, open_journal};
 use rw_kept_head::{KeptHead, OpenError, Opened};
 use rw_metrics::ReceiveCounters;
-use rw_receive::{serve_connections, serve_until_stop};
+use rw_receive::{FinalHead, serve_connections, serve_until_stop};
 use rw_reopen::ReopenError;
 use rw_text::ToolFault;
 use rw_types::Std;
 use rw_words::{Receiving, Until};
-use std::alloc::{AllocError, Global};
 use std::fs;
 use std::fs::{File, TryLockError};
 use std::io::Error;
 use std::net::TcpListener;
 use std::process::ExitCode;
-use std::sync::{Arc, Wait};
+use std::sync::Wait;
 use std::thread::Threads;
 use std::time::Clock;
 
@@ -34,50 +30,6 @@ pub type FolderHead = KeptHead<Log>;
 
 /// The most pages of a segment: 128 MiB, as a segment of Prometheus has.
 const PAGES: usize = 4096;
-
-/// What is shared with the log in a folder while connections are served.
-#[derive(Drop)]
-pub struct Keeping {
-    pub counters: Arc<ReceiveCounters, Global>,
-    /// What stops the receiver, or `None` if it ends after some connections.
-    signal: Option<Arc<StopSignal, Global>>,
-    /// Whether the receiver is stopped once a write has failed.
-    ends_on_write_error: bool,
-}
-
-impl Keeping {
-    /// Returns these counters, and a new stop signal.
-    pub fn new<R: Threads>(
-        rt: &HostRuntime,
-        threads: &R,
-        receiving: &Receiving<'_>,
-        counters: Arc<ReceiveCounters, Global>,
-    ) -> Result<Keeping, AllocError> {
-        let signal = match &receiving.until {
-            Until::Connections(_) => None,
-            Until::InputEnds => Some(stop_signal(rt, threads, None, None)?),
-            Until::FileIs(path) => Some(stop_signal(rt, threads, Some(*path), None)?),
-        };
-        Ok(Keeping {
-            counters,
-            signal,
-            ends_on_write_error: receiving.ends_on_write_error,
-        })
-    }
-
-    /// Returns what watches the calls on the files of the folder.
-    fn monitor(&self) -> Result<FolderMonitor, AllocError> {
-        let counters = Arc::try_clone(&self.counters)?;
-        let signal = match &self.signal {
-            Some(signal) if self.ends_on_write_error => Some(Arc::try_clone(signal)?),
-            _ => None,
-        };
-        Ok(FolderMonitor {
-            counters: Some(counters),
-            signal,
-        })
-    }
-}
 
 /// Why the log in a folder cannot be opened.
 pub enum KeepError {
@@ -103,16 +55,8 @@ pub fn lock_folder(rt: &HostRuntime, dir: &str) -> Result<File, KeepError> {
 }
 
 /// Opens the log in a folder.
-pub fn open_head(
-    rt: &HostRuntime,
-    limits: &Limits,
-    dir: &str,
-    keeping: &Keeping,
-) -> Result<Opened<Log>, KeepError> {
-    let Ok(monitor) = keeping.monitor() else {
-        return Err(KeepError::Folder(FolderError::OutOfMemory));
-    };
-    let journal = match open_journal(rt, dir, monitor) {
+pub fn open_head(rt: &HostRuntime, limits: &Limits, dir: &str) -> Result<Opened<Log>, KeepError> {
+    let journal = match open_journal(rt, dir) {
         Ok(journal) => journal,
         Err(error) => return Err(KeepError::Folder(error)),
     };
@@ -152,10 +96,10 @@ pub fn report_keep_error(rt: &HostRuntime, dir: &str, error: KeepError) -> ExitC
 
 /// Reports what a folder holds, if somebody may read that, and in any case what was cut off.
 pub fn report_opened(rt: &HostRuntime, dir: &str, opened: &Opened<Log>, receiving: &Receiving<'_>) {
-    if let Some(number) = opened.kept.journal().files().torn() {
-        let torn = opened.end.torn.len();
+    let torn = opened.end.torn.len();
+    if torn > 0 {
         let _ = eprintln!(rt;
-            "rwship: the last write to {dir} was torn: {torn} bytes are cut off, and copied to torn-{number:08} there"
+            "rwship: the last write to {dir} was torn: {torn} bytes are cut off, and copied to torn-NNNNNNNN there"
         );
     }
     if is_watched(rt, &receiving.reporting) {
@@ -167,6 +111,47 @@ pub fn report_opened(rt: &HostRuntime, dir: &str, opened: &Opened<Log>, receivin
     }
 }
 
+/// Serves as many connections as asked for, over a head whose log is in a folder.
+fn serve_some<R: Threads + Wait + Clock + Sync>(
+    rt: &HostRuntime,
+    threads: &R,
+    limits: &Limits,
+    listener: TcpListener,
+    receiving: &Receiving<'_>,
+    counters: &ReceiveCounters,
+    head: FolderHead,
+) -> Result<FinalHead<FolderHead>, ToolFault> {
+    let service = service_of(receiving, counters);
+    serve_connections(threads, rt.alloc(), limits, service, listener, head)
+}
+
+/// Serves connections until a stop is requested, over a head whose log is in a folder.
+fn serve_until<R: Threads + Wait + Clock + Sync>(
+    rt: &HostRuntime,
+    threads: &R,
+    limits: &Limits,
+    listener: TcpListener,
+    receiving: &Receiving<'_>,
+    counters: &ReceiveCounters,
+    head: FolderHead,
+) -> Result<FinalHead<FolderHead>, ToolFault> {
+    let stop_file = match &receiving.until {
+        Until::FileIs(path) => Some(*path),
+        _ => None,
+    };
+    let signal = stop_signal(rt, threads, stop_file, None)?;
+    let service = service_of(receiving, counters);
+    serve_until_stop(
+        threads,
+        rt.alloc(),
+        limits,
+        service,
+        &signal,
+        listener,
+        head,
+    )
+}
+
 /// Serves connections for as long as asked for, over a head whose log is in a folder, and prints
 /// what it then holds if that is wanted. Returns the head.
 pub fn serve_kept<R: Threads + Wait + Clock + Sync>(
@@ -175,14 +160,14 @@ pub fn serve_kept<R: Threads + Wait + Clock + Sync>(
     limits: &Limits,
     listener: TcpListener,
     receiving: &Receiving<'_>,
-    keeping: &Keeping,
+    counters: &ReceiveCounters,
     head: FolderHead,
 ) -> Result<FolderHead, ToolFault> {
-    let service = service_of(receiving, &keeping.counters);
-    let alloc = rt.alloc();
-    let served = match &keeping.signal {
-        None => serve_connections(threads, alloc, limits, service, listener, head)?,
-        Some(signal) => serve_until_stop(threads, alloc, limits, service, signal, listener, head)?,
+    let served = match &receiving.until {
+        Until::Connections(_) => {
+            serve_some(rt, threads, limits, listener, receiving, counters, head)?
+        }
+        _ => serve_until(rt, threads, limits, listener, receiving, counters, head)?,
     };
     if !receiving.is_quiet {
         served.print(rt.alloc(), &mut Std::new(rt.stdout()))?;

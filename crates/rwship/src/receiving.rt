@@ -3,8 +3,7 @@
 use crate::bounds::service_of;
 use crate::ending::{point_to_explain, report_result, report_settings_fault};
 use crate::keeping::{
-    FolderHead, Keeping, lock_folder, open_head, report_keep_error, report_kept, report_opened,
-    serve_kept,
+    FolderHead, lock_folder, open_head, report_keep_error, report_kept, report_opened, serve_kept,
 };
 use crate::reporting::{begin_reporting, end_reporting, print_listen_error};
 use crate::settings::settings_in;
@@ -89,32 +88,25 @@ fn serve<R: Threads + Wait + Clock + Sync>(
 }
 
 /// Returns counters that have counted nothing.
-fn new_counters(
+fn new_counters(rt: &HostRuntime) -> Result<Arc<ReceiveCounters, Global>, AllocError> {
+    let counters = ReceiveCounters::new(rt.alloc())?;
+    Ok(Arc::new(rt.alloc(), counters)?)
+}
+
+/// Returns new counters, which are reported from here on as far as that is asked for.
+fn reported_counters<R: Threads>(
     rt: &HostRuntime,
+    threads: &R,
     receiving: &Receiving<'_>,
-) -> Result<Arc<ReceiveCounters, Global>, AllocError> {
-    let counters = match receiving.dir {
-        Some(_) => ReceiveCounters::of_kept_log(rt.alloc())?,
-        None => ReceiveCounters::new(rt.alloc())?,
-    };
+) -> Result<Arc<ReceiveCounters, Global>, ToolFault> {
+    let counters = new_counters(rt)?;
     counters.set_limits(
         receiving.max_samples.unwrap_or(0),
         receiving.max_series.unwrap_or(0),
     );
-    Ok(Arc::new(rt.alloc(), counters)?)
-}
-
-/// Reports these counters from here on, as far as that is asked for, and returns them as those of a
-/// receiver.
-fn report_counters<R: Threads>(
-    rt: &HostRuntime,
-    threads: &R,
-    receiving: &Receiving<'_>,
-    counters: &Arc<ReceiveCounters, Global>,
-) -> Result<Counters, ToolFault> {
-    let shown = Counters::Receive(Arc::try_clone(counters)?);
+    let shown = Counters::Receive(Arc::try_clone(&counters)?);
     begin_reporting(rt, threads, &receiving.reporting, &shown)?;
-    Ok(shown)
+    Ok(counters)
 }
 
 /// Serves connections, and reports how that goes as far as it is asked for.
@@ -125,10 +117,9 @@ fn serve_and_report<R: Threads + Wait + Clock + Sync>(
     listener: TcpListener,
     receiving: &Receiving<'_>,
 ) -> Result<(), ToolFault> {
-    let counters = new_counters(rt, receiving)?;
-    let shown = report_counters(rt, threads, receiving, &counters)?;
+    let counters = reported_counters(rt, threads, receiving)?;
     let outcome = serve(rt, threads, settings, listener, receiving, &counters);
-    end_reporting(rt, &receiving.reporting, &shown);
+    end_reporting(rt, &receiving.reporting, &Counters::Receive(counters));
     outcome
 }
 
@@ -140,30 +131,20 @@ fn keep<R: Threads + Wait + Clock + Sync>(
     settings: &Settings,
     listener: TcpListener,
     receiving: &Receiving<'_>,
-    keeping: &Keeping,
     head: FolderHead,
 ) -> Result<FolderHead, ToolFault> {
-    let shown = report_counters(rt, threads, receiving, &keeping.counters)?;
+    let counters = reported_counters(rt, threads, receiving)?;
     let outcome = serve_kept(
         rt,
         threads,
         &settings.limits,
         listener,
         receiving,
-        keeping,
+        &counters,
         head,
     );
-    end_reporting(rt, &receiving.reporting, &shown);
+    end_reporting(rt, &receiving.reporting, &Counters::Receive(counters));
     outcome
-}
-
-/// Returns new counters, and a stop signal, of a receiver that keeps a log.
-fn new_keeping<R: Threads>(
-    rt: &HostRuntime,
-    threads: &R,
-    receiving: &Receiving<'_>,
-) -> Result<Keeping, AllocError> {
-    Keeping::new(rt, threads, receiving, new_counters(rt, receiving)?)
 }
 
 /// Opens the log in a folder, and serves connections over it.
@@ -179,14 +160,10 @@ fn receive_into<R: Threads + Wait + Clock + Sync>(
         Ok(lock) => lock,
         Err(error) => return report_keep_error(rt, dir, error),
     };
-    let Ok(keeping) = new_keeping(rt, threads, receiving) else {
-        return report_result(rt, Err(ToolFault::OutOfMemory));
-    };
-    let status = match open_head(rt, &settings.limits, dir, &keeping) {
+    let status = match open_head(rt, &settings.limits, dir) {
         Ok(opened) => {
             report_opened(rt, dir, &opened, receiving);
-            let head = opened.kept;
-            let outcome = keep(rt, threads, settings, listener, receiving, &keeping, head);
+            let outcome = keep(rt, threads, settings, listener, receiving, opened.kept);
             report_kept(rt, dir, outcome)
         }
         Err(error) => report_keep_error(rt, dir, error),
