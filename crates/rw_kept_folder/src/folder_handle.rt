@@ -1,13 +1,11 @@
 //! A folder of segments as the operating system has it, with the file of the last one.
 
 use crate::fault::{FaultCause, FolderCall, FolderFault, cause_of};
-use crate::folder_monitor::FolderMonitor;
 use std::alloc::{AllocError, Global};
 use std::fs::{OpenFile, OpenOptions};
 use std::io::{ErrorKind, Read, Seek, SeekFrom, Write};
 use std::path::{Path, PathBuf};
 use std::rt::Files;
-use std::time::{Clock, Instant};
 use std::{fs, io};
 
 /// The greatest number of a segment, whose name has eight digits.
@@ -23,9 +21,6 @@ pub(crate) struct FolderHandle<R: Files> {
     number: Option<u64>,
     file: Option<R::File>,
     fault: Option<FolderFault>,
-    /// The number of the segment whose torn end was copied, if one was.
-    torn: Option<u64>,
-    monitor: FolderMonitor,
 }
 
 /// Returns the number of the segment after this one.
@@ -51,14 +46,9 @@ fn read_from<F: Read + Seek>(alloc: Global, file: &mut F, offset: u64) -> io::Re
     Ok(bytes)
 }
 
-impl<R: Files + Clock + AllocGlobal + Copy> FolderHandle<R> {
+impl<R: Files + AllocGlobal + Copy> FolderHandle<R> {
     /// Returns a folder whose last segment has this number and this file.
-    pub(crate) fn new(
-        rt: R,
-        dir: String,
-        last: Option<(u64, R::File)>,
-        monitor: FolderMonitor,
-    ) -> FolderHandle<R> {
+    pub(crate) fn new(rt: R, dir: String, last: Option<(u64, R::File)>) -> FolderHandle<R> {
         let (number, file) = match last {
             Some((number, file)) => (Some(number), Some(file)),
             None => (None, None),
@@ -69,14 +59,7 @@ impl<R: Files + Clock + AllocGlobal + Copy> FolderHandle<R> {
             number,
             file,
             fault: None,
-            torn: None,
-            monitor,
         }
-    }
-
-    /// Returns the number of the segment whose torn end was copied, if one was.
-    pub(crate) fn torn(&self) -> Option<u64> {
-        self.torn
     }
 
     /// Returns the fault after which no call is made, if there was one.
@@ -151,7 +134,6 @@ impl<R: Files + Clock + AllocGlobal + Copy> FolderHandle<R> {
         let mut copy = fs::create(&self.rt, path.as_path())?;
         copy.write_all(&torn)?;
         copy.sync_all()?;
-        self.torn = Some(number);
         self.sync_dir()
     }
 
@@ -160,18 +142,6 @@ impl<R: Files + Clock + AllocGlobal + Copy> FolderHandle<R> {
             Some(file) if file.metadata()?.len() > len => file.set_len(len),
             _ => Ok(()),
         }
-    }
-
-    /// Counts a sync that began then, if it has succeeded.
-    fn count_sync(&self, begun: Option<Instant>, outcome: &io::Result<()>) {
-        if outcome.is_err() {
-            return;
-        }
-        let took = match begun {
-            Some(begun) => begun.elapsed(&self.rt).ok(),
-            None => None,
-        };
-        self.monitor.sync(took);
     }
 
     /// Keeps the fault of a call that failed.
@@ -185,7 +155,6 @@ impl<R: Files + Clock + AllocGlobal + Copy> FolderHandle<R> {
                     cause: cause_of(&error),
                 };
                 self.fault = Some(fault);
-                self.monitor.fail();
                 Err(fault)
             }
         }
@@ -197,9 +166,6 @@ impl<R: Files + Clock + AllocGlobal + Copy> FolderHandle<R> {
             return Err(fault);
         }
         let outcome = self.write(bytes);
-        if outcome.is_ok() {
-            self.monitor.write(bytes.len());
-        }
         self.end(FolderCall::Write, outcome)
     }
 
@@ -227,9 +193,7 @@ impl<R: Files + Clock + AllocGlobal + Copy> FolderHandle<R> {
         if let Some(fault) = self.fault {
             return Err(fault);
         }
-        let begun = Instant::now(&self.rt).ok();
         let outcome = self.sync_file();
-        self.count_sync(begun, &outcome);
         self.end(FolderCall::Sync, outcome)
     }
 
@@ -238,9 +202,7 @@ impl<R: Files + Clock + AllocGlobal + Copy> FolderHandle<R> {
         if let Some(fault) = self.fault {
             return Err(fault);
         }
-        let begun = Instant::now(&self.rt).ok();
         let outcome = self.sync_dir();
-        self.count_sync(begun, &outcome);
         self.end(FolderCall::SyncFolder, outcome)
     }
 
@@ -250,9 +212,6 @@ impl<R: Files + Clock + AllocGlobal + Copy> FolderHandle<R> {
             return Err(fault);
         }
         let outcome = self.create();
-        if outcome.is_ok() {
-            self.monitor.begin_segment();
-        }
         self.end(FolderCall::Create, outcome)
     }
 }

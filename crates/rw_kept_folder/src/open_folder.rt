@@ -15,7 +15,6 @@ use rw_journal::JournalError;
 use std::collections::VecDeque;
 use std::marker::Model;
 use std::rt::Files;
-use std::time::Clock;
 
 /// The files of a folder. Contracts see what was loaded, and what was asked of the operating system
 /// since then; what the files hold and what a crash may leave of them is defined by that.
@@ -54,7 +53,7 @@ fn fail(record: &mut Record, fault: FolderFault) -> JournalError
     }
 }
 
-impl<R: Files + Clock + AllocGlobal + Copy> OpenFolder<R> {
+impl<R: Files + AllocGlobal + Copy> OpenFolder<R> {
     /// Returns the files of a folder whose segments have these texts, which the record says were
     /// loaded.
     pub(crate) fn new(
@@ -80,15 +79,9 @@ impl<R: Files + Clock + AllocGlobal + Copy> OpenFolder<R> {
     pub fn fault(&self) -> Option<FolderFault> {
         self.handle.fault()
     }
-
-    /// Returns N if the torn end of segment N was copied to the file `torn-N`, of which N has eight
-    /// digits.
-    pub fn torn(&self) -> Option<u64> {
-        self.handle.torn()
-    }
 }
 
-impl<R: Files + Clock + AllocGlobal + Copy> SegmentFiles for OpenFolder<R> {
+impl<R: Files + AllocGlobal + Copy> SegmentFiles for OpenFolder<R> {
     ghost seen = { λ f. seen_of f };
 
     ghost may_leave = { λ f c. MayLeave f c };

@@ -1,12 +1,7 @@
-//! Journals in the files of a folder: which folders are refused, and why, and what is counted.
+//! Journals in the files of a folder: which folders are refused, and why.
 
-use rw_follow::{StopRequest, StopSignal};
-use rw_journal::Journal;
-use rw_kept_folder::{FaultCause, FolderError, FolderMonitor, open_journal};
-use rw_metrics::{KeptNumbers, ReceiveCounters};
-use std::alloc::Global;
-use std::path::{Path, PathBuf};
-use std::sync::Arc;
+use rw_kept_folder::{FaultCause, FolderError, open_journal};
+use std::path::PathBuf;
 use std::test::Fail;
 use std::{env, fs};
 
@@ -60,7 +55,7 @@ static REFUSED: [Refused; 4] = [
 fn first_not_refused(rt: &HostRuntime) -> Result<Option<&'static str>, Fail> {
     for row in &REFUSED {
         let dir = make_folder(rt, "rwship-a-refused-journal", row.files)?;
-        let error = open_journal(rt, dir.as_path().as_str(), FolderMonitor::none()).err();
+        let error = open_journal(rt, dir.as_path().as_str()).err();
         fs::remove_dir_all(rt, dir.as_path())?;
         if error != Some(row.error) {
             return Ok(Some(row.name));
@@ -80,8 +75,8 @@ fn a_folder_that_cannot_be_listed_says_why(rt: HostRuntime) -> Result<(), Fail> 
     let dir = make_folder(&rt, "rwship-an-unlisted-journal", &[("00000000", "a")])?;
     let file = dir.as_path().join(rt.alloc(), "00000000")?;
     let none = dir.as_path().join(rt.alloc(), "none")?;
-    let of_file = open_journal(&rt, file.as_path().as_str(), FolderMonitor::none()).err();
-    let of_none = open_journal(&rt, none.as_path().as_str(), FolderMonitor::none()).err();
+    let of_file = open_journal(&rt, file.as_path().as_str()).err();
+    let of_none = open_journal(&rt, none.as_path().as_str()).err();
     fs::remove_dir_all(&rt, dir.as_path())?;
     assert_eq!(rt;
         of_file,
@@ -91,59 +86,5 @@ fn a_folder_that_cannot_be_listed_says_why(rt: HostRuntime) -> Result<(), Fail> 
         of_none,
         Some(FolderError::Unreadable(FaultCause::NotFound))
     );
-    Ok(())
-}
-
-/// Begins a segment, appends three bytes and syncs them, and begins a segment whose file exists.
-/// Returns whether only the last of these failed.
-fn journals_until_a_fault(
-    rt: &HostRuntime,
-    dir: Path<'_>,
-    monitor: FolderMonitor,
-) -> Result<bool, Fail> {
-    let Ok(journal) = open_journal(rt, dir.as_str(), monitor) else {
-        return Ok(false);
-    };
-    let mut journal = journal;
-    if journal.begin().is_err() || journal.append(b"abc").is_err() || journal.sync().is_err() {
-        return Ok(false);
-    }
-    fs::write(rt, dir.join(rt.alloc(), "00000001")?, "")?;
-    Ok(journal.begin().is_err() && journal.append(b"d").is_err())
-}
-
-/// Returns the counters and the signal of a journal that has counted nothing.
-fn new_watch(
-    alloc: Global,
-) -> Result<(Arc<ReceiveCounters, Global>, Arc<StopSignal, Global>), Fail> {
-    let counters = Arc::new(alloc, ReceiveCounters::of_kept_log(alloc)?)?;
-    let signal = Arc::new(alloc, StopSignal::new())?;
-    Ok((counters, signal))
-}
-
-#[test]
-fn a_journal_is_counted_and_stops_at_a_fault(rt: HostRuntime) -> Result<(), Fail> {
-    let (counters, signal) = new_watch(rt.alloc())?;
-    let monitor = FolderMonitor {
-        counters: Some(Arc::try_clone(&counters)?),
-        signal: Some(Arc::try_clone(&signal)?),
-    };
-    let dir = make_folder(&rt, "rwship-a-counted-journal", &[])?;
-    let is_failed_at_last = journals_until_a_fault(&rt, dir.as_path(), monitor)?;
-    fs::remove_dir_all(&rt, dir.as_path())?;
-    let counted = counters.numbers(rt.alloc())?.kept;
-    let sync_micros = counted.map_or(0, |numbers| numbers.sync_micros);
-    assert!(rt; is_failed_at_last);
-    assert_eq!(rt;
-        counted,
-        Some(KeptNumbers {
-            bytes: 3,
-            syncs: 2,
-            sync_micros,
-            segments: 1,
-            failed: 1,
-        })
-    );
-    assert_eq!(rt; signal.request(), StopRequest::Finish);
     Ok(())
 }
