@@ -376,12 +376,14 @@ pub fn send<R: Threads + Wait + Clock + Copy + Send + 'static>(
     };
     let timeout_ms = settings.config.fields().timeout_ms;
     match start(rt, threads, sending, timeout_ms, file.is_explained) {
-        Ok(Shipment {
-            log,
-            connect,
-            stop,
-            counters,
-        }) => {
+        Ok(
+            Shipment {
+                log,
+                connect,
+                stop,
+                counters,
+            },
+        ) => {
             let has_nothing = is_empty(&log);
             if has_nothing {
                 note_empty(rt, sending, file.is_explained);
@@ -393,7 +395,14 @@ pub fn send<R: Threads + Wait + Clock + Copy + Send + 'static>(
                 stop,
             };
             let outcome = ship_log(rt, threads, settings, log, options);
-            finish(rt, sending, counters, has_nothing, outcome, file.is_explained)
+            finish(
+                rt,
+                sending,
+                counters,
+                has_nothing,
+                outcome,
+                file.is_explained,
+            )
         }
         Err(status) => status,
     }
