@@ -148,8 +148,7 @@ const LOG_TABLE: &str = "
 ";
 
 /// Its progress, in one line.
-const LOG_LINE: &str =
-    "connections 0 accepted 0 samples 0 bytes 32771 syncs 2 segments 1 failed 1";
+const LOG_LINE: &str = "connections 0 accepted 0 samples 0 bytes 32771 syncs 2 segments 1 failed 1";
 
 /// What is dropped of a log.
 static DROPPED: [(u64, Reason); 3] = [
@@ -381,9 +380,11 @@ fn shows_its_log(alloc: Global) -> Result<bool, AllocError> {
     let page = receive_page(alloc, &numbers)?;
     let html = receive_html(alloc, &numbers)?;
     let line = receive_line(alloc, &numbers)?;
-    Ok(page.ends_with(LOG_PAGE.as_bytes())
-        && html.ends_with(LOG_TABLE.as_bytes())
-        && line.as_slice() == LOG_LINE.as_bytes())
+    Ok(
+        page.ends_with(LOG_PAGE.as_bytes())
+            && html.ends_with(LOG_TABLE.as_bytes())
+            && line.as_slice() == LOG_LINE.as_bytes(),
+    )
 }
 
 /// Returns whether a receiver that keeps no log counts nothing of one.
