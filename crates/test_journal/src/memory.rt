@@ -147,13 +147,13 @@ fn first_wrong(alloc: Global) -> Option<(usize, Wrong)> {
         return Some((0, Wrong::OutOfMemory));
     };
     let mut journal = MemoryJournal::new(alloc);
-    let mut place = 0;
+    let mut place: usize = 0;
     for request in &requests {
         journal = match ask(alloc, &limits, journal, request) {
             Ok(journal) => journal,
             Err(wrong) => return Some((place, wrong)),
         };
-        place += 1;
+        place = place.saturating_add(1);
     }
     None
 }
