@@ -16,14 +16,14 @@ abbrev pub IsRefusedRightly : Segments → Segments → OpenError → Type 0
 IsRefusedRightly old new (Log OutOfMemory) = Unit {0}
 IsRefusedRightly old new (Log Failed) = Unit {0}
 IsRefusedRightly old new (Log (Damaged d)) = IsDamage old d × (new ≡ old)
-IsRefusedRightly old new Foreign = new ≡ old
+IsRefusedRightly old new (Foreign at) = new ≡ old
 IsRefusedRightly old new NoReferenceLeft = new ≡ old
 
 -- a log is said to be foreign only if no head with these limits holds its samples, and to have no
 -- reference left only if it has one from 2^63 on
 abbrev pub HasCause : LabelLimits → Segments → OpenError → Type 0
 HasCause limits segments (Log e) = Unit {0}
-HasCause limits segments Foreign = IsAdmitted limits segments → ⊥
+HasCause limits segments (Foreign at) = IsAdmitted limits segments → ⊥
 HasCause limits segments NoReferenceLeft = 2 ^ 63 ≤ greatest_after 0 (entries_of page_size segments)
 
 -- these segments have the same entries

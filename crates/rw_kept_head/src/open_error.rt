@@ -15,8 +15,8 @@ pub enum OpenError {
     /// The log cannot be opened.
     Log(ReopenError),
     /// The log has samples that no head with these limits holds: their labels are refused, or their
-    /// timestamps do not rise.
-    Foreign,
+    /// timestamps do not rise. The number is the position of the first such entry, from 0 on.
+    Foreign(u64),
     /// The log has a reference from 2^63 on, so there may be none left after it.
     NoReferenceLeft,
 }
@@ -41,7 +41,12 @@ impl fmt::Display for OpenError {
     fn fmt<W: fmt::Write>(&self, f: &mut fmt::Formatter<W>) -> fmt::Result {
         match self {
             OpenError::Log(error) => write!(f, "{error}"),
-            OpenError::Foreign => f.write_str("the log has an entry that this head refuses"),
+            OpenError::Foreign(at) => {
+                write!(
+                    f,
+                    "the log has an entry that this head refuses, at position {at}"
+                )
+            }
             OpenError::NoReferenceLeft => f.write_str("the log has a reference from 2^63 on"),
         }
     }

@@ -54,8 +54,9 @@ fn open_log<J: Journal>(
     an_empty_segment_ends_at_0();
     let mut restoring = Restoring::new(alloc, limits);
     let end = read_log(journal, alloc, &mut restoring)?;
+    let accepted = restoring.accepted();
     let Some(head) = restoring.into_head() else {
-        return Err(OpenError::Foreign);
+        return Err(OpenError::Foreign(accepted));
     };
     if end.greatest >= MAX_REFERENCE {
         return Err(OpenError::NoReferenceLeft);

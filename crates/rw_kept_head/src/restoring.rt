@@ -175,6 +175,15 @@ fn is_refused(before: bool, done: bool) -> bool
     before || !done
 }
 
+/// Returns how many entries are accepted with one more, unless one was refused.
+fn count_accepted(accepted: u64, refused: bool) -> u64 {
+    if refused {
+        accepted
+    } else {
+        accepted.saturating_add(1)
+    }
+}
+
 /// Makes the head that a log says, as its entries come. Contracts see the entries, what the head
 /// holds, whether an entry was refused, and whether memory ran out.
 #[derive(Drop)]
@@ -185,6 +194,8 @@ pub(crate) struct Restoring {
     names: Names,
     series: IndexMap<u64, Option<Series>>,
     message: Message,
+    /// How many entries came before the first one that was refused.
+    accepted: u64,
     /// Whether there is an entry that no head like this one was given.
     refused: bool,
     /// Whether memory ran out while an entry was taken.
@@ -230,9 +241,15 @@ impl Restoring {
             message: Message {
                 series: Vec::new(alloc),
             },
+            accepted: 0,
             refused: false,
             failed: false,
         }
+    }
+
+    /// Returns how many entries came before the first one that was refused.
+    pub(crate) fn accepted(&self) -> u64 {
+        self.accepted
     }
 
     /// Returns the head, which holds what the entries say; `None` if one of them was refused.
@@ -251,6 +268,7 @@ impl Restoring {
             names: _,
             series: _,
             message: _,
+            accepted: _,
             refused,
             failed: _,
         } = self;
@@ -284,6 +302,7 @@ impl EntrySink for Restoring {
         )?;
         self.taken.push(&entry);
         self.refused = is_refused(self.refused, done);
+        self.accepted = count_accepted(self.accepted, self.refused);
         self.failed = had_failed;
         Ok(())
     }

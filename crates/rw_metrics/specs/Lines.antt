@@ -5,6 +5,7 @@ use Rattle.rw_metrics.specs.declared.cause.Cause.TheVariants as cause
 use Rattle.rw_metrics.specs.declared.send_numbers.Drops.{Drops}
 use Rattle.rw_metrics.specs.declared.send_numbers.SendNumbers.{SendNumbers}
 use Rattle.rw_metrics.specs.declared.send_numbers.Skipped.{Skipped}
+use Rattle.rw_metrics.specs.declared.receive_numbers.KeptNumbers.{KeptNumbers}
 use Rattle.rw_metrics.specs.declared.receive_numbers.ReceiveNumbers.{ReceiveNumbers}
 
 -- ` WORD N`
@@ -81,6 +82,19 @@ reading_line n =
 abbrev pub send_line : SendNumbers → List ℕ
 send_line n = samples_line n ++ work_line n ++ reading_line n
 
+-- what a receiver wrote to the log of a folder
+unfoldable pub log_text : KeptNumbers → List ℕ
+log_text n =
+    word_and_count (codes "bytes") n.bytes
+    ++ word_and_count (codes "syncs") n.syncs
+    ++ word_and_count (codes "segments") n.segments
+    ++ word_and_count (codes "failed") n.failed
+
+-- the same, if it has such a log
+unfoldable pub kept_text : Option KeptNumbers → List ℕ
+kept_text None = []
+kept_text (Some n) = log_text n
+
 -- of a receiver
 abbrev pub receive_line : ReceiveNumbers → List ℕ
 receive_line n =
@@ -88,6 +102,7 @@ receive_line n =
     ++ word_and_count (codes "accepted") n.accepted
     ++ word_and_count (codes "samples") n.samples
     ++ status_counts_text n.statuses.items
+    ++ kept_text n.kept
 
 -- how many samples a sender has dropped, by reason
 abbrev pub drops_line : Drops → List ℕ

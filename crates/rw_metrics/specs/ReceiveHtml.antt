@@ -1,6 +1,7 @@
 -- The page of a receiver for people.
-use Rattle.std.specs.Prelude.{ℕ, List, [], ◌++◌, ◌==◌, if◌then◌else◌, codes}
+use Rattle.std.specs.Prelude.{ℕ, List, [], ◌++◌, ◌/◌, ◌==◌, if◌then◌else◌, Option, None, Some, codes}
 use Rattle.rw_metrics.specs.Html.{page_start, page_end, table_start, table_end, row, status_rows}
+use Rattle.rw_metrics.specs.declared.receive_numbers.KeptNumbers.{KeptNumbers}
 use Rattle.rw_metrics.specs.declared.receive_numbers.ReceiveNumbers.{ReceiveNumbers}
 
 -- a limit, if there is one
@@ -13,8 +14,8 @@ held_table n =
     table_start (codes "Held")
     ++ row (codes "Samples") n.samples
     ++ row (codes "Series") n.label_sets
-    ++ limit_row (codes "Most samples") n.max_samples
-    ++ limit_row (codes "Most series") n.max_label_sets
+    ++ limit_row (codes "Limit of samples") n.max_samples
+    ++ limit_row (codes "Limit of series") n.max_label_sets
     ++ table_end
 
 -- the connections
@@ -33,10 +34,27 @@ answers_table n =
     ++ status_rows (codes "With status") n.statuses.items
     ++ table_end
 
+-- what was written to the log of a folder
+unfoldable pub log_table : KeptNumbers → List ℕ
+log_table n =
+    table_start (codes "Log")
+    ++ row (codes "Bytes written") n.bytes
+    ++ row (codes "Syncs") n.syncs
+    ++ row (codes "Milliseconds in syncs") (n.sync_micros / 1000)
+    ++ row (codes "Segments begun") n.segments
+    ++ row (codes "Writes and syncs that failed") n.failed
+    ++ table_end
+
+-- the same, if the receiver has such a log
+unfoldable pub kept_table : Option KeptNumbers → List ℕ
+kept_table None = []
+kept_table (Some n) = log_table n
+
 abbrev pub receive_html : ReceiveNumbers → List ℕ
 receive_html n =
     page_start (codes "rwship receive")
     ++ held_table n
     ++ connections_table n
     ++ answers_table n
+    ++ kept_table n.kept
     ++ page_end

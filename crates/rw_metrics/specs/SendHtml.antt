@@ -102,7 +102,7 @@ reading_table n =
     ++ row (codes "Bytes read") n.bytes
     ++ percent_row n.bytes n.folder_bytes
     ++ skipped_table n.skipped
-    ++ row (codes "Shards at work") n.shards
+    ++ row (codes "Running shards") n.shards
     ++ table_end
 
 abbrev pub send_html : SendNumbers → List ℕ

@@ -11,23 +11,23 @@ abbrev pub reading_page : SendNumbers → List ℕ
 reading_page n =
     counter (codes "rwship_send_entries_read_total") (codes "Entries of the log that were read.") n.entries
     ++ counter (codes "rwship_send_bytes_read_total") (codes "Bytes of the log that were read.") n.bytes
-    ++ gauge (codes "rwship_send_folder_bytes") (codes "Bytes of the segments in the folder; 0 where they are not known.") n.folder_bytes
+    ++ gauge (codes "rwship_send_folder_bytes") (codes "Bytes of the segments in the folder; 0 if unknown.") n.folder_bytes
     ++ gauge (codes "rwship_send_segment") (codes "Number of the segment that is read.") n.segment
     ++ gauge (codes "rwship_send_segment_bytes_read") (codes "Bytes of that segment that were read.") n.segment_bytes
 
 -- how far behind the sender is
 unfoldable pub newest_page : SendNumbers → List ℕ
 newest_page n =
-    gauge (codes "rwship_send_newest_segment") (codes "Number of the newest segment in the folder; 0 where it is not known.") n.newest_segment
-    ++ gauge (codes "rwship_send_highest_timestamp_in_seconds") (codes "Highest timestamp of the samples that were put into a queue, in seconds since 1970; 0 where there is none.") n.newest_read
-    ++ gauge (codes "rwship_send_highest_acknowledged_timestamp_in_seconds") (codes "Highest timestamp of the samples that the receiver has acknowledged, in seconds since 1970; 0 where there is none.") n.newest_acknowledged
+    gauge (codes "rwship_send_newest_segment") (codes "Number of the newest segment in the folder; 0 if unknown.") n.newest_segment
+    ++ gauge (codes "rwship_send_highest_timestamp_in_seconds") (codes "Highest timestamp of the samples that were put into a queue, in seconds since 1970; 0 if there is none.") n.newest_read
+    ++ gauge (codes "rwship_send_highest_acknowledged_timestamp_in_seconds") (codes "Highest timestamp of the samples that the receiver has acknowledged, in seconds since 1970; 0 if there is none.") n.newest_acknowledged
 
 -- how far the samples have come
 abbrev pub samples_page : SendNumbers → List ℕ
 samples_page n =
     counter (codes "rwship_send_samples_read_total") (codes "Samples that were read.") n.read
     ++ counter (codes "rwship_send_samples_acknowledged_total") (codes "Samples that the receiver has acknowledged.") n.acknowledged
-    ++ counter (codes "rwship_send_samples_filtered_total") (codes "Samples that the rules have filtered.") n.filtered
+    ++ counter (codes "rwship_send_samples_filtered_total") (codes "Samples that the rules drop.") n.filtered
     ++ gauge (codes "rwship_send_samples_in_flight") (codes "Samples that were put into a queue and have no answer yet.") n.in_flight
 
 -- how far those that were put into a queue have come
@@ -36,7 +36,7 @@ queue_page n =
     counter (codes "rwship_send_samples_placed_total") (codes "Samples that were put into a queue.") n.placed
     ++ counter (codes "rwship_send_samples_resolved_total") (codes "Samples that the receiver has acknowledged or refused permanently.") n.resolved
     ++ gauge (codes "rwship_send_backlog_samples") (codes "Samples in flight that do not only wait for a full batch.") n.waiting
-    ++ gauge (codes "rwship_send_shards") (codes "Shards at work.") n.shards
+    ++ gauge (codes "rwship_send_shards") (codes "Running shards.") n.shards
 
 -- the dropped samples, by reason
 abbrev pub drops_page : Drops → List ℕ

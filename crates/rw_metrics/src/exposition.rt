@@ -1,7 +1,7 @@
 //! Metrics in the text format 0.0.4 of Prometheus.
 
 ghost use Rattle.std.specs.Prelude.{◌≡◌, ◌++◌, OnOk, codes, decimal};
-ghost use Rattle.rw_metrics.specs.Exposition.{about, by_status, counter, counters, gauge, labelled_line, status_sample};
+ghost use Rattle.rw_metrics.specs.Exposition.{about, by_status, counter, counters, gauge, labelled_line, seconds_counter, seconds_text, status_sample, three_digits};
 
 use rw_text::push_number;
 use std::alloc::AllocError;
@@ -50,6 +50,46 @@ pub(crate) fn push_counter(
     push_about(out, name, "counter", help)?;
     push_text(out, name)?;
     push_value(out, n)
+}
+
+/// Adds the last three digits of a number.
+#[tactic(auto, unfolding(crate::specs::Exposition::three_digits))]
+fn push_three_digits(out: &mut Vec<u8>, n: u64) -> Result<(), AllocError>
+    ensures { OnOk result (out.new.items ≡ out.old.items ++ three_digits n) }
+{
+    push_number(out, n / 100 % 10)?;
+    push_number(out, n / 10 % 10)?;
+    push_number(out, n % 10)
+}
+
+/// Adds microseconds as seconds.
+#[tactic(auto, unfolding(crate::specs::Exposition::seconds_text))]
+fn push_seconds(out: &mut Vec<u8>, micros: u64) -> Result<(), AllocError>
+    ensures { OnOk result (out.new.items ≡ out.old.items ++ seconds_text micros) }
+{
+    push_number(out, micros / 1_000_000)?;
+    push_text(out, ".")?;
+    push_three_digits(out, micros / 1_000)?;
+    push_three_digits(out, micros)
+}
+
+/// Adds a counter of seconds.
+#[tactic(auto, unfolding(crate::specs::Exposition::seconds_counter))]
+pub(crate) fn push_seconds_counter(
+    out: &mut Vec<u8>,
+    name: &str,
+    help: &str,
+    micros: u64,
+) -> Result<(), AllocError>
+    ensures { OnOk result
+        (out.new.items ≡ out.old.items ++ seconds_counter name.now help.now micros) }
+{
+    push_about(out, name, "counter", help)?;
+    push_text(out, name)?;
+    push_text(out, " ")?;
+    push_seconds(out, micros)?;
+    push_text(out, "\n")?;
+    Ok(())
 }
 
 /// Adds a gauge.

@@ -1,11 +1,11 @@
 //! Lines of progress.
 
 ghost use Rattle.std.specs.Prelude.{◌≡◌, ◌++◌, ◌<◌, IfOk, OnOk};
-ghost use Rattle.rw_metrics.specs.Lines.{cause_text, drops_line, lag, lag_text, last_failure_text, lost_count_text, other_count_text, percent, percent_text, reading_line, receive_line, samples_line, send_line, skipped_line, status_count_text, status_counts_text, word_and_count, word_and_count_if_any, work_line};
+ghost use Rattle.rw_metrics.specs.Lines.{cause_text, drops_line, kept_text, lag, lag_text, last_failure_text, log_text, lost_count_text, other_count_text, percent, percent_text, reading_line, receive_line, samples_line, send_line, skipped_line, status_count_text, status_counts_text, word_and_count, word_and_count_if_any, work_line};
 
 use crate::cause::Cause;
 use crate::exposition::push_text;
-use crate::receive_numbers::ReceiveNumbers;
+use crate::receive_numbers::{KeptNumbers, ReceiveNumbers};
 use crate::send_numbers::{Drops, SendNumbers, Skipped};
 use rw_text::push_number;
 use std::alloc::{AllocError, Global};
@@ -171,8 +171,32 @@ pub fn send_line(alloc: Global, numbers: &SendNumbers) -> Result<Vec<u8>, AllocE
     Ok(out)
 }
 
+/// Adds ` bytes N syncs N segments N failed N`.
+#[tactic(auto, unfolding(crate::specs::Lines::log_text))]
+fn push_log(out: &mut Vec<u8>, n: &KeptNumbers) -> Result<(), AllocError>
+    ensures { OnOk result (out.new.items ≡ out.old.items ++ log_text n.now) }
+{
+    push_word_and_count(out, "bytes", n.bytes)?;
+    push_word_and_count(out, "syncs", n.syncs)?;
+    push_word_and_count(out, "segments", n.segments)?;
+    push_word_and_count(out, "failed", n.failed)?;
+    Ok(())
+}
+
+/// Adds what was written to the log of a folder, if the receiver has one.
+#[tactic(auto, unfolding(crate::specs::Lines::kept_text))]
+fn push_kept(out: &mut Vec<u8>, kept: &Option<KeptNumbers>) -> Result<(), AllocError>
+    ensures { OnOk result (out.new.items ≡ out.old.items ++ kept_text kept.now) }
+{
+    match kept {
+        None => Ok(()),
+        Some(numbers) => push_log(out, numbers),
+    }
+}
+
 /// Returns the progress of a receiver with these numbers, in one line: `connections N accepted N
-/// samples N`, and ` status_NNN N` for each status.
+/// samples N`, ` status_NNN N` for each status, and ` bytes N syncs N segments N failed N` of what
+/// was written to its log, if it has one.
 pub fn receive_line(alloc: Global, numbers: &ReceiveNumbers) -> Result<Vec<u8>, AllocError>
     ensures { IfOk result (λ line. line.items ≡ receive_line numbers.now) }
 {
@@ -182,6 +206,7 @@ pub fn receive_line(alloc: Global, numbers: &ReceiveNumbers) -> Result<Vec<u8>, 
     push_word_and_count(&mut out, "accepted", numbers.accepted)?;
     push_word_and_count(&mut out, "samples", numbers.samples)?;
     push_status_counts(&mut out, numbers.statuses.as_slice())?;
+    push_kept(&mut out, &numbers.kept)?;
     Ok(out)
 }
 

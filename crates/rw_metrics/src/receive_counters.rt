@@ -1,6 +1,7 @@
 //! Counters of a receiver.
 
 use crate::codes::Codes;
+use crate::kept_counters::KeptCounters;
 use crate::receive_numbers::ReceiveNumbers;
 use std::alloc::{AllocError, Global};
 use std::sync::atomic::{AtomicU64, Ordering};
@@ -17,6 +18,7 @@ pub struct ReceiveCounters {
     label_sets: AtomicU64,
     max_samples: AtomicU64,
     max_label_sets: AtomicU64,
+    kept: Option<KeptCounters>,
 }
 
 fn read(counter: &AtomicU64) -> u64 {
@@ -28,8 +30,17 @@ fn add(counter: &AtomicU64, n: u64) {
 }
 
 impl ReceiveCounters {
-    /// Returns counters that are all 0.
+    /// Returns counters that are all 0, of a receiver that keeps no log.
     pub fn new(alloc: Global) -> Result<ReceiveCounters, AllocError> {
+        ReceiveCounters::with(alloc, None)
+    }
+
+    /// Returns counters that are all 0, of a receiver that writes to the log of a folder.
+    pub fn of_kept_log(alloc: Global) -> Result<ReceiveCounters, AllocError> {
+        ReceiveCounters::with(alloc, Some(KeptCounters::new()))
+    }
+
+    fn with(alloc: Global, kept: Option<KeptCounters>) -> Result<ReceiveCounters, AllocError> {
         let statuses = Codes::new(alloc)?;
         Ok(ReceiveCounters {
             accepted: AtomicU64::new(0),
@@ -40,6 +51,7 @@ impl ReceiveCounters {
             label_sets: AtomicU64::new(0),
             max_samples: AtomicU64::new(0),
             max_label_sets: AtomicU64::new(0),
+            kept,
         })
     }
 
@@ -75,6 +87,35 @@ impl ReceiveCounters {
         self.max_label_sets.store(max_label_sets, Ordering::Relaxed);
     }
 
+    /// Counts bytes that were written to the log of a folder. This and the next three calls count
+    /// nothing if the receiver keeps no log.
+    pub fn write_log(&self, bytes: u64) {
+        if let Some(kept) = &self.kept {
+            kept.write(bytes);
+        }
+    }
+
+    /// Counts a sync of that log, and for how long it took.
+    pub fn sync_log(&self, micros: u64) {
+        if let Some(kept) = &self.kept {
+            kept.sync(micros);
+        }
+    }
+
+    /// Counts a segment of that log that was begun.
+    pub fn begin_log_segment(&self) {
+        if let Some(kept) = &self.kept {
+            kept.begin_segment();
+        }
+    }
+
+    /// Counts a write, a sync or a new segment of that log that failed.
+    pub fn fail_log(&self) {
+        if let Some(kept) = &self.kept {
+            kept.fail();
+        }
+    }
+
     /// Returns the values of the counters.
     pub fn numbers(&self, alloc: Global) -> Result<ReceiveNumbers, AllocError> {
         let statuses = self.statuses.read(alloc)?;
@@ -89,6 +130,7 @@ impl ReceiveCounters {
             label_sets: read(&self.label_sets),
             max_samples: read(&self.max_samples),
             max_label_sets: read(&self.max_label_sets),
+            kept: self.kept.as_ref().map(|kept| kept.read()),
         })
     }
 }

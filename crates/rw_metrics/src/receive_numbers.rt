@@ -1,9 +1,24 @@
 //! Numbers of a receiver.
 
+/// How much a receiver has written to the log of a folder.
+#[derive(Clone, Copy, Debug, PartialEq, Eq)]
+pub struct KeptNumbers {
+    /// Bytes that were written.
+    pub bytes: u64,
+    /// Syncs that have succeeded.
+    pub syncs: u64,
+    /// Microseconds that they took.
+    pub sync_micros: u64,
+    /// Segments that were begun.
+    pub segments: u64,
+    /// Writes, syncs and new segments that failed.
+    pub failed: u64,
+}
+
 /// The values of a receiver's counters when they were read, one after the other.
 #[derive(Drop)]
 pub struct ReceiveNumbers {
-    /// Connections that are served.
+    /// Open connections.
     pub connections: u64,
     /// Connections that were accepted.
     pub accepted: u64,
@@ -19,4 +34,6 @@ pub struct ReceiveNumbers {
     pub max_samples: u64,
     /// How many label sets they may be of; 0 if there is no limit.
     pub max_label_sets: u64,
+    /// What was written to the log of a folder, if the receiver has one.
+    pub kept: Option<KeptNumbers>,
 }

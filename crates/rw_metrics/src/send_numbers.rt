@@ -125,7 +125,7 @@ pub struct SendNumbers {
     pub newest_acknowledged: u64,
     pub drops: Drops,
     pub skipped: Skipped,
-    /// Shards at work.
+    /// Running shards.
     pub shards: u64,
     /// Attempts to send a batch.
     pub attempts: u64,

@@ -180,7 +180,7 @@ fn push_reading(out: &mut Vec<u8>, n: &SendNumbers) -> Result<(), AllocError>
     push_row(out, "Bytes read", n.bytes)?;
     push_percent_row(out, n.bytes, n.folder_bytes)?;
     push_skipped(out, &n.skipped)?;
-    push_row(out, "Shards at work", n.shards)?;
+    push_row(out, "Running shards", n.shards)?;
     push_table_end(out)?;
     Ok(())
 }

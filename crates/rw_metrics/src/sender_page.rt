@@ -32,7 +32,7 @@ fn push_reading(out: &mut Vec<u8>, n: &SendNumbers) -> Result<(), AllocError>
     push_gauge(
         out,
         "rwship_send_folder_bytes",
-        "Bytes of the segments in the folder; 0 where they are not known.",
+        "Bytes of the segments in the folder; 0 if unknown.",
         n.folder_bytes,
     )?;
     push_gauge(
@@ -58,19 +58,19 @@ fn push_newest(out: &mut Vec<u8>, n: &SendNumbers) -> Result<(), AllocError>
     push_gauge(
         out,
         "rwship_send_newest_segment",
-        "Number of the newest segment in the folder; 0 where it is not known.",
+        "Number of the newest segment in the folder; 0 if unknown.",
         n.newest_segment,
     )?;
     push_gauge(
         out,
         "rwship_send_highest_timestamp_in_seconds",
-        "Highest timestamp of the samples that were put into a queue, in seconds since 1970; 0 where there is none.",
+        "Highest timestamp of the samples that were put into a queue, in seconds since 1970; 0 if there is none.",
         n.newest_read,
     )?;
     push_gauge(
         out,
         "rwship_send_highest_acknowledged_timestamp_in_seconds",
-        "Highest timestamp of the samples that the receiver has acknowledged, in seconds since 1970; 0 where there is none.",
+        "Highest timestamp of the samples that the receiver has acknowledged, in seconds since 1970; 0 if there is none.",
         n.newest_acknowledged,
     )?;
     Ok(())
@@ -96,7 +96,7 @@ fn push_samples(out: &mut Vec<u8>, n: &SendNumbers) -> Result<(), AllocError>
     push_counter(
         out,
         "rwship_send_samples_filtered_total",
-        "Samples that the rules have filtered.",
+        "Samples that the rules drop.",
         n.filtered,
     )?;
     push_gauge(
@@ -131,7 +131,7 @@ fn push_queue(out: &mut Vec<u8>, n: &SendNumbers) -> Result<(), AllocError>
         "Samples in flight that do not only wait for a full batch.",
         n.waiting,
     )?;
-    push_gauge(out, "rwship_send_shards", "Shards at work.", n.shards)?;
+    push_gauge(out, "rwship_send_shards", "Running shards.", n.shards)?;
     Ok(())
 }
 

@@ -85,6 +85,9 @@ pub fn report_keep_error(rt: &HostRuntime, dir: &str, error: KeepError) -> ExitC
         KeepError::InUse => eprintln!(rt; "  another receiver keeps samples in {dir}"),
         KeepError::Unlocked(error) => eprintln!(rt; "  cannot lock the folder {dir}: {error}"),
         KeepError::Folder(error) => eprintln!(rt; "  cannot keep samples in {dir}: {error}"),
+        KeepError::Log(OpenError::Foreign(at), None) => eprintln!(rt;
+            "  cannot keep samples in {dir}: entry {at} of the log there is refused; rwship inspect --dir {dir} --at {at} prints it"
+        ),
         KeepError::Log(_, Some(fault)) => eprintln!(rt; "  cannot keep samples in {dir}: {fault}"),
         KeepError::Log(error, None) => eprintln!(rt; "  cannot keep samples in {dir}: {error}"),
     };

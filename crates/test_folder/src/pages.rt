@@ -3,8 +3,8 @@
 
 use rw_ledger::Reason;
 use rw_metrics::{
-    Cause, ReceiveCounters, SendCounters, SendNumbers, Skipped, receive_html, send_html, send_line,
-    send_page, skipped_line,
+    Cause, ReceiveCounters, SendCounters, SendNumbers, Skipped, receive_html, receive_line,
+    receive_page, send_html, send_line, send_page, skipped_line,
 };
 use std::alloc::{AllocError, Global};
 use std::test::Fail;
@@ -75,7 +75,7 @@ footer { margin-top: 1.2rem; font-size: .9rem }
 <tr><th>Percent of the folder</th><td>55</td></tr>
 <tr><th>Records of histograms, not shipped</th><td>4</td></tr>
 <tr><th>Records of an unknown type, not shipped</th><td>1</td></tr>
-<tr><th>Shards at work</th><td>4</td></tr>
+<tr><th>Running shards</th><td>4</td></tr>
 </table>
 <footer>The numbers are best effort and are read one after the other. This page is loaded again every \
 5 seconds. <a href=\"metrics\">The metrics for Prometheus</a></footer>
@@ -92,7 +92,7 @@ const RECEIVER: &str = "</style>
 <table>
 <tr><th>Samples</th><td>17</td></tr>
 <tr><th>Series</th><td>3</td></tr>
-<tr><th>Most samples</th><td>1000</td></tr>
+<tr><th>Limit of samples</th><td>1000</td></tr>
 </table>
 <h2>Connections</h2>
 <table>
@@ -110,6 +110,46 @@ const RECEIVER: &str = "</style>
 </body>
 </html>
 ";
+
+/// The end of the page for Prometheus of a receiver that keeps a log.
+const LOG_PAGE: &str = "
+rwship_receive_max_label_sets 0
+# HELP rwship_receive_log_bytes_written_total Bytes that were written to the log.
+# TYPE rwship_receive_log_bytes_written_total counter
+rwship_receive_log_bytes_written_total 32771
+# HELP rwship_receive_log_syncs_total Syncs of the log to the disk.
+# TYPE rwship_receive_log_syncs_total counter
+rwship_receive_log_syncs_total 2
+# HELP rwship_receive_log_sync_seconds_total Seconds that syncs of the log took.
+# TYPE rwship_receive_log_sync_seconds_total counter
+rwship_receive_log_sync_seconds_total 12.003045
+# HELP rwship_receive_log_segments_total Segments of the log that were begun.
+# TYPE rwship_receive_log_segments_total counter
+rwship_receive_log_segments_total 1
+# HELP rwship_receive_log_writes_failed_total Writes, syncs and new segments of the log that failed.
+# TYPE rwship_receive_log_writes_failed_total counter
+rwship_receive_log_writes_failed_total 1
+";
+
+/// Its table on the page for people, and what follows it.
+const LOG_TABLE: &str = "
+<h2>Log</h2>
+<table>
+<tr><th>Bytes written</th><td>32771</td></tr>
+<tr><th>Syncs</th><td>2</td></tr>
+<tr><th>Milliseconds in syncs</th><td>12003</td></tr>
+<tr><th>Segments begun</th><td>1</td></tr>
+<tr><th>Writes and syncs that failed</th><td>1</td></tr>
+</table>
+<footer>The numbers are best effort and are read one after the other. This page is loaded again every \
+5 seconds. <a href=\"metrics\">The metrics for Prometheus</a></footer>
+</body>
+</html>
+";
+
+/// Its progress, in one line.
+const LOG_LINE: &str =
+    "connections 0 accepted 0 samples 0 bytes 32771 syncs 2 segments 1 failed 1";
 
 /// What is dropped of a log.
 static DROPPED: [(u64, Reason); 3] = [
@@ -320,5 +360,42 @@ fn is_receivers(alloc: Global) -> Result<bool, AllocError> {
 #[test]
 fn a_receiver_for_people(rt: HostRuntime) -> Result<(), Fail> {
     assert!(rt; is_receivers(rt.alloc())?);
+    Ok(())
+}
+
+/// Counts what a receiver has written to its log.
+fn count_log(counters: &ReceiveCounters) {
+    counters.begin_log_segment();
+    counters.write_log(32_768);
+    counters.sync_log(11_999_000);
+    counters.write_log(3);
+    counters.sync_log(4_045);
+    counters.fail_log();
+}
+
+/// Returns whether a receiver that keeps a log shows what it has written to it.
+fn shows_its_log(alloc: Global) -> Result<bool, AllocError> {
+    let counters = ReceiveCounters::of_kept_log(alloc)?;
+    count_log(&counters);
+    let numbers = counters.numbers(alloc)?;
+    let page = receive_page(alloc, &numbers)?;
+    let html = receive_html(alloc, &numbers)?;
+    let line = receive_line(alloc, &numbers)?;
+    Ok(page.ends_with(LOG_PAGE.as_bytes())
+        && html.ends_with(LOG_TABLE.as_bytes())
+        && line.as_slice() == LOG_LINE.as_bytes())
+}
+
+/// Returns whether a receiver that keeps no log counts nothing of one.
+fn counts_no_log(alloc: Global) -> Result<bool, AllocError> {
+    let counters = ReceiveCounters::new(alloc)?;
+    count_log(&counters);
+    Ok(counters.numbers(alloc)?.kept.is_none())
+}
+
+#[test]
+fn a_receiver_with_a_log(rt: HostRuntime) -> Result<(), Fail> {
+    assert!(rt; shows_its_log(rt.alloc())?);
+    assert!(rt; counts_no_log(rt.alloc())?);
     Ok(())
 }

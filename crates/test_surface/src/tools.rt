@@ -60,7 +60,9 @@ pub fn of_receive_counters() {
     let _ = ReceiveCounters::end_connection;
     let _ = ReceiveCounters::refuse_connection;
     let _ = (ReceiveCounters::answer, ReceiveCounters::hold_label_sets);
-    let _ = ReceiveCounters::set_limits;
+    let _ = (ReceiveCounters::set_limits, ReceiveCounters::of_kept_log);
+    let _ = (ReceiveCounters::write_log, ReceiveCounters::sync_log);
+    let _ = (ReceiveCounters::begin_log_segment, ReceiveCounters::fail_log);
 }
 
 /// The counters of a sender: what was read and placed.

@@ -6,6 +6,7 @@ pub returns : goal.returns
 unfolding word_and_count
 returns c =
     rw (
+      c.in_ok-push_kept.ensures,
       c.in_ok-push_status_counts.ensures,
       c.in_ok-push_word_and_count-2.ensures,
       c.in_ok-push_word_and_count.ensures,

@@ -5,6 +5,7 @@ pub returns : goal.returns
 returns c =
     rw (
       c.in_ok-push_page_end.ensures,
+      c.in_ok-push_kept.ensures,
       c.in_ok-push_answers.ensures,
       c.in_ok-push_connections.ensures,
       c.in_ok-push_held.ensures,
