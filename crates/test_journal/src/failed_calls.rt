@@ -103,38 +103,38 @@ fn torn_journal(
     Ok(journal)
 }
 
+/// Returns the samples that are held after this many requests.
+fn held_after(requests: &[Request], count: usize) -> &[Sample] {
+    match requests.get(count.saturating_sub(1)) {
+        Some(last) => &last.after,
+        None => &[],
+    }
+}
+
 /// Asks the requests in turn. Returns how many are acknowledged: after a fault of the journal each
-/// one is answered 503, and the head is as it was.
-fn ask_each<J: Journal>(
-    alloc: Global,
-    kept: &mut KeptHead<J>,
-    requests: &[Request],
-) -> Result<usize, Wrong> {
+/// one is answered 503, and what is no message 400.
+fn ask_each<J: Journal>(kept: &mut KeptHead<J>, requests: &[Request]) -> Result<usize, Wrong> {
     let mut acknowledged: usize = 0;
-    let mut held: &[Sample] = &[];
     for request in requests {
         let status = answer(kept, &request.body);
         if kept.fault().is_some() != (status == 503) {
             return Err(Wrong::Fault);
         }
-        if status == 204 {
-            acknowledged = acknowledged.saturating_add(1);
-            held = &request.after;
-        } else if status != 503 {
-            return Err(Wrong::Status);
+        match status {
+            204 => acknowledged = acknowledged.saturating_add(1),
+            503 => {}
+            _ => return Err(Wrong::Status),
         }
         if answer(kept, b"no message") != 400 {
             return Err(Wrong::Status);
-        }
-        if !holds_part(alloc, kept.head(), held, held.len()) {
-            return Err(Wrong::Held);
         }
     }
     Ok(acknowledged)
 }
 
-/// Opens a journal of which a call fails, and asks the requests. Returns the journal, whether the
-/// call has come, and how many requests are acknowledged.
+/// Opens a journal of which a call fails, and asks the requests: the head then holds those that are
+/// acknowledged, and nothing else. Returns the journal, whether the call has come, and how many are
+/// acknowledged.
 fn live(
     alloc: Global,
     limits: &Limits,
@@ -148,7 +148,11 @@ fn live(
     let (failing, acknowledged) = match KeptHead::open(alloc, limits, failing, PAGES) {
         Ok(opened) => {
             let mut kept = opened.kept;
-            let acknowledged = ask_each(alloc, &mut kept, requests)?;
+            let acknowledged = ask_each(&mut kept, requests)?;
+            let held = held_after(requests, acknowledged);
+            if !holds_part(alloc, kept.head(), held, held.len()) {
+                return Err(Wrong::Held);
+            }
             (kept.into_journal(), acknowledged)
         }
         Err((OpenError::Log(ReopenError::Failed), failing)) => (failing, 1),
@@ -173,24 +177,17 @@ fn crash(
         Left::Torn => journal.crash(&TORN)?,
     }
     let mut kept = open(alloc, limits, journal, PAGES)?;
-    let least = match requests.get(acknowledged.saturating_sub(1)) {
-        Some(last) => last.after.len(),
-        None => 0,
-    };
-    let (Some(asked), Some(last)) = (
-        requests.get(acknowledged.min(requests.len().saturating_sub(1))),
-        requests.last(),
-    ) else {
-        return Err(Wrong::Calls);
-    };
-    if !holds_part(alloc, kept.head(), &asked.after, least) {
+    let least = held_after(requests, acknowledged).len();
+    let asked = held_after(requests, acknowledged.saturating_add(1).min(requests.len()));
+    if !holds_part(alloc, kept.head(), asked, least) {
         return Err(Wrong::HeldAfterCrash);
     }
-    if ask_each(alloc, &mut kept, requests)? != requests.len() {
+    if ask_each(&mut kept, requests)? != requests.len() {
         return Err(Wrong::Status);
     }
     let kept = open(alloc, limits, kept.into_journal(), PAGES)?;
-    if holds_part(alloc, kept.head(), &last.after, last.after.len()) {
+    let all = held_after(requests, requests.len());
+    if holds_part(alloc, kept.head(), all, all.len()) {
         Ok(())
     } else {
         Err(Wrong::HeldAtLast)
