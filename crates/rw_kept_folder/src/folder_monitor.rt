@@ -1,28 +1,24 @@
 //! What watches the calls on the files of a folder.
 
-use rw_follow::StopSignal;
 use rw_metrics::ReceiveCounters;
 use std::alloc::Global;
 use std::sync::Arc;
 use std::time::Duration;
 
-/// What counts the calls on the files of a folder, and what is stopped once one has failed. No
-/// clause says anything about it.
+/// What counts the calls on the files of a folder. No clause says anything about it.
 #[derive(Drop)]
 pub struct FolderMonitor {
     /// They count what is written, the syncs, the segments that are begun, and the failed calls.
     pub counters: Option<Arc<ReceiveCounters, Global>>,
-    /// It is asked to finish once a call has failed.
-    pub signal: Option<Arc<StopSignal, Global>>,
 }
 
+// It is proved here, so that the proof for a head over a folder, which threads share, is short.
+unsafe impl Send for FolderMonitor {}
+
 impl FolderMonitor {
-    /// Returns a monitor that counts nothing and stops nothing.
+    /// Returns a monitor that counts nothing.
     pub fn none() -> FolderMonitor {
-        FolderMonitor {
-            counters: None,
-            signal: None,
-        }
+        FolderMonitor { counters: None }
     }
 
     /// Counts bytes that were written.
@@ -50,13 +46,10 @@ impl FolderMonitor {
         }
     }
 
-    /// Counts a call that has failed, and asks to stop.
+    /// Counts a call that has failed.
     pub(crate) fn fail(&self) {
         if let Some(counters) = &self.counters {
             counters.fail_log();
-        }
-        if let Some(signal) = &self.signal {
-            signal.finish();
         }
     }
 }

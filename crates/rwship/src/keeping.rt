@@ -23,8 +23,8 @@ use std::io::Error;
 use std::net::TcpListener;
 use std::process::ExitCode;
 use std::sync::{Arc, Wait};
-use std::thread::Threads;
-use std::time::Clock;
+use std::thread::{self, Threads};
+use std::time::{Clock, Duration};
 
 /// A log in the files of a folder.
 type Log = FolderJournal<OpenFolder<HostRuntime>>;
@@ -35,14 +35,55 @@ pub type FolderHead = KeptHead<Log>;
 /// The most pages of a segment: 128 MiB, as a segment of Prometheus has.
 const PAGES: usize = 4096;
 
-/// What is shared with the log in a folder while connections are served.
+/// How many milliseconds pass between two looks at whether a write has failed.
+const LOOK_MS: u64 = 200;
+
+/// Returns whether a write to the log of a folder has failed.
+fn has_failed(alloc: Global, counters: &ReceiveCounters) -> bool {
+    match counters.numbers(alloc) {
+        Ok(numbers) => match numbers.kept {
+            Some(kept) => kept.failed > 0,
+            None => false,
+        },
+        Err(_) => false,
+    }
+}
+
+/// Waits until a write to the log of a folder has failed, and then asks the receiver to finish.
+fn watch_writes(rt: &HostRuntime, counters: &ReceiveCounters, signal: &StopSignal) {
+    for _ in 0..u64::MAX {
+        thread::sleep(rt, Duration::from_millis(LOOK_MS));
+        if has_failed(rt.alloc(), counters) {
+            signal.finish();
+            return;
+        }
+    }
+}
+
+/// Has a thread ask the receiver to finish once a write to the log of a folder has failed. It is
+/// never joined.
+fn stop_on_write_error<R: Threads>(
+    rt: &HostRuntime,
+    threads: &R,
+    counters: &Arc<ReceiveCounters, Global>,
+    signal: &Arc<StopSignal, Global>,
+) -> Result<(), AllocError> {
+    let counters = Arc::try_clone(counters)?;
+    let signal = Arc::try_clone(signal)?;
+    let host = *rt;
+    let watcher = thread::spawn(threads, move || {
+        watch_writes(&host, &counters, &signal);
+    })?;
+    drop(watcher);
+    Ok(())
+}
+
+/// What a receiver that keeps a log counts, and what stops it.
 #[derive(Drop)]
 pub struct Keeping {
     pub counters: Arc<ReceiveCounters, Global>,
     /// What stops the receiver, or `None` if it ends after some connections.
     signal: Option<Arc<StopSignal, Global>>,
-    /// Whether the receiver is stopped once a write has failed.
-    ends_on_write_error: bool,
 }
 
 impl Keeping {
@@ -58,24 +99,18 @@ impl Keeping {
             Until::InputEnds => Some(stop_signal(rt, threads, None, None)?),
             Until::FileIs(path) => Some(stop_signal(rt, threads, Some(*path), None)?),
         };
-        Ok(Keeping {
-            counters,
-            signal,
-            ends_on_write_error: receiving.ends_on_write_error,
-        })
+        if receiving.ends_on_write_error {
+            if let Some(signal) = &signal {
+                stop_on_write_error(rt, threads, &counters, signal)?;
+            }
+        }
+        Ok(Keeping { counters, signal })
     }
 
-    /// Returns what watches the calls on the files of the folder.
+    /// Returns what counts the calls on the files of the folder.
     fn monitor(&self) -> Result<FolderMonitor, AllocError> {
-        let counters = Arc::try_clone(&self.counters)?;
-        let signal = match &self.signal {
-            Some(signal) if self.ends_on_write_error => Some(Arc::try_clone(signal)?),
-            _ => None,
-        };
-        Ok(FolderMonitor {
-            counters: Some(counters),
-            signal,
-        })
+        let counters = Some(Arc::try_clone(&self.counters)?);
+        Ok(FolderMonitor { counters })
     }
 }
 

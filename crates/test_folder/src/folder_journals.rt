@@ -1,10 +1,8 @@
 //! Journals in the files of a folder: which folders are refused, and why, and what is counted.
 
-use rw_follow::{StopRequest, StopSignal};
 use rw_journal::Journal;
 use rw_kept_folder::{FaultCause, FolderError, FolderMonitor, open_journal};
 use rw_metrics::{KeptNumbers, ReceiveCounters};
-use std::alloc::Global;
 use std::path::{Path, PathBuf};
 use std::sync::Arc;
 use std::test::Fail;
@@ -108,21 +106,12 @@ fn journals_until_a_fault(
     Ok(journal.begin().is_err() && journal.append(b"d").is_err())
 }
 
-/// Returns the counters and the signal of a journal that has counted nothing.
-fn new_watch(
-    alloc: Global,
-) -> Result<(Arc<ReceiveCounters, Global>, Arc<StopSignal, Global>), Fail> {
-    let counters = Arc::new(alloc, ReceiveCounters::of_kept_log(alloc)?)?;
-    let signal = Arc::new(alloc, StopSignal::new())?;
-    Ok((counters, signal))
-}
-
 #[test]
-fn a_journal_is_counted_and_stops_at_a_fault(rt: HostRuntime) -> Result<(), Fail> {
-    let (counters, signal) = new_watch(rt.alloc())?;
+fn a_journal_is_counted(rt: HostRuntime) -> Result<(), Fail> {
+    let alloc = rt.alloc();
+    let counters = Arc::new(alloc, ReceiveCounters::of_kept_log(alloc)?)?;
     let monitor = FolderMonitor {
         counters: Some(Arc::try_clone(&counters)?),
-        signal: Some(Arc::try_clone(&signal)?),
     };
     let dir = make_folder(&rt, "rwship-a-counted-journal", &[])?;
     let is_failed_at_last = journals_until_a_fault(&rt, dir.as_path(), monitor)?;
@@ -140,6 +129,5 @@ fn a_journal_is_counted_and_stops_at_a_fault(rt: HostRuntime) -> Result<(), Fail
             failed: 1,
         })
     );
-    assert_eq!(rt; signal.request(), StopRequest::Finish);
     Ok(())
 }
