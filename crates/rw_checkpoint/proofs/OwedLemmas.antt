@@ -1,10 +1,11 @@
 -- The samples that rise, also among those from a time on.
 use Rattle.std.proofs.Common.{◌≡◌, ℕ, ℤ, pos, negsuc, int_lt, ltb, Bool, true, false, true≢false, not, ◌&&◌, cond, List, [], ◌∷◌, ◌++◌, append-nil, append_assoc, refl, sym, ap, ◌∙◌, subst, arith}
-use Rattle.std.proofs.lemmas.Bool.{and_parts}
+use Rattle.std.proofs.lemmas.Bool.{and_from, and_parts, cond-true}
 use Rattle.std.proofs.lemmas.Bool.Decides.{nat_tests}
 use Rattle.std.proofs.lemmas.List.Elements.{filter-append}
 use Rattle.std.specs.List.{AllByRecursion}
 use Rattle.rw_types.specs.Rising.{Rises}
+use Rattle.rw_types.proofs.shared.AllLemmas.{AllByRecursion-right}
 use Rattle.rw_types.proofs.shared.TimeLemmas.{int_lt-trans}
 use Rattle.rw_types.proofs.shared.Booleans.{either}
 use Rattle.rw_head.specs.Lists.{IsEarlier}
@@ -45,6 +46,36 @@ Rises-rising_after before [] = tt
 Rises-rising_after before (p ∷ ps) =
     let more : List Point = rising_after (before ++ p ∷ []) ps in
     either (Rises IsEarlier) (is_after_each p.0 before) (p ∷ more) more (λ _. (later_than_before before p [] ps, Rises-rising_after (before ++ p ∷ []) ps)) (λ _. Rises-rising_after (before ++ p ∷ []) ps)
+
+-- ---- those that rise, in two parts
+push_either : (b : Bool) (p : Point) (now later more : List Point) → now ≡ later ++ more → cond b (p ∷ now) now ≡ cond b (p ∷ later) later ++ more
+push_either true p now later more e = ap (λ ps. p ∷ ps) e
+push_either false p now later more e = e
+
+pub rising_after-append : (before xs ys : List Point) → rising_after before (xs ++ ys) ≡ rising_after before xs ++ rising_after (before ++ xs) ys
+rising_after-append before [] ys = ap (λ b. rising_after b ys) (sym (append-nil before))
+rising_after-append before (p ∷ xs) ys =
+    push_either (is_after_each p.0 before) p (rising_after (before ++ p ∷ []) (xs ++ ys)) (rising_after (before ++ p ∷ []) xs) (rising_after (before ++ p ∷ xs) ys)
+    (rising_after-append (before ++ p ∷ []) xs ys ∙ ap (λ b. rising_after (before ++ p ∷ []) xs ++ rising_after b ys) (append_assoc before (p ∷ []) xs))
+
+pub rising-next : (ps : List Point) (p : Point) → rising (ps ++ p ∷ []) ≡ rising ps ++ cond (is_after_each p.0 ps) (p ∷ []) []
+rising-next ps p = rising_after-append [] ps (p ∷ [])
+
+-- ---- a list that rises
+is_after_all : (before : List Point) (p : Point) (ps : List Point) → Rises IsEarlier (before ++ p ∷ ps) → is_after_each p.0 before ≡ true
+is_after_all [] p ps h = refl
+is_after_all (x ∷ before) p ps h =
+    and_from (int_lt x.0 p.0) (is_after_each p.0 before) (AllByRecursion-right (IsEarlier x) before (p ∷ ps) h.0).0 (is_after_all before p ps h.1)
+
+rising_after-itself : (before ps : List Point) → Rises IsEarlier (before ++ ps) → rising_after before ps ≡ ps
+rising_after-itself before [] h = refl
+rising_after-itself before (p ∷ ps) h =
+    let rest : rising_after (before ++ p ∷ []) ps ≡ ps = rising_after-itself (before ++ p ∷ []) ps (subst (Rises IsEarlier) (sym (append_assoc before (p ∷ []) ps)) h) in
+    cond-true (is_after_each p.0 before) (p ∷ rising_after (before ++ p ∷ []) ps) (rising_after (before ++ p ∷ []) ps) (is_after_all before p ps h) ∙ ap (λ ys. p ∷ ys) rest
+
+-- it is what rises of it
+pub rising-itself : (ps : List Point) → Rises IsEarlier ps → rising ps ≡ ps
+rising-itself ps h = rising_after-itself [] ps h
 
 -- ---- those from a time on
 module _ (floor : ℤ) where

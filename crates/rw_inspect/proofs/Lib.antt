@@ -2,6 +2,4 @@ pub mod CounterLemmas
 pub mod FindingLemmas
 pub mod InspectLemmas
 pub mod PlacedLemmas
-pub mod PlanningLemmas
-pub mod ReadingLemmas
 pub mod TextLemmas

@@ -2,15 +2,10 @@
 use Rattle.std.specs.Prelude.{List, length, count_by}
 use Rattle.rw_types.specs.declared.entry.Entry.{Entry}
 use Rattle.rw_series_cache.specs.Numbers.{series_of}
-use Rattle.rw_inspect.specs.Sums.{sums_of}
+use Rattle.rw_log_read.specs.Sums.{sums_of}
 use Rattle.rw_inspect.specs.Troubles.{has_bad_labels, has_no_series, not_rising, troubles_of}
 use Rattle.rw_inspect.specs.declared.counts.Counts.{Counts}
 use Rattle.rw_relabel.specs.Choices.{legacy}
-
--- the entries so far, and those of the current segment
-pub record Counted : Type 0 where
-  pub entries : List Entry
-  pub here : List Entry
 
 -- what is counted of entries; if no rules are given, all label sets are series
 unfoldable pub log_counts : List Entry → Counts

@@ -11,9 +11,9 @@ use Rattle.rw_relabel.specs.declared.choice.Choice.{Choice}
 use Rattle.rw_series_cache.specs.Known.{Standing, Unknown, Bad, Filtered, Kept, known}
 use Rattle.rw_text.specs.LabelText.{labels_text}
 use Rattle.rw_text.specs.ValueText.{value_text}
-use Rattle.rw_inspect.specs.Inspecting.{AreRows, ReadsFirst, fault_in, log_of_texts}
+use Rattle.rw_log_read.specs.Logs.{AreRows, ReadsFirst, fault_in, log_of}
 use Rattle.rw_inspect.specs.declared.finding.Found.{Found}
-use Rattle.rw_inspect.specs.declared.report.Segment.{Segment}
+use Rattle.rw_log_read.specs.declared.log_read.Segment.{Segment}
 
 -- all label sets, with any UTF-8 names
 abbrev pub any_names : Choice
@@ -86,9 +86,9 @@ is_missing es position = not (is_some (entry_text_at es position))
 -- what was found at positions, in their order
 pub record Finds (lefts : List (Option (List ℕ))) (positions : List ℕ) (r : Found) : Type 0 where
   pub texts : List (List ℕ)
-  pub read : ReadsFirst lefts texts (fault (log_of_texts texts))
+  pub read : ReadsFirst lefts texts (fault (log_of texts))
   pub segments : List Segment
   pub segments_are : AreRows [] texts segments
-  pub text_is : r.text.items ≡ flat_map (position_text segments (entries (log_of_texts texts))) positions
-  pub missing_is : r.missing ≡ count_by (is_missing (entries (log_of_texts texts))) positions
-  pub fault_is : fault_in r.damage ≡ fault (log_of_texts texts)
+  pub text_is : r.text.items ≡ flat_map (position_text segments (entries (log_of texts))) positions
+  pub missing_is : r.missing ≡ count_by (is_missing (entries (log_of texts))) positions
+  pub fault_is : fault_in r.damage ≡ fault (log_of texts)

@@ -5,11 +5,11 @@ use Rattle.rw_wal_format.specs.declared.tail_fault.TailFault.{TailFault}
 use Rattle.rw_wal_format.specs.declared.tail_fault.TailFault.TheVariants as tail
 use Rattle.rw_wal_tail.specs.declared.place.FaultPlace.{FaultPlace}
 use Rattle.rw_inspect.specs.declared.counts.Counts.{Counts}
-use Rattle.rw_inspect.specs.declared.report.Damage.{Damage}
+use Rattle.rw_log_read.specs.declared.log_read.Damage.{Damage}
 use Rattle.rw_inspect.specs.declared.report.Report.{Report}
-use Rattle.rw_inspect.specs.declared.report.Segment.{Segment}
+use Rattle.rw_log_read.specs.declared.log_read.Segment.{Segment}
 use Rattle.rw_inspect.specs.declared.sizes.Sizes.{Sizes}
-use Rattle.rw_inspect.specs.declared.sums.Sums.{Sums}
+use Rattle.rw_log_read.specs.declared.sums.Sums.{Sums}
 
 -- at the right end of a column
 abbrev pub right_text : ℕ → List ℕ → List ℕ
@@ -46,20 +46,20 @@ quoted_field name text = name ++ json_quoted text
 abbrev pub fault_words : TailFault → List ℕ
 fault_words tail.OutOfMemory = codes "out of memory"
 fault_words tail.BadType = codes "no fragment has this type byte"
-fault_words tail.BadLength = codes "the fragment passes the end of its page"
-fault_words tail.BadCrc = codes "checksum of the fragment is not that of its data"
+fault_words tail.BadLength = codes "the fragment extends past the end of its page"
+fault_words tail.BadCrc = codes "the checksum of the fragment does not match its data"
 fault_words tail.Compressed = codes "the fragment is compressed"
-fault_words tail.NonzeroPadding = codes "a byte of the page's empty rest is not zero"
-fault_words tail.Sequence = codes "the fragment begins a record inside another one, or goes on with none"
-fault_words tail.BadRecord = codes "the record is not of its type's form"
+fault_words tail.NonzeroPadding = codes "a byte of the padding at the end of the page is not zero"
+fault_words tail.Sequence = codes "the fragment starts a record inside another one, or continues none"
+fault_words tail.BadRecord = codes "the record does not have the form of its type"
 fault_words tail.TornSegment = codes "the segment ends inside a record, and another one follows"
 
 -- what to do next
 abbrev pub next_step : TailFault → List ℕ
-next_step tail.OutOfMemory = codes "run it again where more memory is free"
-next_step tail.Compressed = codes "let Prometheus write its log with --no-storage.tsdb.wal-compression; send ships what stands before the fault"
-next_step tail.TornSegment = codes "copy the segment again, or let Prometheus repair the log as it starts; send ships what stands before the fault"
-next_step f = codes "copy the segment again and compare; send ships what stands before the fault, and nothing behind it"
+next_step tail.OutOfMemory = codes "free some memory and run the command again"
+next_step tail.Compressed = codes "let Prometheus write its log with --no-storage.tsdb.wal-compression; send ships what comes before the fault"
+next_step tail.TornSegment = codes "copy the segment again, or let Prometheus repair the log as it starts; send ships what comes before the fault"
+next_step f = codes "copy the segment again and compare; send ships what comes before the fault, and nothing after it"
 
 -- how many pages this many bytes take
 abbrev pub pages_of : ℕ → ℕ

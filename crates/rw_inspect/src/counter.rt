@@ -3,13 +3,12 @@
 ghost use Rattle.std.specs.Prelude.{◌≡◌, ◌++◌, ◌∷◌, [], take, OnOk, OnErr};
 ghost use Rattle.rw_inspect.specs.Counting.{log_counts};
 ghost use Rattle.rw_inspect.specs.inner.Counting.{CanBeNoted, IsJudged, IsPlaced};
-ghost use Rattle.rw_inspect.specs.Sums.{sums_of};
 ghost use Rattle.rw_inspect.specs.Troubles.{not_rising, troubles_of};
 
 use crate::counts::Counts;
-use crate::sums::{Sums, one_more};
 use crate::troubles::{Trouble, Troubles};
 use rw_history::History;
+use rw_log_read::{Sums, Taker, one_more};
 use rw_relabel::Choice;
 use rw_series_cache::{Cache, Known};
 use rw_types::Entry;
@@ -25,30 +24,27 @@ pub(crate) enum Judged {
     Rising(u64),
 }
 
-/// Counts the entries of a log. It keeps no sample. Contracts see all entries so far, and those of
-/// the current segment.
+/// Counts the entries of a log. It keeps no sample. Contracts see the entries.
 #[derive(Drop)]
 pub struct Counter {
     taken: History<Entry>,
-    here: History<Entry>,
     /// How many were taken.
     count: u64,
     cache: Cache,
     sums: Sums,
-    sums_here: Sums,
     troubles: Troubles,
 }
 
 impl Model for Counter {
-    ghost use Rattle.rw_inspect.specs.Counting.{Counted};
+    ghost use Rattle.std.specs.Prelude.{List};
+    ghost use Rattle.rw_types.specs.declared.entry.Entry.{Entry};
     ghost use Rattle.rw_inspect.specs.inner.Counting.{IsCounter};
 
-    ghost Value = { Counted };
+    ghost Value = { List Entry };
 
-    ghost view = { λ c. record { entries = c.taken; here = c.here } };
+    ghost view = { λ c. c.taken };
 
-    ghost invariant = { λ c. IsCounter c.taken c.here c.count c.cache c.sums c.sums_here
-        c.troubles };
+    ghost invariant = { λ c. IsCounter c.taken c.count c.cache c.sums c.troubles };
 }
 
 /// Returns what becomes of a sample with this reference and timestamp, if all label sets are kept.
@@ -95,35 +91,26 @@ fn place(
 impl Counter {
     /// Returns a counter before the first entry. This takes no memory.
     pub fn new(alloc: Global) -> Counter
-        ensures { result ≡ record { entries = []; here = [] } }
+        ensures { result ≡ [] }
     {
         Counter {
             taken: History::new(),
-            here: History::new(),
             count: 0,
             cache: Cache::new(alloc, Choice::legacy(alloc)),
             sums: Sums::new(),
-            sums_here: Sums::new(),
             troubles: Troubles::new(alloc),
         }
     }
 
     /// Takes the next entry.
     pub fn take(&mut self, entry: Entry) -> Result<(), AllocError>
-        ensures ok { OnOk result (self.new
-            ≡ record {
-              entries = self.old.entries ++ entry ∷ [];
-              here = self.old.here ++ entry ∷ [];
-            }) }
+        ensures ok { OnOk result (self.new ≡ self.old ++ entry ∷ []) }
         ensures err { OnErr result (self.new ≡ self.old) }
     {
         let count = one_more(self.count)?;
         let sums = self.sums.with(&entry)?;
-        let sums_here = self.sums_here.with(&entry)?;
         let mut taken = self.taken.again();
-        let mut here = self.here.again();
         taken.push(&entry);
-        here.push(&entry);
         match entry {
             Entry::Def { reference, labels } => self.cache.define(reference, labels)?,
             Entry::Sample { reference, t, .. } => place(
@@ -135,31 +122,14 @@ impl Counter {
             )?,
         }
         self.taken = taken;
-        self.here = here;
         self.count = count;
         self.sums = sums;
-        self.sums_here = sums_here;
         Ok(())
-    }
-
-    /// Begins the next segment.
-    pub fn next_segment(&mut self)
-        ensures { self.new ≡ record self.old { here = [] } }
-    {
-        self.here = History::new();
-        self.sums_here = Sums::new();
-    }
-
-    /// Returns the totals of the entries of the current segment.
-    pub fn sums_here(&self) -> Sums
-        ensures { result ≡ sums_of self.now.here }
-    {
-        self.sums_here
     }
 
     /// Returns what is counted of all entries.
     pub fn counts(&self) -> Counts
-        ensures { result ≡ log_counts self.now.entries }
+        ensures { result ≡ log_counts self.now }
     {
         Counts {
             sums: self.sums,
@@ -173,8 +143,20 @@ impl Counter {
     /// Returns the positions of the first ten samples that are not later than the last one of their
     /// series.
     pub fn first_not_rising(&self) -> &[u64]
-        ensures { result.now ≡ take 10 (not_rising (troubles_of self.now.entries)) }
+        ensures { result.now ≡ take 10 (not_rising (troubles_of self.now)) }
     {
         self.troubles.first_not_rising()
+    }
+}
+
+impl Taker for Counter {
+    type Task = ();
+
+    ghost taken = { λ c. c };
+
+    ghost task = { λ _. tt };
+
+    fn take(&mut self, entry: Entry) -> Result<(), AllocError> {
+        Counter::take(self, entry)
     }
 }

@@ -1,6 +1,6 @@
 //! What is counted of a whole log.
 
-use crate::sums::Sums;
+use rw_log_read::Sums;
 
 /// What is counted of the entries of a log.
 #[derive(Clone, Copy, Debug, PartialEq, Eq)]

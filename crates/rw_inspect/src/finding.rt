@@ -7,14 +7,11 @@ ghost use Rattle.rw_series_cache.specs.Known.{definitions_of};
 ghost use Rattle.rw_series_cache.specs.Found.{standing_in};
 ghost use Rattle.rw_inspect.specs.Finding.{Finds, any_names, entry_text, label_fault_text, is_missing, name_at, not_there_text, position_text, sample_text, series_text, set_text, standing_text, there_text};
 ghost use Rattle.rw_inspect.specs.inner.Finding.{is_asked, note_of, noted_at, notes_in, told};
-ghost use Rattle.rw_inspect.specs.Inspecting.{AllSure, source_of};
+ghost use Rattle.rw_inspect.specs.Inspecting.{AllSure};
+ghost use Rattle.rw_log_read.specs.Left.{source_of};
 
-use crate::here::Here;
-use crate::report::{Damage, Segment};
-use crate::segments::{LogRead, Named, read_into};
-use crate::sums::{Sums, one_more};
-use crate::taker::Taker;
 use rw_history::History;
+use rw_log_read::{Damage, LogRead, Named, Segment, SegmentList, Taker, one_more, read_into};
 use rw_relabel::{Choice, Rules};
 use rw_series_cache::{Cache, Known};
 use rw_text::{push_integer, push_labels, push_number, push_value};
@@ -205,14 +202,12 @@ fn add_note(notes: &mut Vec<(u64, Vec<u8>)>, position: u64, note: Option<Vec<u8>
     }
 }
 
-/// Notes the entries at some positions of a log. Contracts see the positions, all entries so far,
-/// and those of the current segment.
+/// Notes the entries at some positions of a log. Contracts see the positions and the entries.
 #[derive(Drop)]
 struct Finder {
     alloc: Global,
     positions: Vec<u64>,
     taken: History<Entry>,
-    here: Here,
     /// How many were taken.
     count: u64,
     cache: Cache,
@@ -225,7 +220,7 @@ impl Model for Finder {
 
     ghost Value = { Finding };
 
-    ghost view = { λ f. record { positions = f.positions; entries = f.taken; here = f.here } };
+    ghost view = { λ f. record { positions = f.positions; entries = f.taken } };
 
     ghost invariant = { λ f. IsFinder f.positions.items f.taken f.count f.cache f.notes.items };
 }
@@ -233,13 +228,12 @@ impl Model for Finder {
 impl Finder {
     /// Returns a finder before the first entry.
     fn new(alloc: Global, positions: Vec<u64>) -> Finder
-        ensures { result ≡ record { positions = positions; entries = []; here = [] } }
+        ensures { result ≡ record { positions = positions; entries = [] } }
     {
         Finder {
             alloc,
             positions,
             taken: History::new(),
-            here: Here::new(),
             count: 0,
             cache: Cache::new(alloc, any_names(alloc)),
             notes: Vec::new(alloc),
@@ -305,19 +299,14 @@ impl Finder {
 impl Taker for Finder {
     type Task = Vec<u64>;
 
-    ghost counted = { λ f. record { entries = f.entries; here = f.here } };
+    ghost taken = { λ f. f.entries };
 
     ghost task = { λ f. f.positions };
-
-    fn next_segment(&mut self) {
-        self.here = Here::new();
-    }
 
     fn take(&mut self, entry: Entry) -> Result<(), AllocError> {
         let note = self.note_of(&entry)?;
         let count = one_more(self.count)?;
         self.notes.reserve(1)?;
-        self.here.take(&entry)?;
         let mut taken = self.taken.again();
         taken.push(&entry);
         define(&mut self.cache, entry)?;
@@ -325,10 +314,6 @@ impl Taker for Finder {
         self.taken = taken;
         self.count = count;
         Ok(())
-    }
-
-    fn sums_here(&self) -> Sums {
-        self.here.sums()
     }
 }
 
@@ -347,11 +332,12 @@ pub fn find_entries<S: Source + Drop>(
     ensures sure { AllSure (map (source_of S.is_sure) segments.items) → result ≡ Err Failed → ⊥ }
 {
     let mut finder = Finder::new(alloc, positions);
+    let mut log = SegmentList::new(segments);
     let LogRead {
         segments,
         damage,
         skipped: _,
-    } = read_into(alloc, segments, &mut finder)?;
+    } = read_into(alloc, &mut log, true, &mut finder)?;
     let (text, missing) = finder.lines(&segments)?;
     Ok(Found {
         text,

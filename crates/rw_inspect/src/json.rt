@@ -5,10 +5,10 @@ ghost use Rattle.rw_inspect.specs.Texts.{any_damage, counted_json, damage_json, 
 
 use crate::counts::Counts;
 use crate::pushing::{push_field, push_numbers, push_quoted_field, push_time_field};
-use crate::report::{Damage, Report, Segment};
+use crate::report::Report;
 use crate::sizes::{Sizes, sizes_in, sizes_of};
-use crate::sums::Sums;
 use crate::words::{fault_words, next_step};
+use rw_log_read::{Damage, Segment, Sums};
 use rw_text::push_number;
 use rw_wal_tail::{FaultPlace, TailFault};
 use std::alloc::{AllocError, Global};

@@ -3,7 +3,7 @@
 ghost use Rattle.std.specs.Prelude.{◌≡◌, ◌+◌, IfOk};
 ghost use Rattle.rw_inspect.specs.Texts.{pages_of, sizes_in, sizes_of, with_segment};
 
-use crate::report::Segment;
+use rw_log_read::Segment;
 use std::alloc::AllocError;
 
 const PAGE: u64 = 32 * 1024;

@@ -5,10 +5,10 @@ ghost use Rattle.rw_inspect.specs.Texts.{any_damage, columns_text, count_columns
 
 use crate::counts::Counts;
 use crate::pushing::{push_field, push_numbers, push_right, push_right_number, push_right_time};
-use crate::report::{Damage, Report, Segment};
+use crate::report::Report;
 use crate::sizes::{Sizes, sizes_in, sizes_of};
-use crate::sums::Sums;
 use crate::words::{fault_words, next_step};
+use rw_log_read::{Damage, Segment, Sums};
 use rw_wal_tail::FaultPlace;
 use std::alloc::{AllocError, Global};
 

@@ -3,8 +3,8 @@
 ghost use Rattle.std.specs.Prelude.{◌≡◌, ◌++◌, ◌∷◌, [], ℕ, count_by, length, take, OnOk, OnErr};
 ghost use Rattle.rw_inspect.specs.Troubles.{has_bad_labels, has_no_series, not_rising};
 
-use crate::sums::one_more;
 use rw_history::History;
+use rw_log_read::one_more;
 use std::alloc::{AllocError, Global};
 use std::marker::Model;
 

@@ -12,14 +12,14 @@ pub(crate) fn fault_words(fault: TailFault) -> &'static str
     match fault {
         TailFault::OutOfMemory => "out of memory",
         TailFault::BadType => "no fragment has this type byte",
-        TailFault::BadLength => "the fragment passes the end of its page",
-        TailFault::BadCrc => "checksum of the fragment is not that of its data",
+        TailFault::BadLength => "the fragment extends past the end of its page",
+        TailFault::BadCrc => "the checksum of the fragment does not match its data",
         TailFault::Compressed => "the fragment is compressed",
-        TailFault::NonzeroPadding => "a byte of the page's empty rest is not zero",
+        TailFault::NonzeroPadding => "a byte of the padding at the end of the page is not zero",
         TailFault::Sequence => {
-            "the fragment begins a record inside another one, or goes on with none"
+            "the fragment starts a record inside another one, or continues none"
         }
-        TailFault::BadRecord => "the record is not of its type's form",
+        TailFault::BadRecord => "the record does not have the form of its type",
         TailFault::TornSegment => "the segment ends inside a record, and another one follows",
     }
 }
@@ -29,15 +29,15 @@ pub(crate) fn next_step(fault: TailFault) -> &'static str
     ensures { result.now ≡ next_step fault }
 {
     match fault {
-        TailFault::OutOfMemory => "run it again where more memory is free",
+        TailFault::OutOfMemory => "free some memory and run the command again",
         TailFault::Compressed => {
-            "let Prometheus write its log with --no-storage.tsdb.wal-compression; send ships what stands before the fault"
+            "let Prometheus write its log with --no-storage.tsdb.wal-compression; send ships what comes before the fault"
         }
         TailFault::TornSegment => {
-            "copy the segment again, or let Prometheus repair the log as it starts; send ships what stands before the fault"
+            "copy the segment again, or let Prometheus repair the log as it starts; send ships what comes before the fault"
         }
         _ => {
-            "copy the segment again and compare; send ships what stands before the fault, and nothing behind it"
+            "copy the segment again and compare; send ships what comes before the fault, and nothing after it"
         }
     }
 }

@@ -9,7 +9,6 @@ use Rattle.rw_kept_folder.specs.Files.{HasAll, IsSureIfAll}
 use Rattle.rw_kept_folder.proofs.LengthLemmas.{length_on_last}
 use Rattle.rw_kept_folder.specs.Noted.{Noted, State, changed, Tears, Leaves, seen_in, LeftIn, data_synced, folder_synced, step, after, LeftFrom, opened, seen_of, MayLeave, LeftSince}
 use Rattle.rw_kept_folder.specs.inner.Noted.{AreUnread, all_written}
-use Rattle.rw_types.proofs.shared.Booleans.{next}
 
 after_push : (s : State) (calls : List FileCall) (call : FileCall) → after s (calls ++ call ∷ []) ≡ step call (after s calls)
 after_push s [] call = refl
@@ -225,7 +224,8 @@ pub taken : (noted : Noted) (read : ℕ) (text : Vec ℕ Global) (rest : List (V
 taken noted read text rest (inl none) = absurd (omega (arith, ap length none))
 taken noted read text rest (inr some) =
     let first = first_of read (seen_of noted) text.items (map (λ v. v.items) rest) some in
-    (first.0, inr (first.1 ∙ ap (λ (k : ℕ). drop k (seen_of noted)) (next read)))
+    let next : suc read ≡ read + 1 = omega arith in
+    (first.0, inr (first.1 ∙ ap (λ (k : ℕ). drop k (seen_of noted)) next))
 
 -- nothing was asked yet
 pub fresh_seen : (noted : Noted) → noted.calls ≡ [] → seen_of noted ≡ noted.loaded

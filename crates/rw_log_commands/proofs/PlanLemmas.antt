@@ -124,7 +124,7 @@ planned_definition es cached new text now counts reference l h c line =
       cache =
           c ∙ ap (λ (k : Taken). record k { definitions = k.definitions ++ Def reference l ∷ [] }) h.cache
           ∙ ap (λ ds. record { choice = choice; definitions = ds; noted = empty }) (sym (definitions_of-definition es reference l));
-      plan_lines =
+      lines =
           line es (definitions_cached es cached text counts h) ∙ ap (λ x. x ++ plan_line choice es (Def reference l)) h.lines
           ∙ sym (lines-push choice es (Def reference l));
       counts = h.counts ∙ ap counts_of (sym (standings-push choice es (Def reference l) ∙ append-nil (standings choice es)));

@@ -1,10 +1,18 @@
 -- Runs of the command `plan`.
-use Rattle.std.proofs.Common.{◌≡◌, ℕ, List, Bool, false, Option, None, refl, ◌∙◌, ap, subst}
-use Rattle.std.specs.Io.KnownBytes.{Appends}
+use Rattle.std.proofs.Common.{◌≡◌, ℕ, ◌≤◌, List, [], ◌∷◌, length, take, ◌++◌, Bool, true, false, Option, None, Some, Result, Ok, Err, refl, sym, ◌∙◌, ap, subst, append-nil}
+use Rattle.std.specs.Result.{OnOk}
+use Rattle.std.specs.Io.KnownBytes.{Appends, Consumes, IsAtEnd}
+use Rattle.rw_types.specs.declared.entry.Entry.{Entry}
+use Rattle.rw_wal_format.specs.Pieces.{bytes, entries, fault}
+use Rattle.rw_wal_format.specs.declared.tail_fault.TailFault.{TailFault}
+use Rattle.rw_text.specs.HexText.{read_text}
 use Rattle.rw_relabel.specs.declared.choice.Choice.{Choice}
-use Rattle.rw_log_commands.specs.Plan.{plan_of}
-use Rattle.rw_log_commands.specs.Running.{ReadsInput}
+use Rattle.rw_log_commands.specs.Plan.{plan_of, plan_text}
+use Rattle.rw_log_commands.specs.Planning.{PlansLog, PlansLogPart, WritesPlan, WritesPlanPart}
+use Rattle.rw_log_commands.specs.Running.{ReadsFault, ReadsInput}
+use Rattle.rw_log_commands.specs.Taking.{ReadsWhole}
 use Rattle.rw_log_commands.specs.inner.Taking.{ReadsSegment}
+use Rattle.rw_log_commands.proofs.TakingLemmas.{whole_segment}
 
 -- bytes that are read are an input that stands for itself
 pub bytes_read : (left_before left_after : Option (List ℕ)) (segment : List ℕ) → ReadsSegment None left_before left_after segment → ReadsInput false None left_before left_after segment
@@ -16,9 +24,65 @@ bytes_read left_before left_after segment h = record {
   faulty = h.faulty;
 }
 
--- what was made of an input was written
-pub plan_written : (choice given : Choice) (hex : Bool) (left_before left_after before after : Option (List ℕ)) (segment written made : List ℕ)
-    → given ≡ choice → ReadsInput hex None left_before left_after segment → made ≡ plan_of given segment → written ≡ made → Appends before after written
-    → (s : List ℕ) × ReadsInput hex None left_before left_after s × Appends before after (plan_of choice s)
-plan_written choice given hex left_before left_after before after segment written made same read is out a =
-    (segment, read, subst (Appends before after) (out ∙ is ∙ ap (λ rs. plan_of rs segment) same) a)
+-- what was made of a log was written, or a prefix of it
+pub plan_written : (choice now : Choice) (left_before left_after : List (Option (List ℕ))) (before after : Option (List ℕ)) (taken : List Entry) (plan written : List ℕ)
+    → ReadsWhole left_before left_after taken → now ≡ choice → plan ≡ plan_text now taken → written ≡ plan → Appends before after written → PlansLog choice left_before left_after before after
+plan_written choice now left_before left_after before after taken plan written h same is out a =
+    record { entries = taken; read = h; written = subst (Appends before after) (out ∙ is ∙ ap (λ c. plan_text c taken) same) a }
+
+pub plan_cut : (choice now : Choice) (left_before left_after : List (Option (List ℕ))) (before after : Option (List ℕ)) (taken : List Entry) (plan written : List ℕ)
+    → ReadsWhole left_before left_after taken → now ≡ choice → plan ≡ plan_text now taken → written ≡ plan → (n : ℕ) × (n ≤ length written) × Appends before after (take n written) → PlansLogPart choice left_before left_after before after
+plan_cut choice now left_before left_after before after taken plan written h same is out a =
+    let made = out ∙ is ∙ ap (λ c. plan_text c taken) same in
+    record { entries = taken; read = h; count = a.0; within = subst (λ p. a.0 ≤ length p) made a.1; written = subst (λ p. Appends before after (take a.0 p)) made a.2 }
+
+-- the same of a log of one segment
+pub plans_segment : (choice : Choice) (a b before after : Option (List ℕ)) → PlansLog choice (a ∷ []) (b ∷ []) before after → WritesPlan choice false a b before after
+plans_segment choice a b before after h =
+    let s = whole_segment a b h.entries h.read in
+    (s.0, bytes_read a b s.0 s.1, subst (Appends before after) (ap (plan_text choice) s.2) h.written)
+
+pub plans_segment_part : (choice : Choice) (a b before after : Option (List ℕ)) → PlansLogPart choice (a ∷ []) (b ∷ []) before after → WritesPlanPart choice false a b before after
+plans_segment_part choice a b before after h =
+    let s = whole_segment a b h.entries h.read in
+    let made = ap (plan_text choice) s.2 in
+    (s.0, bytes_read a b s.0 s.1, (h.count, subst (λ p. h.count ≤ length p) made h.within, subst (λ p. Appends before after (take h.count p)) made h.written))
+
+-- bytes in memory that are read to their end
+whole_bytes : (held segment : List ℕ) (after : Option (List ℕ)) → Consumes (Some held) after segment → IsAtEnd after → segment ≡ held
+whole_bytes held segment None read ended = absurd read
+whole_bytes held segment (Some rest) read ended = sym (read ∙ ap (λ r. segment ++ r) ended ∙ append-nil segment)
+
+-- digits that were read stand for the segment in memory
+digits_read : (has : Option TailFault) (a b : Option (List ℕ)) (text held segment : List ℕ) → Consumes a b text → IsAtEnd b → read_text text ≡ Ok held → segment ≡ held → fault (bytes segment ∷ []) ≡ has → ReadsInput true has a b segment
+digits_read has a b text held segment read ended stands is faulty = record {
+  input = text;
+  read = read;
+  ended = ended;
+  stands = stands ∙ ap (λ s. Ok s) (sym is);
+  faulty = faulty;
+}
+
+pub stands_for : (text seen held slice : List ℕ) → read_text seen ≡ Ok held → seen ≡ text → slice ≡ held → read_text text ≡ Ok slice
+stands_for text seen held slice stands same is = ap read_text (sym same) ∙ stands ∙ ap (λ s. Ok s) (sym is)
+
+pub plans_digits : (choice : Choice) (a b left before after : Option (List ℕ)) (text held : List ℕ) → Consumes a b text → IsAtEnd b → read_text text ≡ Ok held → WritesPlan choice false (Some held) left before after → WritesPlan choice true a b before after
+plans_digits choice a b left before after text held read ended stands h =
+    let input = h.1 in
+    (h.0, digits_read None a b text held h.0 read ended stands (sym input.stands ∙ whole_bytes held input.input left input.read input.ended) input.faulty, h.2)
+
+pub plans_digits_part : (choice : Choice) (a b left before after : Option (List ℕ)) (text held : List ℕ) → Consumes a b text → IsAtEnd b → read_text text ≡ Ok held → WritesPlanPart choice false (Some held) left before after
+    → WritesPlanPart choice true a b before after
+plans_digits_part choice a b left before after text held read ended stands h =
+    let input = h.1 in
+    (h.0, digits_read None a b text held h.0 read ended stands (sym input.stands ∙ whole_bytes held input.input left input.read input.ended) input.faulty, h.2)
+
+pub digits_to_fault : (f : TailFault) (a b left : Option (List ℕ)) (text held : List ℕ) → Consumes a b text → IsAtEnd b → read_text text ≡ Ok held → ReadsFault false f (Some held) left → ReadsFault true f a b
+digits_to_fault f a b None text held read ended stands h = absurd h.read
+digits_to_fault f a b (Some rest) text held read ended stands h =
+    (h.named, (held, digits_read (Some f) a b text held held read ended stands refl (ap (λ s. fault (bytes s ∷ [])) h.read ∙ h.stays rest)))
+
+-- what follows of an answer that is `Ok`
+pub ok_so : {A E : Type 0} (r : Result A E) (P Q : Type 0) → (P → Q) → OnOk r P → OnOk r Q
+ok_so (Ok x) P Q f h = f h
+ok_so (Err e) P Q f h = tt

@@ -2,8 +2,24 @@
 use Rattle.std.specs.Prelude.{ℕ, ◌≤◌, List, length, take, Bool, Option, None}
 use Rattle.std.specs.Io.KnownBytes.{Appends}
 use Rattle.rw_relabel.specs.declared.choice.Choice.{Choice}
-use Rattle.rw_log_commands.specs.Plan.{plan_of}
+use Rattle.rw_types.specs.declared.entry.Entry.{Entry}
+use Rattle.rw_log_commands.specs.Plan.{plan_of, plan_text}
 use Rattle.rw_log_commands.specs.Running.{ReadsInput}
+use Rattle.rw_log_commands.specs.Taking.{ReadsWhole}
+
+-- a log without a fault was read to its end, and its plan was written
+pub record PlansLog (choice : Choice) (left_before left_after : List (Option (List ℕ))) (before after : Option (List ℕ)) : Type 0 where
+  pub entries : List Entry
+  pub read : ReadsWhole left_before left_after entries
+  pub written : Appends before after (plan_text choice entries)
+
+-- the same, and a prefix of its plan was written
+pub record PlansLogPart (choice : Choice) (left_before left_after : List (Option (List ℕ))) (before after : Option (List ℕ)) : Type 0 where
+  pub entries : List Entry
+  pub read : ReadsWhole left_before left_after entries
+  pub count : ℕ
+  pub within : count ≤ length (plan_text choice entries)
+  pub written : Appends before after (take count (plan_text choice entries))
 
 -- an input was read whose segment has no fault, and the segment's plan was written
 abbrev pub WritesPlan : Choice → Bool → Option (List ℕ) → Option (List ℕ) → Option (List ℕ) → Option (List ℕ) → Type 0

@@ -1,18 +1,17 @@
-//! The command `plan`, over any reader and writer.
+//! The command `plan`, over any log and writer.
 
-ghost use Rattle.std.specs.Prelude.{◌≡◌, ◌≢◌, ◌⊎◌, ℕ, List, true, false, Err, None, IfOk, OnOk, IfErr};
+ghost use Rattle.std.specs.Prelude.{◌≡◌, ◌≢◌, ◌⊎◌, ◌<◌, ◌∷◌, [], ℕ, List, length, true, false, Err, None, IfOk, OnOk, IfErr};
 ghost use Rattle.rw_wal_format.specs.declared.tail_fault.TailFault.{TailFault};
-ghost use Rattle.rw_log_commands.specs.Plan.{plan_of};
 ghost use Rattle.rw_shard_core.specs.Configs.{choice_of};
-ghost use Rattle.rw_log_commands.specs.Planning.{WritesPlan, WritesPlanPart};
-ghost use Rattle.rw_log_commands.specs.Running.{ReadsInput, ReadsFault, ReadsLine};
-ghost use Rattle.rw_log_commands.specs.inner.Running.{StopsInput};
-ghost use Rattle.rw_log_commands.specs.inner.Taking.{ReadsSegment, StopsReading};
+ghost use Rattle.rw_log_commands.specs.Planning.{PlansLog, PlansLogPart, WritesPlan, WritesPlanPart};
+ghost use Rattle.rw_log_commands.specs.Running.{ReadsFault, ReadsLine};
+ghost use Rattle.rw_log_commands.specs.Taking.{ReadsLogToFault};
 ghost use Rattle.rw_text.specs.declared.tool_fault.ToolFault.TheVariants.{Log, Line, SegmentFull, Device};
 
 use crate::planner::Planner;
-use crate::reading::{Taker, read_segment};
+use crate::reading::read_log;
 use crate::run::read_input;
+use rw_log_read::{SegmentReader, Taker};
 use rw_relabel::Choice;
 use rw_settings::Settings;
 use rw_text::ToolFault;
@@ -20,46 +19,114 @@ use rw_types::{Entry, Sink, Source, write_all};
 use std::alloc::{AllocError, Global};
 
 impl Taker for Planner {
+    type Task = Choice;
+
     ghost taken = { λ p. p.entries };
 
-    ghost choice = { λ p. p.choice };
+    ghost task = { λ p. p.choice };
 
-    fn take_next(&mut self, entry: Entry) -> Result<(), AllocError> {
-        self.take(entry)
+    fn take(&mut self, entry: Entry) -> Result<(), AllocError> {
+        Planner::take(self, entry)
     }
 }
 
-/// Reads a log segment (wal.md) to its end, and returns its plan.
-fn read_plan<R: Source>(alloc: Global, reader: &mut R, choice: Choice) -> Result<Vec<u8>, ToolFault>
-    ensures ok { IfOk result (λ v. (segment : List ℕ)
-        × ReadsSegment None (R.remaining reader.old) (R.remaining reader.new) segment
-        × (v.items ≡ plan_of choice segment)) }
-    ensures sound { OnOk result (R.has_failed reader.new ≡ false) }
-    ensures err { IfErr result
-        (StopsReading (R.remaining reader.old) (R.remaining reader.new) (R.has_failed reader.new)) }
+/// Reads a log to its end, and writes what the rules make of its entries: for each definition in
+/// log order `REF kept NUMBER LABELS`, `REF filtered LABELS` or `REF bad FAULT`, and then `samples
+/// kept A filtered B bad C noseries D`, each line ended by LF. Nothing is written before the whole
+/// plan is made.
+pub fn plan_log<L: SegmentReader, W: Sink>(
+    alloc: Global,
+    log: &mut L,
+    writer: &mut W,
+    choice: Choice,
+) -> Result<(), ToolFault>
+    ensures ok { OnOk result
+        (PlansLog choice (L.left log.old) (L.left log.new) (W.contents writer.old)
+        (W.contents writer.new)) }
+    ensures log_sound { 0 < length (L.left log.old) → OnOk result (L.has_failed log.new ≡ false) }
+    ensures writer_sound { OnOk result
+        (W.has_failed writer.old ≡ false → W.has_failed writer.new ≡ false) }
+
+    // A fault of the log is the one that it has. Then nothing is written, nor if memory ran out.
+    ensures log { (f : TailFault) → result ≡ Err (Log f)
+        → ReadsLogToFault f (L.left log.old) (L.left log.new) }
+    ensures no_line { (n : ℕ) → result ≡ Err (Line n) → ⊥ }
+    ensures no_full { result ≡ Err SegmentFull → ⊥ }
+    ensures untouched { IfErr result (λ e. e ≢ Device → writer.new ≡ writer.old) }
+
+    // If a device fails, the writer holds a prefix of the plan.
+    ensures device { result ≡ Err Device
+        → ((L.is_sure log.old ≡ true → ⊥) × (L.has_failed log.new ≡ true)
+        × (writer.new ≡ writer.old))
+        ⊎ ((W.has_failed writer.new ≡ true)
+        × PlansLogPart choice (L.left log.old) (L.left log.new) (W.contents writer.old)
+        (W.contents writer.new)) }
 {
-    let planner = read_segment(alloc, reader, Planner::new(alloc, choice))?;
-    Ok(planner.into_text()?)
+    let mut planner = Planner::new(alloc, choice);
+    read_log(alloc, log, &mut planner)?;
+    let plan = planner.into_text()?;
+    write_all(writer, &plan)?;
+    Ok(())
 }
 
-/// Reads the hexadecimal text of a segment to its end, and returns its plan.
-fn read_hex_plan<R: Source>(
+/// Reads a log segment (wal.md) to its end, and writes its plan.
+fn plan_segment<R: Source, W: Sink>(
     alloc: Global,
     reader: &mut R,
+    writer: &mut W,
     choice: Choice,
-) -> Result<Vec<u8>, ToolFault>
-    ensures ok { IfOk result (λ v. (segment : List ℕ)
-        × ReadsInput true None (R.remaining reader.old) (R.remaining reader.new) segment
-        × (v.items ≡ plan_of choice segment)) }
-    ensures sound { OnOk result (R.has_failed reader.new ≡ false) }
-    ensures err { IfErr result
-        (StopsInput true (R.remaining reader.old) (R.remaining reader.new)
-        (R.has_failed reader.new)) }
+) -> Result<(), ToolFault>
+    ensures ok { OnOk result
+        (WritesPlan choice false (R.remaining reader.old) (R.remaining reader.new)
+        (W.contents writer.old) (W.contents writer.new)) }
+    ensures reader_sound { OnOk result (R.has_failed reader.new ≡ false) }
+    ensures writer_sound { OnOk result
+        (W.has_failed writer.old ≡ false → W.has_failed writer.new ≡ false) }
+    ensures log { (f : TailFault) → result ≡ Err (Log f)
+        → ReadsFault false f (R.remaining reader.old) (R.remaining reader.new) }
+    ensures line { (n : ℕ) → result ≡ Err (Line n)
+        → ReadsLine false n (R.remaining reader.old) (R.remaining reader.new) }
+    ensures no_full { result ≡ Err SegmentFull → ⊥ }
+    ensures untouched { IfErr result (λ e. e ≢ Device → writer.new ≡ writer.old) }
+    ensures device { result ≡ Err Device
+        → ((R.is_sure reader.old ≡ true → ⊥) × (R.has_failed reader.new ≡ true)
+        × (writer.new ≡ writer.old))
+        ⊎ ((W.has_failed writer.new ≡ true)
+        × WritesPlanPart choice false (R.remaining reader.old) (R.remaining reader.new)
+        (W.contents writer.old) (W.contents writer.new)) }
+{
+    plan_log(alloc, reader, writer, choice)
+}
+
+/// Reads the hexadecimal text of a log segment to its end, and writes its plan.
+fn plan_digits<R: Source, W: Sink>(
+    alloc: Global,
+    reader: &mut R,
+    writer: &mut W,
+    choice: Choice,
+) -> Result<(), ToolFault>
+    ensures ok { OnOk result
+        (WritesPlan choice true (R.remaining reader.old) (R.remaining reader.new)
+        (W.contents writer.old) (W.contents writer.new)) }
+    ensures reader_sound { OnOk result (R.has_failed reader.new ≡ false) }
+    ensures writer_sound { OnOk result
+        (W.has_failed writer.old ≡ false → W.has_failed writer.new ≡ false) }
+    ensures log { (f : TailFault) → result ≡ Err (Log f)
+        → ReadsFault true f (R.remaining reader.old) (R.remaining reader.new) }
+    ensures line { (n : ℕ) → result ≡ Err (Line n)
+        → ReadsLine true n (R.remaining reader.old) (R.remaining reader.new) }
+    ensures no_full { result ≡ Err SegmentFull → ⊥ }
+    ensures untouched { IfErr result (λ e. e ≢ Device → writer.new ≡ writer.old) }
+    ensures device { result ≡ Err Device
+        → ((R.has_failed reader.new ≡ true) × (writer.new ≡ writer.old))
+        ⊎ ((W.has_failed writer.new ≡ true)
+        × WritesPlanPart choice true (R.remaining reader.old) (R.remaining reader.new)
+        (W.contents writer.old) (W.contents writer.new)) }
 {
     let text = read_input(alloc, reader)?;
     let segment = rw_text::read_hex(alloc, &text)?;
     drop(text);
-    read_plan(alloc, &mut segment.as_slice(), choice)
+    plan_segment(alloc, &mut segment.as_slice(), writer, choice)
 }
 
 /// Returns which series the settings send.
@@ -104,11 +171,8 @@ pub fn run_plan<R: Source, W: Sink>(
         (R.remaining reader.new) (W.contents writer.old) (W.contents writer.new)) }
 {
     let choice = choice_in(settings);
-    let plan = if hex {
-        read_hex_plan(alloc, reader, choice)?
-    } else {
-        read_plan(alloc, reader, choice)?
-    };
-    write_all(writer, &plan)?;
-    Ok(())
+    if !hex {
+        return plan_segment(alloc, reader, writer, choice);
+    }
+    plan_digits(alloc, reader, writer, choice)
 }

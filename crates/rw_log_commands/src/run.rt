@@ -10,21 +10,22 @@ ghost use Rattle.rw_log_commands.specs.Running.{output_of, ReadsInput, WritesBod
 ghost use Rattle.rw_log_commands.specs.inner.Running.{StopsInput};
 
 use crate::labelling::Labelling;
-use crate::reading::{Taker, read_segment};
+use crate::reading::read_segment;
+use rw_log_read::Taker;
 use rw_text::ToolFault;
 use rw_types::{Entry, Sink, Source, read_to_end, write_all};
 use rw_write_request::encode;
 use std::alloc::{AllocError, Global};
 
 impl Taker for Labelling {
-    ghost use Rattle.rw_relabel.specs.Choices.{legacy};
+    type Task = ();
 
     ghost taken = { λ l. l };
 
-    ghost choice = { λ _. legacy };
+    ghost task = { λ _. tt };
 
-    fn take_next(&mut self, entry: Entry) -> Result<(), AllocError> {
-        self.take(entry)
+    fn take(&mut self, entry: Entry) -> Result<(), AllocError> {
+        Labelling::take(self, entry)
     }
 }
 

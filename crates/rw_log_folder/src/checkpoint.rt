@@ -3,15 +3,13 @@
 ghost use Rattle.std.specs.Prelude.{IfSome};
 ghost use Rattle.rw_log_folder.specs.inner.Folders.{IsCheckpointName, IsNameOf};
 
-use crate::files::{
-    SegmentFile, SegmentName, count_bytes, fault_of, file_of, number_of, push_unreadable,
-};
+use crate::files::{SegmentFile, SegmentName, count_bytes, file_of, number_of};
 use crate::folder::Current;
+use crate::folder_fault::{FolderFault, fault_of};
 use crate::listing::{Checkpoint, Listing, Name, Place};
 use crate::opened::Opened;
-use crate::order::{OrderFault, log_order};
+use crate::order::log_order;
 use rw_metrics::SendCounters;
-use rw_text::ToolFault;
 use rw_types::Std;
 use std::alloc::{AllocError, Global};
 use std::fs;
@@ -26,48 +24,6 @@ const CHECKPOINT: &str = "checkpoint.";
 
 /// How often a folder is listed at most, if a file is gone before it is opened.
 const MOST_LISTINGS: usize = 3;
-
-/// Why the files of a log cannot be opened.
-#[derive(Clone, Copy)]
-pub(crate) enum FilesFault {
-    OutOfMemory,
-    /// The segment of this number is missing.
-    Missing(u64),
-    /// The folder or a file cannot be read.
-    Unreadable,
-}
-
-impl From<AllocError> for FilesFault {
-    fn from(_e: AllocError) -> FilesFault {
-        FilesFault::OutOfMemory
-    }
-}
-
-impl From<ToolFault> for FilesFault {
-    fn from(fault: ToolFault) -> FilesFault {
-        match fault {
-            ToolFault::OutOfMemory => FilesFault::OutOfMemory,
-            _ => FilesFault::Unreadable,
-        }
-    }
-}
-
-impl From<OrderFault> for FilesFault {
-    fn from(fault: OrderFault) -> FilesFault {
-        match fault {
-            OrderFault::OutOfMemory => FilesFault::OutOfMemory,
-            OrderFault::Missing(number) => FilesFault::Missing(number),
-        }
-    }
-}
-
-/// The files of a log, in the order in which they are read.
-#[derive(Drop)]
-pub struct LogFiles<R: Files<File = File>> {
-    pub files: Vec<Opened<SegmentFile<R>>>,
-    /// The number of a segment that is missing. Then there is only one file, which cannot be read.
-    pub missing: Option<u64>,
-}
 
 /// Returns the number that a text of one to eight decimal digits spells.
 fn name_of(text: &str) -> Option<Name>
@@ -109,7 +65,7 @@ fn add_name(alloc: Global, listing: &mut Listing, text: &str) -> Result<(), Allo
 }
 
 /// Lists a folder, without the contents of its checkpoints.
-fn list<R: Files + AllocGlobal + Copy>(rt: &R, dir: &str) -> Result<Listing, ToolFault> {
+fn list<R: Files + AllocGlobal + Copy>(rt: &R, dir: &str) -> Result<Listing, FolderFault> {
     let alloc = rt.alloc();
     let entries = match fs::read_dir(rt, dir) {
         Ok(entries) => entries,
@@ -160,7 +116,7 @@ fn list_checkpoint<R: Files + AllocGlobal + Copy>(
     rt: &R,
     dir: &str,
     checkpoint: &mut Checkpoint,
-) -> Result<(), ToolFault> {
+) -> Result<(), FolderFault> {
     let folder = folder_name(rt.alloc(), checkpoint.name)?;
     let path = Path::new(dir).join(rt.alloc(), folder.as_str())?;
     checkpoint.segments = list(rt, path.as_path().as_str())?.segments;
@@ -168,7 +124,7 @@ fn list_checkpoint<R: Files + AllocGlobal + Copy>(
 }
 
 /// Lists a folder and its checkpoints.
-fn list_all<R: Files + AllocGlobal + Copy>(rt: &R, dir: &str) -> Result<Listing, ToolFault> {
+fn list_all<R: Files + AllocGlobal + Copy>(rt: &R, dir: &str) -> Result<Listing, FolderFault> {
     let mut listing = list(rt, dir)?;
     for checkpoint in &mut listing.checkpoints {
         list_checkpoint(rt, dir, checkpoint)?;
@@ -197,14 +153,12 @@ fn segment_at(alloc: Global, place: Place) -> Result<SegmentName, AllocError> {
 }
 
 /// Returns the files of a log, of which those of the checkpoint and the first one after it are
-/// open. If one of these cannot be opened, the first such file is the only one in `closed`.
+/// open.
 fn open_files<R: Files<File = File> + AllocGlobal + Copy>(
     rt: &R,
     dir: &str,
     counters: Option<&Arc<SendCounters, Global>>,
-    closed: &mut Vec<Opened<SegmentFile<R>>>,
-) -> Result<Vec<Opened<SegmentFile<R>>>, FilesFault> {
-    closed.clear();
+) -> Result<Vec<Opened<SegmentFile<R>>>, FolderFault> {
     let alloc = rt.alloc();
     let places = log_order(alloc, list_all(rt, dir)?)?;
     let mut files = Vec::with_capacity(alloc, places.len())?;
@@ -213,14 +167,12 @@ fn open_files<R: Files<File = File> + AllocGlobal + Copy>(
         let segment = segment_at(alloc, place)?;
         let mut file = Opened::new(file_of(rt, dir, segment, counters)?);
         if is_at_checkpoint && !file.open_now() {
-            if closed.push(file).is_err() {
-                return Err(FilesFault::OutOfMemory);
-            }
-            return Err(FilesFault::Unreadable);
+            let name = String::from_str(alloc, file.place().name())?;
+            return Err(FolderFault::Closed(name));
         }
         is_at_checkpoint = is_at_checkpoint && place.checkpoint.is_some();
         if files.push(file).is_err() {
-            return Err(FilesFault::OutOfMemory);
+            return Err(FolderFault::OutOfMemory);
         }
     }
     Ok(files)
@@ -231,7 +183,7 @@ fn open_place<R: Files<File = File> + AllocGlobal + Copy>(
     rt: &R,
     dir: &str,
     place: Place,
-) -> Result<Current, FilesFault> {
+) -> Result<Current, FolderFault> {
     let segment = segment_at(rt.alloc(), place)?;
     let path = Path::new(dir).join(rt.alloc(), segment.name.as_str())?;
     match fs::open(rt, path.as_path()) {
@@ -239,7 +191,7 @@ fn open_place<R: Files<File = File> + AllocGlobal + Copy>(
             let file = Std::new(file);
             Ok(Current { segment, file })
         }
-        Err(_) => Err(FilesFault::Unreadable),
+        Err(_) => Err(FolderFault::Closed(segment.name)),
     }
 }
 
@@ -247,13 +199,13 @@ fn open_place<R: Files<File = File> + AllocGlobal + Copy>(
 fn open_first<R: Files<File = File> + AllocGlobal + Copy>(
     rt: &R,
     dir: &str,
-) -> Result<Vec<Current>, FilesFault> {
+) -> Result<Vec<Current>, FolderFault> {
     let places = log_order(rt.alloc(), list_all(rt, dir)?)?;
     let mut opened = Vec::new(rt.alloc());
     for place in places {
         let current = open_place(rt, dir, place)?;
         if opened.push(current).is_err() {
-            return Err(FilesFault::OutOfMemory);
+            return Err(FolderFault::OutOfMemory);
         }
         if place.checkpoint.is_none() {
             return Ok(opened);
@@ -267,11 +219,11 @@ fn open_first<R: Files<File = File> + AllocGlobal + Copy>(
 pub(crate) fn first_files<R: Files<File = File> + AllocGlobal + Copy>(
     rt: &R,
     dir: &str,
-) -> Result<Vec<Current>, FilesFault> {
-    let mut outcome = Err(FilesFault::Unreadable);
+) -> Result<Vec<Current>, FolderFault> {
+    let mut outcome = Err(FolderFault::Unreadable);
     for _ in 0..MOST_LISTINGS {
         outcome = open_first(rt, dir);
-        if let Ok(_) | Err(FilesFault::OutOfMemory) = &outcome {
+        if let Ok(_) | Err(FolderFault::OutOfMemory) = &outcome {
             return outcome;
         }
     }
@@ -283,35 +235,22 @@ pub(crate) fn first_files<R: Files<File = File> + AllocGlobal + Copy>(
 ///
 /// The files of the checkpoint and the first one after it are open, so that they can be read even
 /// if a server removes them. If one of them is gone before it is opened, the folder is listed
-/// again, three times at most. If a segment is missing, or the folder or one of these files cannot
-/// be read, there is one file whose reads fail: the first one that cannot be opened, if it is
-/// known.
+/// again, three times at most; the fault is that of the last time.
 pub fn log_files<R: Files<File = File> + AllocGlobal + Copy>(
     rt: &R,
     dir: &str,
     counters: Option<&Arc<SendCounters, Global>>,
-) -> Result<LogFiles<R>, AllocError> {
-    let mut closed = Vec::new(rt.alloc());
-    let mut missing = None;
+) -> Result<Vec<Opened<SegmentFile<R>>>, FolderFault> {
+    let mut last = FolderFault::Unreadable;
     for _ in 0..MOST_LISTINGS {
-        match open_files(rt, dir, counters, &mut closed) {
+        match open_files(rt, dir, counters) {
             Ok(files) => {
                 count_bytes(&files, counters);
-                return Ok(LogFiles {
-                    files,
-                    missing: None,
-                });
+                return Ok(files);
             }
-            Err(FilesFault::OutOfMemory) => return Err(AllocError),
-            Err(FilesFault::Missing(number)) => missing = Some(number),
-            Err(FilesFault::Unreadable) => missing = None,
+            Err(FolderFault::OutOfMemory) => return Err(FolderFault::OutOfMemory),
+            Err(fault) => last = fault,
         }
     }
-    if closed.is_empty() {
-        push_unreadable(rt, &mut closed)?;
-    }
-    Ok(LogFiles {
-        files: closed,
-        missing,
-    })
+    Err(last)
 }

@@ -5,9 +5,10 @@ ghost use Rattle.std.specs.List.Sorted.{IsPermutation, IsSortedBy};
 ghost use Rattle.rw_log_folder.specs.Folders.{comes_before};
 ghost use Rattle.rw_log_folder.specs.inner.Folders.{IsNameOf};
 
+use crate::folder_fault::{FolderFault, fault_of};
 use crate::opened::{Open, Opened};
 use rw_metrics::SendCounters;
-use rw_text::{ToolFault, read_number};
+use rw_text::read_number;
 use rw_types::{Failed, Std};
 use std::alloc::{AllocError, Global};
 use std::fs::File;
@@ -32,7 +33,7 @@ pub struct SegmentFile<R> {
 }
 
 impl<R> SegmentFile<R> {
-    /// Returns the name of the file in its folder, or the empty text if the folder cannot be read.
+    /// Returns the name of the file in its folder.
     pub fn name(&self) -> &str
         ensures { result.now ≡ string_bytes self.now.name }
     {
@@ -96,14 +97,6 @@ fn put_in_order(names: &mut Vec<SegmentName>)
     names.sort_unstable_by_key(|segment| (segment.number, segment.name.len()));
 }
 
-/// Returns the fault of a folder that cannot be read.
-pub(crate) fn fault_of(error: &io::Error) -> ToolFault {
-    match error.kind() {
-        ErrorKind::OutOfMemory => ToolFault::OutOfMemory,
-        _ => ToolFault::Device,
-    }
-}
-
 /// Returns the names of a folder's segments, in order: those of one to eight decimal digits, by
 /// number, and of two names of one number the shorter first. Other names are skipped. An `Err` says
 /// why the folder cannot be read.
@@ -138,7 +131,7 @@ pub fn segment_names<R: Files + AllocGlobal + Copy>(
 pub(crate) fn names_in<R: Files + AllocGlobal + Copy>(
     rt: &R,
     dir: &str,
-) -> Result<Vec<SegmentName>, ToolFault>
+) -> Result<Vec<SegmentName>, FolderFault>
     ensures { IfOk result (λ names. IsSortedBy comes_before names.items) }
 {
     match segment_names(rt, dir) {
@@ -168,22 +161,6 @@ pub(crate) fn file_of<R: Files + AllocGlobal + Copy>(
     })
 }
 
-/// Appends a file whose reads fail.
-pub(crate) fn push_unreadable<R: Files<File = File> + AllocGlobal + Copy>(
-    rt: &R,
-    files: &mut Vec<Opened<SegmentFile<R>>>,
-) -> Result<(), AllocError> {
-    let alloc = rt.alloc();
-    files.push(Opened::unreadable(SegmentFile {
-        rt: *rt,
-        path: PathBuf::new(alloc),
-        name: String::new(alloc),
-        number: 0,
-        counters: None,
-    }))?;
-    Ok(())
-}
-
 /// Sets in the counters, if there are any, how many bytes the files have.
 pub(crate) fn count_bytes<R: Files<File = File> + AllocGlobal + Copy>(
     files: &[Opened<SegmentFile<R>>],
@@ -200,24 +177,26 @@ pub(crate) fn count_bytes<R: Files<File = File> + AllocGlobal + Copy>(
 
 /// Returns the segments of a log in a folder, in the order of their numbers: the files whose names
 /// are one to eight decimal digits, and of two names of one number the shorter first. Other names
-/// are skipped. A folder that cannot be read yields one segment whose reads fail. The counters get
-/// the number of bytes of all segments, and count each one that is opened.
+/// are skipped. The counters get the number of bytes of all segments, and count each one that is
+/// opened. If the folder cannot be listed, the fault is `Unreadable`.
 pub fn segment_files<R: Files<File = File> + AllocGlobal + Copy>(
     rt: &R,
     dir: &str,
     counters: Option<&Arc<SendCounters, Global>>,
-) -> Result<Vec<Opened<SegmentFile<R>>>, AllocError> {
-    let alloc = rt.alloc();
-    let mut files = Vec::new(alloc);
-    match names_in(rt, dir) {
-        Ok(names) => {
-            for segment in names {
-                files.push(Opened::new(file_of(rt, dir, segment, counters)?))?;
-            }
-            count_bytes(&files, counters);
+) -> Result<Vec<Opened<SegmentFile<R>>>, FolderFault> {
+    let mut files = Vec::new(rt.alloc());
+    for segment in names_in(rt, dir)? {
+        let file = Opened::new(file_of(rt, dir, segment, counters)?);
+        if files.push(file).is_err() {
+            return Err(FolderFault::OutOfMemory);
         }
-        Err(ToolFault::OutOfMemory) => return Err(AllocError),
-        Err(_) => push_unreadable(rt, &mut files)?,
     }
+    count_bytes(&files, counters);
     Ok(files)
+}
+
+/// Returns `Ok` if a folder can be listed.
+pub fn check_folder<R: Files + AllocGlobal + Copy>(rt: &R, dir: &str) -> Result<(), FolderFault> {
+    let _ = names_in(rt, dir)?;
+    Ok(())
 }

@@ -1,10 +1,10 @@
 //! The segments of a folder to which a writer may still be writing.
 
-use crate::checkpoint::{FilesFault, first_files};
+use crate::checkpoint::first_files;
 use crate::files::{SegmentName, names_in};
+use crate::folder_fault::FolderFault;
 use rw_follow::{Ahead, Segments};
 use rw_metrics::SendCounters;
-use rw_text::ToolFault;
 use rw_types::{ReadFault, Source, Std};
 use std::alloc::{AllocError, Global};
 use std::fs;
@@ -120,12 +120,12 @@ impl<R: Files<File = File> + AllocGlobal + Copy> Folder<R> {
                 self.take_opened();
                 Ok(())
             }
-            Err(FilesFault::Missing(number)) => {
+            Err(FolderFault::Missing(number)) => {
                 self.gap = Some(number);
                 Ok(())
             }
-            Err(FilesFault::OutOfMemory) => Err(ReadFault::OutOfMemory),
-            Err(FilesFault::Unreadable) => Err(ReadFault::Failed),
+            Err(FolderFault::OutOfMemory) => Err(ReadFault::OutOfMemory),
+            Err(_) => Err(ReadFault::Failed),
         }
     }
 
@@ -133,7 +133,7 @@ impl<R: Files<File = File> + AllocGlobal + Copy> Folder<R> {
     fn next_name(&self) -> Result<Option<SegmentName>, ReadFault> {
         match names_in(&self.rt, self.dir.as_str()) {
             Ok(names) => Ok(name_after(names, &self.current)),
-            Err(ToolFault::OutOfMemory) => Err(ReadFault::OutOfMemory),
+            Err(FolderFault::OutOfMemory) => Err(ReadFault::OutOfMemory),
             Err(_) => Err(ReadFault::Failed),
         }
     }

@@ -8,14 +8,16 @@
 mod checkpoint;
 mod files;
 mod folder;
+mod folder_fault;
 mod listing;
 mod newest_segment;
 mod opened;
 mod order;
 
-pub use checkpoint::{LogFiles, has_checkpoint, log_files};
-pub use files::{SegmentFile, SegmentName, segment_files, segment_names};
+pub use checkpoint::{has_checkpoint, log_files};
+pub use files::{SegmentFile, SegmentName, check_folder, segment_files, segment_names};
 pub use folder::Folder;
+pub use folder_fault::FolderFault;
 pub use listing::{Checkpoint, Listing, Name, Place};
 pub use newest_segment::watch_newest_segment;
 pub use opened::{Open, Opened};

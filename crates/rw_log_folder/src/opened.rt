@@ -1,8 +1,6 @@
 //! A source that is opened when it is first read.
 
-ghost use Rattle.std.specs.Prelude.{◌≡◌, ℕ, List, Option, IfOk};
-ghost use Rattle.std.specs.Io.{ReadsAtMost};
-ghost use Rattle.std.specs.Io.KnownBytes.{ReadConsumes};
+ghost use Rattle.std.specs.Prelude.{◌≡◌, ℕ, List, Option, None, is_some, not, true, IfOk};
 ghost use Rattle.rw_log_folder.specs.Opening.{left_of};
 
 use rw_types::{Failed, Source};
@@ -38,8 +36,14 @@ impl<O: Open> Opened<O> {
         }
     }
 
-    /// Opens it before it is read, and returns whether it could be opened. If not, each read fails.
-    pub(crate) fn open_now(&mut self) -> bool {
+    /// Opens it, and returns whether it could be opened. If not, each read fails.
+    pub(crate) fn open_now(&mut self) -> bool
+        ensures left { self.old.source ≡ None
+            → left_of (O.text self.new.place) O.S.remaining self.new.source
+            ≡ O.text self.old.place }
+        ensures some { result ≡ true → is_some self.new.source ≡ true }
+        ensures failed { result ≡ not self.new.failed }
+    {
         match self.place.open() {
             Ok(source) => self.source = Some(source),
             Err(_) => self.failed = true,
@@ -52,30 +56,6 @@ impl<O: Open> Opened<O> {
         ensures { result.now ≡ self.now.place }
     {
         &self.place
-    }
-
-    /// Returns a source whose reads fail. Nothing is opened.
-    pub(crate) fn unreadable(place: O) -> Opened<O> {
-        Opened {
-            place,
-            source: None,
-            failed: true,
-        }
-    }
-
-    fn read_on(&mut self, buf: &mut [u8]) -> Result<usize, Failed>
-        ensures bound { ReadsAtMost result buf.new }
-        ensures bytes { ReadConsumes
-            (left_of (O.text self.old.place) O.S.remaining self.old.source)
-            (left_of (O.text self.new.place) O.S.remaining self.new.source) result buf.new }
-    {
-        if self.source.is_none() {
-            self.source = Some(self.place.open()?);
-        }
-        match &mut self.source {
-            Some(source) => source.read(buf),
-            None => unreachable!(),
-        }
     }
 }
 
@@ -93,7 +73,13 @@ impl<O: Open> Source for Opened<O> {
         if self.failed {
             return Err(Failed);
         }
-        let outcome = self.read_on(buf);
+        if self.source.is_none() && !self.open_now() {
+            return Err(Failed);
+        }
+        let outcome = match &mut self.source {
+            Some(source) => source.read(buf),
+            None => unreachable!(),
+        };
         self.failed = outcome.is_err();
         outcome
     }

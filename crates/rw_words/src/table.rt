@@ -70,7 +70,7 @@ const EXPLAIN: Opt = Opt {
     name: "explain",
     takes: Takes::Nothing,
     bonds: &[],
-    help: "Explain each fault of the settings and the input, and what cannot be read, found or listened on",
+    help: "Explain faults of the settings and the input, and which file, host or address failed",
 };
 
 const EXPLAIN_INPUT: Opt = Opt {
@@ -277,7 +277,7 @@ static SEND: Words = Words {
             name: "reshard-ms",
             takes: Takes::NumberOr(10, 3_600_000, "10000"),
             bonds: &[Bond::Needs("follow")],
-            help: "With --follow: set the number of shards every N milliseconds, 10 to 3600000",
+            help: "With --follow: recompute the number of shards every N milliseconds, 10 to 3600000",
         },
         Opt {
             name: "fail-on-drop",

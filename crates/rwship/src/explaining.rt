@@ -10,7 +10,7 @@ use std::process::ExitCode;
 
 /// The note on a line that is not made of digits.
 const NO_DIGITS: &str =
-    "a character is no hexadecimal digit and no white space, or a digit lacks its other half";
+    "a character is neither a hexadecimal digit nor white space, or the last digit has no second one";
 
 /// The note on a script that mixes the two ways of letting its log grow.
 const MIXED: &str =

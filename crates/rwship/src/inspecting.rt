@@ -2,10 +2,10 @@
 
 use crate::ending::{point_to_explain, print_device_error, report_follow_fault};
 use crate::input::Reader;
-use rw_inspect::{
-    Damage, Named, Report, SkippedRecords, find_entries, inspect, json_of, plan_segments, table_of,
-};
-use rw_log_folder::{LogFiles, Opened, SegmentFile, has_checkpoint, log_files, segment_files};
+use rw_inspect::{Report, find_entries, inspect, json_of, table_of};
+use rw_log_commands::plan_log;
+use rw_log_folder::{FolderFault, Opened, SegmentFile, has_checkpoint, log_files, segment_files};
+use rw_log_read::{Damage, Named, SegmentList, SkippedRecords};
 use rw_metrics::SendCounters;
 use rw_send::FollowFault;
 use rw_settings::Settings;
@@ -23,14 +23,21 @@ pub fn files_of(
     rt: &HostRuntime,
     dir: LogDir<'_>,
     counters: Option<&Arc<SendCounters, Global>>,
-) -> Result<LogFiles<HostRuntime>, AllocError> {
+) -> Result<Vec<Opened<SegmentFile<HostRuntime>>>, FolderFault> {
     if dir.from_checkpoint {
-        return log_files(rt, dir.path, counters);
+        log_files(rt, dir.path, counters)
+    } else {
+        segment_files(rt, dir.path, counters)
     }
-    Ok(LogFiles {
-        files: segment_files(rt, dir.path, counters)?,
-        missing: None,
-    })
+}
+
+/// Returns the fault of a log whose files cannot be listed or opened.
+pub fn fault_of_folder(fault: FolderFault) -> FollowFault {
+    match fault {
+        FolderFault::OutOfMemory => FollowFault::Tool(ToolFault::OutOfMemory),
+        FolderFault::Missing(number) => FollowFault::Missing(number),
+        FolderFault::Unreadable | FolderFault::Closed(_) => FollowFault::Tool(ToolFault::Device),
+    }
 }
 
 /// Returns whether a folder has a checkpoint that is skipped.
@@ -53,10 +60,10 @@ fn named_files(
     dir: LogDir<'_>,
 ) -> Result<Vec<Named<Opened<SegmentFile<HostRuntime>>>>, FollowFault> {
     let alloc = rt.alloc();
-    let LogFiles { files, missing } = files_of(rt, dir, None)?;
-    if let Some(number) = missing {
-        return Err(FollowFault::Missing(number));
-    }
+    let files = match files_of(rt, dir, None) {
+        Ok(files) => files,
+        Err(fault) => return Err(fault_of_folder(fault)),
+    };
     let mut named = Vec::new(alloc);
     for source in files {
         let name = String::from_str(alloc, source.place().name())?;
@@ -145,13 +152,10 @@ pub fn print_plan(
     dir: LogDir<'_>,
     settings: Settings,
 ) -> Result<(), FollowFault> {
-    let segments = named_files(rt, dir)?;
+    let mut log = SegmentList::new(named_files(rt, dir)?);
     let choice = settings.config.into_fields().into_choice();
     let mut output = Std::new(rt.stdout());
-    match plan_segments(rt.alloc(), choice, segments, &mut output) {
-        Ok(damage) => Ok(fault_of(damage)?),
-        Err(fault) => Err(FollowFault::Tool(ToolFault::from(fault))),
-    }
+    Ok(plan_log(rt.alloc(), &mut log, &mut output, choice)?)
 }
 
 /// Prints the entries at positions of the log in a folder, and returns how many do not exist. A
@@ -198,12 +202,26 @@ fn print_damage(rt: &HostRuntime, dir: LogDir<'_>) {
     }
 }
 
-/// Prints the first segment that cannot be opened.
-fn print_first_closed(rt: &HostRuntime, dir: LogDir<'_>) -> Result<(), AllocError> {
-    for segment in files_of(rt, dir, None)?.files {
-        let path = Path::new(dir.path).join(rt.alloc(), segment.place().name())?;
-        if let Err(error) = fs::open(rt, path.as_path()) {
+/// Prints why a file of a folder cannot be opened, and returns whether that is so.
+fn print_closed(rt: &HostRuntime, dir: LogDir<'_>, name: &str) -> Result<bool, AllocError> {
+    let path = Path::new(dir.path).join(rt.alloc(), name)?;
+    match fs::open(rt, path.as_path()) {
+        Ok(_) => Ok(false),
+        Err(error) => {
             print_device_error(rt, "read", path.as_path().as_str(), &error);
+            Ok(true)
+        }
+    }
+}
+
+/// Prints the first of the files of a folder that cannot be opened.
+fn print_first_closed(
+    rt: &HostRuntime,
+    dir: LogDir<'_>,
+    files: Vec<Opened<SegmentFile<HostRuntime>>>,
+) -> Result<(), AllocError> {
+    for file in files {
+        if print_closed(rt, dir, file.place().name())? {
             return Ok(());
         }
     }
@@ -212,11 +230,18 @@ fn print_first_closed(rt: &HostRuntime, dir: LogDir<'_>) -> Result<(), AllocErro
 
 /// Prints what in a folder cannot be read; this is found by a second try.
 fn print_unreadable(rt: &HostRuntime, dir: LogDir<'_>) {
-    match fs::read_dir(rt, dir.path) {
-        Ok(_) => {
-            let _ = print_first_closed(rt, dir);
+    match files_of(rt, dir, None) {
+        Ok(files) => {
+            let _ = print_first_closed(rt, dir, files);
         }
-        Err(error) => print_device_error(rt, "read", dir.path, &error),
+        Err(FolderFault::Closed(name)) => {
+            let _ = print_closed(rt, dir, name.as_str());
+        }
+        Err(_) => {
+            if let Err(error) = fs::read_dir(rt, dir.path) {
+                print_device_error(rt, "read", dir.path, &error);
+            }
+        }
     }
 }
 

@@ -79,79 +79,71 @@ fn find(rt: &HostRuntime, dir: LogDir<'_>, words: &ArgMatches<'_>, is_explained:
 fn perform<R: Threads + Wait + Clock + Copy + Send + Sync + 'static>(
     rt: &HostRuntime,
     threads: &R,
-    task: &Task<'_>,
     words: &ArgMatches<'_>,
 ) -> ExitCode {
+    let Some(task) = task_of(words) else {
+        return report_bad_address(rt, words);
+    };
     match task {
-        Task::Body { hex, is_explained } => body(rt, *hex, *is_explained),
+        Task::Body { hex, is_explained } => body(rt, hex, is_explained),
         Task::Log {
             hex,
             pages,
             dir,
             is_explained,
-        } => log(rt, *hex, *pages, *dir, *is_explained),
-        Task::Plan { settings, hex, dir } => plan(rt, *settings, *hex, *dir),
+        } => log(rt, hex, pages, dir, is_explained),
+        Task::Plan { settings, hex, dir } => plan(rt, settings, hex, dir),
         Task::Inspect {
             dir,
             json,
             is_explained,
-        } => inspect(rt, *dir, *json, *is_explained),
-        Task::Find { dir, is_explained } => find(rt, *dir, words, *is_explained),
-        Task::Replay { settings } => replay(rt, *settings),
-        Task::Settings { settings } => print_settings(rt, *settings),
-        Task::Send { settings, sending } => send(rt, threads, *settings, sending),
+        } => inspect(rt, dir, json, is_explained),
+        Task::Find { dir, is_explained } => find(rt, dir, words, is_explained),
+        Task::Replay { settings } => replay(rt, settings),
+        Task::Settings { settings } => print_settings(rt, settings),
+        Task::Send { settings, sending } => send(rt, threads, settings, &sending),
         Task::Receive {
             settings,
             receiving,
-        } => receive(rt, threads, *settings, receiving),
+        } => receive(rt, threads, settings, &receiving),
     }
 }
 
-/// Does what the arguments ask for, as the command-line parser found them.
-fn perform_matches<R: Threads + Wait + Clock + Copy + Send + Sync + 'static>(
-    rt: &HostRuntime,
-    threads: &R,
-    matches: &ArgMatches<'_>,
-) -> ExitCode {
-    match task_of(matches) {
-        Some(task) => perform(rt, threads, &task, matches),
-        None => report_bad_address(rt, matches),
-    }
-}
-
-/// Parses the arguments, and does what they ask for.
-fn perform_words<R: Threads + Wait + Clock + Copy + Send + Sync + 'static>(
-    rt: &HostRuntime,
-    threads: &R,
-    words: &[String],
-) -> Result<ExitCode, ToolFault> {
-    match command_line(rt.alloc())?.try_get_matches_from(words) {
-        Ok(matches) => Ok(perform_matches(rt, threads, &matches)),
-        Err(error) => Ok(report_parse_error(rt, error)),
-    }
-}
-
-/// Reads the arguments, and does what they ask for.
-fn run<R: Threads + Wait + Clock + Copy + Send + Sync + 'static>(
-    rt: &HostRuntime,
-    threads: &R,
-) -> Result<ExitCode, ToolFault> {
+/// Returns the arguments, or the exit status if they cannot be read, which it reports.
+fn read_arguments(rt: &HostRuntime) -> Result<Vec<String>, ExitCode> {
     match env::args(rt) {
-        Ok(words) => {
-            let words: Vec<String> = words.collect(rt.alloc())?;
-            perform_words(rt, threads, words.as_slice())
+        Ok(words) => match words.collect(rt.alloc()) {
+            Ok(words) => Ok(words),
+            Err(_) => Err(report_result(rt, Err(ToolFault::OutOfMemory))),
+        },
+        Err(error) if error.kind() == ErrorKind::OutOfMemory => {
+            Err(report_result(rt, Err(ToolFault::OutOfMemory)))
         }
-        Err(error) if error.kind() == ErrorKind::OutOfMemory => Err(ToolFault::OutOfMemory),
-        Err(_) => Ok(report_bad_arguments(
+        Err(_) => Err(report_bad_arguments(
             rt,
             "error: a word is not UTF-8\n\nFor more information, try '--help'.",
         )),
     }
 }
 
+/// Parses the arguments. If they are not valid, or ask for help, it prints that, and returns the
+/// exit status.
+fn parse_arguments<'a>(rt: &HostRuntime, words: &'a [String]) -> Result<ArgMatches<'a>, ExitCode> {
+    match command_line(rt.alloc()) {
+        Ok(command) => match command.try_get_matches_from(words) {
+            Ok(matches) => Ok(matches),
+            Err(error) => Err(report_parse_error(rt, error)),
+        },
+        Err(_) => Err(report_result(rt, Err(ToolFault::OutOfMemory))),
+    }
+}
+
 fn main(rt: HostRuntime) -> ExitCode {
-    match run(&rt, &rt) {
-        Ok(status) => status,
-        Err(fault) => report_result(&rt, Err(fault)),
+    match read_arguments(&rt) {
+        Ok(words) => match parse_arguments(&rt, words.as_slice()) {
+            Ok(matches) => perform(&rt, &rt, &matches),
+            Err(status) => status,
+        },
+        Err(status) => status,
     }
 }

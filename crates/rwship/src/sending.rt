@@ -4,18 +4,20 @@ use crate::ending::{
     empty_status, point_to_explain, print_device_error, report_dropped, report_result,
     report_settings_fault, report_skipped,
 };
-use crate::inspecting::{files_of, log_fault, note_checkpoint, passes_checkpoint_over};
+use crate::inspecting::{
+    fault_of_folder, files_of, log_fault, note_checkpoint, passes_checkpoint_over,
+};
 use crate::reporting::{begin_reporting, end_reporting, is_watched};
 use crate::settings::settings_in;
 use crate::stopping::stop_signal;
 use rw_follow::Timed;
-use rw_log_folder::{Folder, LogFiles, watch_newest_segment};
+use rw_log_folder::{Folder, FolderFault, Opened, SegmentFile, check_folder, watch_newest_segment};
 use rw_metrics::{Counters, SendCounters, show_stalls};
 use rw_send::{FollowFault, SendOptions, StopFlag, TcpConnect, run_follow, run_send};
 use rw_settings::Settings;
 use rw_tcp::look_up;
 use rw_text::{Address, ToolFault};
-use rw_types::{Bounded, Std};
+use rw_types::{Bounded, Std, write_all};
 use rw_words::{Following, LogDir, Reading, Sending, SettingsFile};
 use std::alloc::{AllocError, Global};
 use std::io::{Error, ErrorKind, IsTerminal};
@@ -25,10 +27,13 @@ use std::sync::{Arc, Wait};
 use std::thread::{self, Threads};
 use std::time::{Clock, Duration};
 
+/// The report of a log of which nothing could be read.
+const NOTHING_READ: &[u8] = b"filtered 0\nreport abandoned 0\n";
+
 /// The log that is shipped.
 enum Log {
     /// The files of the folder.
-    Whole(LogFiles<HostRuntime>),
+    Whole(Vec<Opened<SegmentFile<HostRuntime>>>),
     /// The folder while it grows, and the watch that ends it.
     Growing(Folder<HostRuntime>, Timed<HostRuntime>),
 }
@@ -79,10 +84,11 @@ fn log_of<R: Threads>(
     sending: &Sending<'_>,
     stop: &StopFlag,
     counters: &Arc<SendCounters, Global>,
-) -> Result<Log, AllocError> {
+) -> Result<Log, FolderFault> {
     match &sending.reading {
         Reading::Whole => Ok(Log::Whole(files_of(rt, sending.dir, Some(counters))?)),
         Reading::Follow(following) => {
+            check_folder(rt, sending.dir.path)?;
             let folder = folder_of(rt, sending.dir, counters)?;
             Ok(Log::Growing(folder, watch_of(rt, threads, following, stop)?))
         }
@@ -97,7 +103,7 @@ fn shipment_to<R: Threads>(
     addresses: Vec<SocketAddr>,
     timeout_ms: Bounded<1, 3_600_000>,
     counters: &Arc<SendCounters, Global>,
-) -> Result<Shipment, AllocError> {
+) -> Result<Shipment, FolderFault> {
     let stop = StopFlag::new(rt.alloc())?;
     let theirs = Arc::try_clone(counters)?;
     let counters = Arc::try_clone(counters)?;
@@ -168,6 +174,17 @@ fn reported_counters<R: Threads>(
     Ok(counters)
 }
 
+/// Prints the report of a log whose files cannot be listed or opened. If memory ran out, there is
+/// none.
+fn report_nothing_read(rt: &HostRuntime, fault: &FolderFault) {
+    match fault {
+        FolderFault::OutOfMemory => {}
+        _ => {
+            let _ = write_all(&mut Std::new(rt.stdout()), NOTHING_READ);
+        }
+    }
+}
+
 /// Begins to report, and returns what shipping needs.
 fn prepare<R: Threads>(
     rt: &HostRuntime,
@@ -175,22 +192,15 @@ fn prepare<R: Threads>(
     sending: &Sending<'_>,
     addresses: Vec<SocketAddr>,
     timeout_ms: Bounded<1, 3_600_000>,
-) -> Result<Shipment, ToolFault> {
+) -> Result<Shipment, FollowFault> {
     let counters = reported_counters(rt, threads, sending)?;
     match shipment_to(rt, threads, sending, addresses, timeout_ms, &counters) {
         Ok(shipment) => Ok(shipment),
         Err(fault) => {
+            report_nothing_read(rt, &fault);
             end_reporting(rt, &sending.reporting, &Counters::Send(counters));
-            Err(ToolFault::from(fault))
+            Err(fault_of_folder(fault))
         }
-    }
-}
-
-/// Returns the fault of a log that is read as it is, of which this segment is missing.
-fn whole_fault(missing: Option<u64>, fault: ToolFault) -> FollowFault {
-    match (missing, fault) {
-        (Some(number), ToolFault::Device) => FollowFault::Missing(number),
-        _ => FollowFault::Tool(fault),
     }
 }
 
@@ -204,10 +214,10 @@ fn ship_log<R: Threads + Wait + Clock + Copy + Send + 'static>(
 ) -> Result<(), FollowFault> {
     let mut output = Std::new(rt.stdout());
     match log {
-        Log::Whole(LogFiles { files, missing }) => {
+        Log::Whole(files) => {
             match run_send(threads, rt.alloc(), settings, files, options, &mut output) {
                 Ok(()) => Ok(()),
-                Err(fault) => Err(whole_fault(missing, fault)),
+                Err(fault) => Err(FollowFault::Tool(fault)),
             }
         }
         Log::Growing(mut folder, mut watch) => run_follow(
@@ -256,42 +266,6 @@ struct Unshipped {
     skipped_records: u64,
 }
 
-/// Ships what was prepared, and ends the reporting. Returns what was not shipped.
-fn ship<R: Threads + Wait + Clock + Copy + Send + 'static>(
-    rt: &HostRuntime,
-    threads: &R,
-    settings: Settings,
-    sending: &Sending<'_>,
-    shipment: Shipment,
-    is_explained: bool,
-) -> Result<Unshipped, FollowFault> {
-    let Shipment {
-        log,
-        connect,
-        stop,
-        counters,
-    } = shipment;
-    let options = SendOptions {
-        connect,
-        counters: &counters,
-        max_batch_bytes: sending.max_batch_bytes,
-        stop,
-    };
-    let outcome = ship_log(rt, threads, settings, log, options);
-    let unshipped = Unshipped {
-        dropped_samples: counters.dropped(),
-        skipped_records: counters.skipped().lost(),
-    };
-    if is_explained {
-        explain_missing(rt, sending, &counters);
-    }
-    end_reporting(rt, &sending.reporting, &Counters::Send(counters));
-    match outcome {
-        Ok(()) => Ok(unshipped),
-        Err(fault) => Err(fault),
-    }
-}
-
 /// Reports that a receiver cannot be looked up and, if that is asked for, why. Returns the exit
 /// status.
 fn report_lookup_error(
@@ -323,46 +297,10 @@ fn report_unshipped(rt: &HostRuntime, sending: &Sending<'_>, unshipped: Unshippe
     }
 }
 
-/// Reports how shipping ended and, if that is asked for, what is wrong with the folder. Returns the
-/// exit status.
-fn report_outcome(
-    rt: &HostRuntime,
-    sending: &Sending<'_>,
-    outcome: Result<Unshipped, FollowFault>,
-    is_explained: bool,
-) -> ExitCode {
-    match outcome {
-        Ok(unshipped) => report_unshipped(rt, sending, unshipped),
-        Err(fault) => log_fault(rt, sending.dir, fault, is_explained),
-    }
-}
-
-/// Looks the receiver up and prepares to ship. If that fails, it reports why, and returns the exit
-/// status.
-fn start<R: Threads>(
-    rt: &HostRuntime,
-    threads: &R,
-    sending: &Sending<'_>,
-    timeout_ms: Bounded<1, 3_600_000>,
-    is_explained: bool,
-) -> Result<Shipment, ExitCode> {
-    let to = sending.to;
-    match look_up(rt, rt.alloc(), to.name(), to.port) {
-        Ok(addresses) => match prepare(rt, threads, sending, addresses, timeout_ms) {
-            Ok(shipment) => Ok(shipment),
-            Err(fault) => {
-                let outcome = Err(FollowFault::Tool(fault));
-                Err(report_outcome(rt, sending, outcome, is_explained))
-            }
-        },
-        Err(error) => Err(report_lookup_error(rt, to.name(), &error, is_explained)),
-    }
-}
-
 /// Returns whether the folder has no segment.
 fn is_empty(log: &Log) -> bool {
     match log {
-        Log::Whole(log) => log.missing.is_none() && log.files.is_empty(),
+        Log::Whole(files) => files.is_empty(),
         Log::Growing(..) => false,
     }
 }
@@ -378,30 +316,50 @@ fn note_empty(rt: &HostRuntime, sending: &Sending<'_>, is_explained: bool) {
     }
 }
 
-/// Ships a folder by settings.
-fn send_by<R: Threads + Wait + Clock + Copy + Send + 'static>(
+/// Looks the receiver up and prepares to ship. If that fails, it reports why, and returns the exit
+/// status.
+fn start<R: Threads>(
     rt: &HostRuntime,
     threads: &R,
-    settings: Settings,
     sending: &Sending<'_>,
+    timeout_ms: Bounded<1, 3_600_000>,
     is_explained: bool,
-) -> ExitCode {
-    let timeout_ms = settings.config.fields().timeout_ms;
+) -> Result<Shipment, ExitCode> {
     if is_explained || sending.reporting.has_progress {
         note_checkpoint(rt, sending.dir);
     }
-    match start(rt, threads, sending, timeout_ms, is_explained) {
-        Ok(shipment) => {
-            let has_nothing = is_empty(&shipment.log);
-            if has_nothing {
-                note_empty(rt, sending, is_explained);
-            }
-            match ship(rt, threads, settings, sending, shipment, is_explained) {
-                Ok(_) if has_nothing && sending.fails_on_empty => empty_status(),
-                outcome => report_outcome(rt, sending, outcome, is_explained),
-            }
-        }
-        Err(status) => status,
+    let to = sending.to;
+    match look_up(rt, rt.alloc(), to.name(), to.port) {
+        Ok(addresses) => match prepare(rt, threads, sending, addresses, timeout_ms) {
+            Ok(shipment) => Ok(shipment),
+            Err(fault) => Err(log_fault(rt, sending.dir, fault, is_explained)),
+        },
+        Err(error) => Err(report_lookup_error(rt, to.name(), &error, is_explained)),
+    }
+}
+
+/// Ends the reporting, and reports how shipping ended and, if that is asked for, what is wrong with
+/// the folder. Returns the exit status.
+fn finish(
+    rt: &HostRuntime,
+    sending: &Sending<'_>,
+    counters: Arc<SendCounters, Global>,
+    has_nothing: bool,
+    outcome: Result<(), FollowFault>,
+    is_explained: bool,
+) -> ExitCode {
+    let unshipped = Unshipped {
+        dropped_samples: counters.dropped(),
+        skipped_records: counters.skipped().lost(),
+    };
+    if is_explained {
+        explain_missing(rt, sending, &counters);
+    }
+    end_reporting(rt, &sending.reporting, &Counters::Send(counters));
+    match outcome {
+        Ok(()) if has_nothing && sending.fails_on_empty => empty_status(),
+        Ok(()) => report_unshipped(rt, sending, unshipped),
+        Err(fault) => log_fault(rt, sending.dir, fault, is_explained),
     }
 }
 
@@ -412,8 +370,31 @@ pub fn send<R: Threads + Wait + Clock + Copy + Send + 'static>(
     file: SettingsFile<'_>,
     sending: &Sending<'_>,
 ) -> ExitCode {
-    match settings_in(rt, file) {
-        Ok(settings) => send_by(rt, threads, settings, sending, file.is_explained),
-        Err(fault) => report_settings_fault(rt, fault),
+    let settings = match settings_in(rt, file) {
+        Ok(settings) => settings,
+        Err(fault) => return report_settings_fault(rt, fault),
+    };
+    let timeout_ms = settings.config.fields().timeout_ms;
+    match start(rt, threads, sending, timeout_ms, file.is_explained) {
+        Ok(Shipment {
+            log,
+            connect,
+            stop,
+            counters,
+        }) => {
+            let has_nothing = is_empty(&log);
+            if has_nothing {
+                note_empty(rt, sending, file.is_explained);
+            }
+            let options = SendOptions {
+                connect,
+                counters: &counters,
+                max_batch_bytes: sending.max_batch_bytes,
+                stop,
+            };
+            let outcome = ship_log(rt, threads, settings, log, options);
+            finish(rt, sending, counters, has_nothing, outcome, file.is_explained)
+        }
+        Err(status) => status,
     }
 }

@@ -2,7 +2,7 @@
 //! space.
 
 use rw_follow::{Ahead, Segments};
-use rw_log_folder::{Folder, LogFiles, log_files};
+use rw_log_folder::{Folder, FolderFault, Opened, SegmentFile, log_files};
 use rw_metrics::SendCounters;
 use rw_types::read_to_end;
 use std::alloc::{AllocError, Global};
@@ -117,8 +117,12 @@ fn make_folder(rt: &HostRuntime, name: &str, row: &Row) -> Result<PathBuf, Fail>
 }
 
 /// Appends what files hold. Returns whether all could be read.
-fn read_all(rt: &HostRuntime, log: LogFiles<HostRuntime>, text: &mut Vec<u8>) -> bool {
-    for file in log.files {
+fn read_all(
+    rt: &HostRuntime,
+    files: Vec<Opened<SegmentFile<HostRuntime>>>,
+    text: &mut Vec<u8>,
+) -> bool {
+    for file in files {
         let mut file = file;
         if read_to_end(rt.alloc(), &mut file, text).is_err() {
             return false;
@@ -130,16 +134,20 @@ fn read_all(rt: &HostRuntime, log: LogFiles<HostRuntime>, text: &mut Vec<u8>) ->
 /// Returns whether the log in a folder is read as a row says. The folder is removed once it was
 /// opened, if that is asked for.
 fn is_read(rt: &HostRuntime, dir: Path<'_>, row: &Row, goes: bool) -> Result<bool, AllocError> {
-    let log = log_files(rt, dir.as_str(), None)?;
+    let listed = log_files(rt, dir.as_str(), None);
     if goes {
         let _ = fs::remove_dir_all(rt, dir);
     }
-    if log.missing.is_some() {
-        return Ok(log.missing == row.missing && log.files.len() == 1);
-    }
     let mut text = Vec::new(rt.alloc());
-    let is_whole = read_all(rt, log, &mut text);
-    Ok(is_whole && row.missing.is_none() && text.as_slice() == row.text.as_bytes())
+    match listed {
+        Ok(files) => {
+            let is_whole = read_all(rt, files, &mut text);
+            Ok(is_whole && row.missing.is_none() && text.as_slice() == row.text.as_bytes())
+        }
+        Err(FolderFault::Missing(number)) => Ok(row.missing == Some(number)),
+        Err(FolderFault::OutOfMemory) => Err(AllocError),
+        Err(_) => Ok(false),
+    }
 }
 
 /// Follows a folder to its end. Returns the number that is missing, or `Err` if the folder cannot
@@ -227,24 +235,32 @@ static NO_FOLDER: Row = Row {
     missing: None,
 };
 
-/// Returns whether the log in a folder cannot be read, as it is or while it grows.
+/// Returns whether the folder of a log cannot be listed or, if a name is given, the file of this
+/// name in it cannot be opened.
+fn is_fault(rt: &HostRuntime, dir: &str, closed: Option<&str>) -> bool {
+    match (log_files(rt, dir, None), closed) {
+        (Err(FolderFault::Unreadable), None) => true,
+        (Err(FolderFault::Closed(name)), Some(closed)) => name.as_str() == closed,
+        _ => false,
+    }
+}
+
+/// Returns whether following the log in a folder fails.
 fn is_unreadable(rt: &HostRuntime, dir: &str) -> Result<bool, AllocError> {
     let alloc = rt.alloc();
-    let log = log_files(rt, dir, None)?;
-    let is_one = log.files.len() == 1 && log.missing.is_none();
     let mut text = Vec::new(alloc);
     let counters = Arc::new(alloc, SendCounters::new(alloc)?)?;
     let mut folder = Folder::from_checkpoint(*rt, String::from_str(alloc, dir)?, counters);
-    let is_refused = follow(&mut folder, &mut text).is_err();
-    Ok(is_one && is_refused && !read_all(rt, log, &mut text))
+    Ok(follow(&mut folder, &mut text).is_err())
 }
 
 #[test]
 fn what_cannot_be_read_is_no_empty_log(rt: HostRuntime) -> Result<(), Fail> {
     let dir = make_folder(&rt, "rwship-a-checkpoint-that-is-no-folder", &NO_FOLDER)?;
     let is_so = is_unreadable(&rt, dir.as_str())? && is_unreadable(&rt, "/no such folder")?;
+    let is_reported = is_fault(&rt, dir.as_str(), None) && is_fault(&rt, "/no such folder", None);
     fs::remove_dir_all(&rt, dir.as_path())?;
-    assert!(rt; is_so);
+    assert!(rt; is_so && is_reported);
     Ok(())
 }
 
@@ -265,7 +281,8 @@ fn a_checkpoint_that_goes_before_it_is_opened_is_a_fault(rt: HostRuntime) -> Res
         .join(rt.alloc(), "checkpoint.00000003/00000000")?;
     symlink(&rt, "nowhere", file.as_path())?;
     let is_so = is_unreadable(&rt, dir.as_str())?;
+    let is_reported = is_fault(&rt, dir.as_str(), Some("checkpoint.00000003/00000000"));
     fs::remove_dir_all(&rt, dir.as_path())?;
-    assert!(rt; is_so);
+    assert!(rt; is_so && is_reported);
     Ok(())
 }

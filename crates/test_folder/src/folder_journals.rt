@@ -9,7 +9,11 @@ use std::test::Fail;
 use std::{env, fs};
 
 /// Makes a folder of this name that holds files, each with its text.
-fn make_folder(rt: &HostRuntime, name: &str, files: &[(&str, &str)]) -> Result<PathBuf, Fail> {
+pub(crate) fn make_folder(
+    rt: &HostRuntime,
+    name: &str,
+    files: &[(&str, &str)],
+) -> Result<PathBuf, Fail> {
     let temp = env::temp_dir(rt)?;
     let dir = temp.as_path().join(rt.alloc(), name)?;
     let _ = fs::remove_dir_all(rt, dir.as_path());

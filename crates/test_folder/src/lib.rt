@@ -1,7 +1,11 @@
-//! Tests of folders: which files of a log are read, what a crash leaves of a journal, and in which
-//! folders a journal is opened; and of the pages for people.
+//! Tests of folders: which files of a log are read, what a crash leaves of a journal, in which
+//! folders a journal is opened, and what it writes into them; and of the pages for people.
 #![tactic(auto)]
 
+#[cfg(test)]
+mod failing_files;
+#[cfg(test)]
+mod failing_folders;
 #[cfg(test)]
 mod files;
 #[cfg(test)]

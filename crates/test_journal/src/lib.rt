@@ -7,6 +7,16 @@ mod appends;
 #[cfg(test)]
 mod entry_counter;
 #[cfg(test)]
+mod failed_calls;
+#[cfg(test)]
+mod failing_journal;
+#[cfg(test)]
+mod full_heads;
+#[cfg(test)]
+mod long_messages;
+#[cfg(test)]
+mod memory;
+#[cfg(test)]
 mod messages;
 #[cfg(test)]
 mod openings;

@@ -1,11 +1,36 @@
 //! Samples as plain lists, the bodies that bring them, and whether a head holds them.
 
-use rw_head::{Capacity, Head};
-use rw_journal::MemoryJournal;
+use rw_head::{Capacity, Head, Limits};
+use rw_journal::{Journal, JournalError, MemoryJournal};
 use rw_kept_head::KeptHead;
 use rw_types::{LabelFault, LabelSet, Names, Word};
 use rw_write_request::{Message, Series, encode};
 use std::alloc::{AllocError, Global};
+
+/// What is wrong with a head that is kept in a journal.
+#[derive(Clone, Copy, Debug, PartialEq, Eq)]
+pub(crate) enum Wrong {
+    OutOfMemory,
+    NotOpened,
+    Status,
+    Fault,
+    Calls,
+    Held,
+    HeldAfterCrash,
+    HeldAtLast,
+}
+
+impl From<AllocError> for Wrong {
+    fn from(_: AllocError) -> Self {
+        Wrong::OutOfMemory
+    }
+}
+
+impl From<JournalError> for Wrong {
+    fn from(_: JournalError) -> Self {
+        Wrong::OutOfMemory
+    }
+}
 
 /// The metric names of the series.
 pub(crate) const NAMES: [&str; 4] = ["a", "b", "c", "d"];
@@ -16,6 +41,25 @@ pub(crate) struct Sample {
     pub(crate) series: usize,
     pub(crate) time: i64,
     pub(crate) value: u64,
+}
+
+/// Returns samples of the four series in turn, one for each millisecond after those before.
+pub(crate) fn samples_after(
+    alloc: Global,
+    before: usize,
+    count: usize,
+) -> Result<Vec<Sample>, AllocError> {
+    let mut samples = Vec::with_capacity(alloc, count)?;
+    let mut time = i64::try_from(before).unwrap_or(i64::MAX);
+    for i in 0..count {
+        samples.push(Sample {
+            series: i % 4,
+            time,
+            value: i as u64,
+        })?;
+        time = time.saturating_add(1);
+    }
+    Ok(samples)
 }
 
 /// The labels of the series of a number.
@@ -83,7 +127,21 @@ pub(crate) fn holds_part(alloc: Global, head: &Head, all: &[Sample], least: usiz
     true
 }
 
+/// Opens a journal in memory.
+pub(crate) fn open(
+    alloc: Global,
+    limits: &Limits,
+    mut journal: MemoryJournal,
+    pages: usize,
+) -> Result<KeptHead<MemoryJournal>, Wrong> {
+    journal.sync()?;
+    match KeptHead::open(alloc, limits, journal, pages.max(1).min(4096)) {
+        Ok(opened) => Ok(opened.kept),
+        Err(_) => Err(Wrong::NotOpened),
+    }
+}
+
 /// Returns the status with which a head without limits on its size answers a body.
-pub(crate) fn answer(kept: &mut KeptHead<MemoryJournal>, body: &[u8]) -> u16 {
+pub(crate) fn answer<J: Journal>(kept: &mut KeptHead<J>, body: &[u8]) -> u16 {
     kept.admit(body, &Capacity::unlimited()).status()
 }

@@ -1,35 +1,11 @@
 //! Schedules of requests, each of which is crashed at each byte that it writes.
 
-use crate::plain::{Sample, answer, body_of, holds_part};
-use crate::segments::{PAGE, texts_of, torn_at};
+use crate::plain::{Sample, Wrong, answer, body_of, holds_part, open};
+use crate::segments::{texts_of, torn_at};
 use rw_head::Limits;
-use rw_journal::{Journal, JournalError, MemoryJournal};
-use rw_kept_head::KeptHead;
+use rw_journal::MemoryJournal;
 use std::alloc::{AllocError, Global};
 use std::test::Fail;
-
-/// Why a schedule is wrong.
-#[derive(Clone, Copy, Debug, PartialEq, Eq)]
-enum Wrong {
-    OutOfMemory,
-    NotOpened,
-    Status,
-    Held,
-    HeldAfterCrash,
-    HeldAtLast,
-}
-
-impl From<AllocError> for Wrong {
-    fn from(_: AllocError) -> Self {
-        Wrong::OutOfMemory
-    }
-}
-
-impl From<JournalError> for Wrong {
-    fn from(_: JournalError) -> Self {
-        Wrong::OutOfMemory
-    }
-}
 
 /// The next of a row of numbers.
 fn next(seed: &mut u64) -> u64 {
@@ -122,26 +98,31 @@ fn request_after(
     })
 }
 
-/// Opens a journal, looks at what is held, and answers the request once more.
+/// Where a schedule was: the number of the request, and after how many of its bytes it was crashed.
+#[derive(Clone, Copy, Debug, PartialEq, Eq)]
+struct Place {
+    request: usize,
+    cut: usize,
+}
+
+/// Opens a journal, looks at what is held, answers the request once more, and opens the journal
+/// again.
 fn reopen(
     alloc: Global,
-    mut journal: MemoryJournal,
+    journal: MemoryJournal,
     least: usize,
     request: &Request,
 ) -> Result<(), Wrong> {
     let limits = Limits::standard(alloc)?;
-    journal.sync()?;
-    let Ok(opened) = KeptHead::open(alloc, &limits, journal, 4096) else {
-        return Err(Wrong::NotOpened);
-    };
-    let mut kept = opened.kept;
+    let mut kept = open(alloc, &limits, journal, 4096)?;
     if !holds_part(alloc, kept.head(), &request.after, least) {
         return Err(Wrong::HeldAfterCrash);
     }
     if answer(&mut kept, &request.body) != request.status {
         return Err(Wrong::Status);
     }
-    if !holds_part(alloc, kept.head(), &request.after, request.after.len()) {
+    let again = open(alloc, &limits, kept.into_journal(), 4096)?;
+    if !holds_part(alloc, again.head(), &request.after, request.after.len()) {
         return Err(Wrong::HeldAtLast);
     }
     Ok(())
@@ -155,14 +136,17 @@ fn crash_each(
     texts: &[Vec<u8>],
     least: usize,
     request: &Request,
+    place: &mut Place,
 ) -> Result<(), Wrong> {
     let Some(last) = texts.last() else {
         return Err(Wrong::NotOpened);
     };
     for cut in 0..last.len() {
+        place.cut = cut;
         let junk = JUNK[cut % 3];
         reopen(alloc, torn_at(alloc, texts, cut, junk)?, least, request)?;
     }
+    place.cut = last.len();
     reopen(
         alloc,
         torn_at(alloc, texts, last.len(), &[])?,
@@ -172,19 +156,19 @@ fn crash_each(
 }
 
 /// Plays five requests, each in a life of its own, and crashes each of them.
-fn play(alloc: Global, seed: u64) -> Result<(), Wrong> {
+fn play(alloc: Global, seed: u64, place: &mut Place) -> Result<(), Wrong> {
     let limits = Limits::standard(alloc)?;
     let mut seed = seed;
     let mut clock = 1000;
     let mut all = Vec::new(alloc);
     let mut journal = MemoryJournal::new(alloc);
-    for _ in 0..5 {
-        let request = request_after(alloc, &mut seed, &all, &mut clock)?;
-        journal.sync()?;
-        let Ok(opened) = KeptHead::open(alloc, &limits, journal, 4096) else {
-            return Err(Wrong::NotOpened);
+    for number in 0..5 {
+        *place = Place {
+            request: number,
+            cut: 0,
         };
-        let mut kept = opened.kept;
+        let request = request_after(alloc, &mut seed, &all, &mut clock)?;
+        let mut kept = open(alloc, &limits, journal, 4096)?;
         if answer(&mut kept, &request.body) != request.status {
             return Err(Wrong::Status);
         }
@@ -193,17 +177,18 @@ fn play(alloc: Global, seed: u64) -> Result<(), Wrong> {
         }
         journal = kept.into_journal();
         let texts = texts_of(alloc, &mut journal)?;
-        crash_each(alloc, &texts, all.len(), &request)?;
+        crash_each(alloc, &texts, all.len(), &request, place)?;
         all = request.after;
     }
     Ok(())
 }
 
-/// The first schedule that is wrong.
-fn first_wrong(alloc: Global) -> Option<(u64, Wrong)> {
-    for seed in 0..20 {
-        if let Err(wrong) = play(alloc, seed) {
-            return Some((seed, wrong));
+/// Returns the number of the first schedule that is wrong, where, and why.
+fn first_wrong(alloc: Global) -> Option<(u64, Place, Wrong)> {
+    let mut place = Place { request: 0, cut: 0 };
+    for seed in 0..200 {
+        if let Err(wrong) = play(alloc, seed, &mut place) {
+            return Some((seed, place, wrong));
         }
     }
     None

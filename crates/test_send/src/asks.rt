@@ -10,31 +10,57 @@ use std::test::Fail;
 
 const REQUEST: &[u8] = b"POST / HTTP/1.1\r\n\r\n";
 
-/// A reply, and the status that is returned for it.
-type Row<'a> = (&'a [u8], Result<u16, NoReply>);
+/// A name, a reply, and the status that is returned for it.
+type Row<'a> = (&'static str, &'a [u8], Result<u16, NoReply>);
 
 static WHOLE: [Row<'static>; 7] = [
-    (b"HTTP/1.1 204 No Content\r\n\r\n", Ok(204)),
+    ("a success", b"HTTP/1.1 204 No Content\r\n\r\n", Ok(204)),
     (
+        "a busy receiver",
         b"HTTP/1.1 429 Too Many Requests\r\nContent-Length: 0\r\n\r\n",
         Ok(429),
     ),
     (
+        "a reply of 100 is passed over",
         b"HTTP/1.1 100 Continue\r\n\r\nHTTP/1.1 200 OK\r\nContent-Length: 2\r\n\r\nok",
         Ok(200),
     ),
-    (b"HTTP/1.1 204 No Content\r\n", Err(NoReply::Ended)),
-    (b"", Err(NoReply::Ended)),
-    (b"SMTP ready\r\n", Err(NoReply::Bad)),
-    (b"HTTP/1.1 099 Low\r\n\r\n", Err(NoReply::Bad)),
+    (
+        "a head without its end",
+        b"HTTP/1.1 204 No Content\r\n",
+        Err(NoReply::Ended),
+    ),
+    ("nothing", b"", Err(NoReply::Ended)),
+    ("no HTTP", b"SMTP ready\r\n", Err(NoReply::Bad)),
+    (
+        "a status below 100",
+        b"HTTP/1.1 099 Low\r\n\r\n",
+        Err(NoReply::Bad),
+    ),
 ];
 
 static HALF: [Row<'static>; 5] = [
-    (b"HTTP/1.1 413 Content Too Large\r\n\r\n", Ok(413)),
-    (b"HTTP/1.1 503 Service Unavailable\r\n\r\n", Ok(503)),
-    (b"HTTP/1.1 204 No Content\r\n\r\n", Err(NoReply::Device)),
-    (b"HTTP/1.1 204 No Content\r\n", Err(NoReply::Device)),
-    (b"SMTP ready\r\n", Err(NoReply::Device)),
+    (
+        "a refusal counts",
+        b"HTTP/1.1 413 Content Too Large\r\n\r\n",
+        Ok(413),
+    ),
+    (
+        "a busy receiver counts",
+        b"HTTP/1.1 503 Service Unavailable\r\n\r\n",
+        Ok(503),
+    ),
+    (
+        "a success does not count",
+        b"HTTP/1.1 204 No Content\r\n\r\n",
+        Err(NoReply::Device),
+    ),
+    (
+        "a head without its end",
+        b"HTTP/1.1 204 No Content\r\n",
+        Err(NoReply::Device),
+    ),
+    ("no HTTP", b"SMTP ready\r\n", Err(NoReply::Device)),
 ];
 
 /// Returns whether a reply has this answer, and this is written if there is this much room.
@@ -44,10 +70,10 @@ fn is_answered(
     room: usize,
     written: &[u8],
 ) -> Result<bool, AllocError> {
-    let mut reader = row.0;
+    let mut reader = row.1;
     let mut writer = Room::new(alloc, room)?;
     let answer = ask(alloc, &mut reader, &mut writer, REQUEST);
-    let is_so = match (answer, row.1) {
+    let is_so = match (answer, row.2) {
         (Ok(reply), Ok(status)) => reply.status.as_u16() == status,
         (Err(fault), Err(wanted)) => fault == wanted,
         _ => false,
@@ -60,10 +86,10 @@ fn wrong_reply(
     rows: &[Row<'_>],
     room: usize,
     written: &[u8],
-) -> Result<Option<usize>, AllocError> {
-    for (i, row) in rows.iter().enumerate() {
+) -> Result<Option<&'static str>, AllocError> {
+    for row in rows {
         if !is_answered(alloc, row, room, written)? {
-            return Ok(Some(i));
+            return Ok(Some(row.0));
         }
     }
     Ok(None)

@@ -380,7 +380,8 @@ fn a_body_over_the_limit_is_refused(rt: HostRuntime) -> Result<(), Fail> {
         rt.alloc(),
         &refused(Client::WritesFirst, &body, TOO_LARGE),
     )?;
-    assert!(rt; asks && writes);
+    assert!(rt; asks, "a client that reads at once");
+    assert!(rt; writes, "a client that writes all first");
     Ok(())
 }
 

@@ -7,7 +7,7 @@ use crate::receivers::Receivers;
 use crate::rows::none_is_wrong;
 use crate::shipped::settings_of;
 use http::StatusCode;
-use rw_log_folder::{Opened, SegmentFile, segment_files};
+use rw_log_folder::{FolderFault, Opened, SegmentFile, segment_files};
 use rw_metrics::SendCounters;
 use rw_send::{SendOptions, StopFlag, run_send};
 use rw_text::ToolFault;
@@ -37,10 +37,18 @@ fn are_read<R: Files<File = File> + Drop>(
     true
 }
 
+/// Returns the segments of a folder, or none if it cannot be listed.
+fn segments_in(rt: &HostRuntime, dir: &str) -> Vec<Opened<SegmentFile<HostRuntime>>> {
+    match segment_files(rt, dir, None) {
+        Ok(segments) => segments,
+        Err(_) => Vec::new(rt.alloc()),
+    }
+}
+
 /// Returns whether the segments of a folder hold this.
 fn holds(rt: &HostRuntime, dir: &str, wanted: &[u8]) -> Result<bool, AllocError> {
     let mut text = Vec::new(rt.alloc());
-    let segments = segment_files(rt, dir, None)?;
+    let segments = segments_in(rt, dir);
     Ok(are_read(rt.alloc(), segments, &mut text) && text.as_slice() == wanted)
 }
 
@@ -119,10 +127,11 @@ fn a_long_file_is_read_to_its_end(rt: HostRuntime) -> Result<(), Fail> {
 
 #[test]
 fn a_missing_folder_cannot_be_read(rt: HostRuntime) -> Result<(), Fail> {
-    let segments = segment_files(&rt, "/no such folder", None)?;
-    let is_one = segments.len() == 1;
-    let mut text = Vec::new(rt.alloc());
-    assert!(rt; !are_read(rt.alloc(), segments, &mut text) && is_one);
+    let is_refused = match segment_files(&rt, "/no such folder", None) {
+        Err(FolderFault::Unreadable) => true,
+        _ => false,
+    };
+    assert!(rt; is_refused);
     Ok(())
 }
 
@@ -164,7 +173,7 @@ fn send_listed<R: Threads + Wait + Clock + Copy + Send + 'static>(
     let counters = SendCounters::new(alloc)?;
     let stop = StopFlag::new(alloc)?;
     let settings = settings_of(alloc, b"")?;
-    let segments = segment_files(rt, dir.as_str(), None)?;
+    let segments = segments_in(rt, dir.as_str());
     have_changed(rt, dir, changes);
     let options = SendOptions {
         connect: ready(threads),
@@ -175,8 +184,9 @@ fn send_listed<R: Threads + Wait + Clock + Copy + Send + 'static>(
     Ok(run_send(threads, alloc, settings, segments, options, printed))
 }
 
-/// What happens to a folder of two segments once they are listed, the answer, and what is printed.
-type Row<'a> = (&'a [Change], Result<(), ToolFault>, &'a [u8]);
+/// A name, what happens to a folder of two segments once they are listed, the answer, and what is
+/// printed.
+type Row<'a> = (&'static str, &'a [Change], Result<(), ToolFault>, &'a [u8]);
 
 fn does<R: Threads + Wait + Clock + Copy + Send + 'static>(
     rt: &HostRuntime,
@@ -186,31 +196,33 @@ fn does<R: Threads + Wait + Clock + Copy + Send + 'static>(
     let dir = new_folder(rt, "rwship-what-is-gone-is-no-end")?;
     write_two(rt, dir.as_str())?;
     let mut printed = Room::new(rt.alloc(), 4096)?;
-    let answer = send_listed(rt, threads, dir.as_path(), row.0, &mut printed)?;
-    Ok(answer == row.1 && printed.as_slice() == row.2)
+    let answer = send_listed(rt, threads, dir.as_path(), row.1, &mut printed)?;
+    Ok(answer == row.2 && printed.as_slice() == row.3)
 }
 
 fn wrong_row<R: Threads + Wait + Clock + Copy + Send + 'static>(
     rt: &HostRuntime,
     threads: &R,
     rows: &[Row<'_>],
-) -> Result<Option<usize>, Fail> {
-    for (i, row) in rows.iter().enumerate() {
+) -> Result<Option<&'static str>, Fail> {
+    for row in rows {
         if !does(rt, threads, row)? {
-            return Ok(Some(i));
+            return Ok(Some(row.0));
         }
     }
     Ok(None)
 }
 
 static LISTED: [Row<'static>; 3] = [
-    (&[], Ok(()), b"filtered 0\nreport complete 2\n"),
+    ("nothing", &[], Ok(()), b"filtered 0\nreport complete 2\n"),
     (
+        "the second segment is gone",
         &[Goes("00000001")],
         Err(ToolFault::Device),
         b"filtered 0\nreport abandoned 1\n",
     ),
     (
+        "a folder in its place",
         &[Goes("00000001"), Dir("00000001")],
         Err(ToolFault::Device),
         b"filtered 0\nreport abandoned 1\n",

@@ -22,19 +22,23 @@ enum Happens<'a> {
     Gap(u64),
 }
 
-/// What happens, after how many looks it is to stop, by which request, in pieces of how many bytes;
-/// how the following ends, the segments that were read whole, the part of the next one, and how
-/// often it was flushed.
-type Row<'a> = (
-    &'a [Happens<'a>],
-    u32,
-    StopRequest,
-    usize,
-    Result<StopRequest, Option<u64>>,
-    &'a [&'a [u8]],
-    &'a [u8],
-    u64,
-);
+/// What happens to a log that is followed, and what is read of it.
+struct Row<'a> {
+    name: &'static str,
+    happens: &'a [Happens<'a>],
+    /// After how many looks it is to stop, by which request.
+    looks: u32,
+    request: StopRequest,
+    /// How many bytes a piece has at most.
+    piece: usize,
+    /// How the following ends.
+    ended: Result<StopRequest, Option<u64>>,
+    /// The segments that were read whole, and the part of the next one.
+    whole: &'a [&'a [u8]],
+    begun: &'a [u8],
+    /// How often it was flushed.
+    flushes: u64,
+}
 
 fn event_of(alloc: Global, happens: Happens<'_>) -> Result<Event, AllocError> {
     Ok(match happens {
@@ -70,8 +74,8 @@ fn followed<R: Wait>(
     requires { 0 < length buf.old }
 {
     let mut watch = Countdown {
-        looks: row.1,
-        request: row.2,
+        looks: row.looks,
+        request: row.request,
         flushes: true,
         reshards: false,
         said: StopRequest::Continue,
@@ -100,17 +104,17 @@ fn are_whole(kept: &Kept, wanted: &[&[u8]]) -> bool {
 /// Returns whether a row holds.
 fn does<R: Wait>(rt: &R, alloc: Global, row: &Row<'_>) -> Result<bool, AllocError> {
     let mut events = VecDeque::new(alloc);
-    put_events(alloc, &mut events, row.0)?;
+    put_events(alloc, &mut events, row.happens)?;
     let mut buf = [0u8; 8];
-    let length = row.3.clamp(1, 8);
+    let length = row.piece.clamp(1, 8);
     let mut log = Listed::new(alloc, events);
     let mut kept = Kept::new(alloc);
     let ended = followed(rt, &mut log, &mut kept, row, &mut buf[..length])?;
     Ok(
-        ended == row.4
-            && are_whole(&kept, row.5)
-            && kept.begun.as_slice() == row.6
-            && kept.flushes == row.7,
+        ended == row.ended
+            && are_whole(&kept, row.whole)
+            && kept.begun.as_slice() == row.begun
+            && kept.flushes == row.flushes,
     )
 }
 
@@ -118,10 +122,10 @@ fn wrong_row<R: Wait>(
     rt: &R,
     alloc: Global,
     rows: &[Row<'_>],
-) -> Result<Option<usize>, AllocError> {
-    for (i, row) in rows.iter().enumerate() {
+) -> Result<Option<&'static str>, AllocError> {
+    for row in rows {
         if !does(rt, alloc, row)? {
-            return Ok(Some(i));
+            return Ok(Some(row.name));
         }
     }
     Ok(None)
@@ -130,96 +134,105 @@ fn wrong_row<R: Wait>(
 const FINISHED: Result<StopRequest, Option<u64>> = Ok(StopRequest::Finish);
 
 static GROWING: [Row<'static>; 9] = [
-    // nothing
-    (&[], 3, StopRequest::Finish, 8, FINISHED, &[], b"", 0),
-    // bytes
-    (
-        &[More(b"ab"), Quiet, Quiet, More(b"c")],
-        4,
-        StopRequest::Finish,
-        8,
-        FINISHED,
-        &[],
-        b"abc",
-        2,
-    ),
-    // more bytes than a piece has
-    (
-        &[More(b"abcde")],
-        1,
-        StopRequest::Finish,
-        2,
-        FINISHED,
-        &[],
-        b"abcde",
-        3,
-    ),
-    // a segment
-    (
-        &[More(b"ab"), Quiet, Next(b"cd")],
-        9,
-        StopRequest::Finish,
-        8,
-        FINISHED,
-        &[b"ab"],
-        b"cd",
-        2,
-    ),
-    // the last bytes of a segment come with the next one, after the look that found nothing left
-    (
-        &[More(b"ab"), Quiet, Turn(b"c", b"d")],
-        9,
-        StopRequest::Finish,
-        8,
-        FINISHED,
-        &[b"abc"],
-        b"d",
-        3,
-    ),
-    // empty segments
-    (
-        &[Next(b""), Next(b""), Next(b"a")],
-        9,
-        StopRequest::Finish,
-        8,
-        FINISHED,
-        &[b"", b"", b""],
-        b"a",
-        1,
-    ),
-    // two at once
-    (
-        &[More(b"a"), Turn(b"b", b"c"), Next(b"d")],
-        20,
-        StopRequest::Finish,
-        8,
-        FINISHED,
-        &[b"ab", b"c"],
-        b"d",
-        4,
-    ),
-    // one is missing
-    (
-        &[More(b"a"), Quiet, Gap(7)],
-        9,
-        StopRequest::Finish,
-        8,
-        Err(Some(7)),
-        &[],
-        b"a",
-        1,
-    ),
-    // one is missing after the next one
-    (
-        &[More(b"a"), Next(b"b"), Gap(9)],
-        9,
-        StopRequest::Finish,
-        8,
-        Err(Some(9)),
-        &[b"a"],
-        b"b",
-        2,
-    ),
+    Row {
+        name: "nothing",
+        happens: &[],
+        looks: 3,
+        request: StopRequest::Finish,
+        piece: 8,
+        ended: FINISHED,
+        whole: &[],
+        begun: b"",
+        flushes: 0,
+    },
+    Row {
+        name: "bytes",
+        happens: &[More(b"ab"), Quiet, Quiet, More(b"c")],
+        looks: 4,
+        request: StopRequest::Finish,
+        piece: 8,
+        ended: FINISHED,
+        whole: &[],
+        begun: b"abc",
+        flushes: 2,
+    },
+    Row {
+        name: "more bytes than a piece has",
+        happens: &[More(b"abcde")],
+        looks: 1,
+        request: StopRequest::Finish,
+        piece: 2,
+        ended: FINISHED,
+        whole: &[],
+        begun: b"abcde",
+        flushes: 3,
+    },
+    Row {
+        name: "a segment",
+        happens: &[More(b"ab"), Quiet, Next(b"cd")],
+        looks: 9,
+        request: StopRequest::Finish,
+        piece: 8,
+        ended: FINISHED,
+        whole: &[b"ab"],
+        begun: b"cd",
+        flushes: 2,
+    },
+    Row {
+        name: "the last bytes of a segment come with the next one",
+        happens: &[More(b"ab"), Quiet, Turn(b"c", b"d")],
+        looks: 9,
+        request: StopRequest::Finish,
+        piece: 8,
+        ended: FINISHED,
+        whole: &[b"abc"],
+        begun: b"d",
+        flushes: 3,
+    },
+    Row {
+        name: "empty segments",
+        happens: &[Next(b""), Next(b""), Next(b"a")],
+        looks: 9,
+        request: StopRequest::Finish,
+        piece: 8,
+        ended: FINISHED,
+        whole: &[b"", b"", b""],
+        begun: b"a",
+        flushes: 1,
+    },
+    Row {
+        name: "two segments at once",
+        happens: &[More(b"a"), Turn(b"b", b"c"), Next(b"d")],
+        looks: 20,
+        request: StopRequest::Finish,
+        piece: 8,
+        ended: FINISHED,
+        whole: &[b"ab", b"c"],
+        begun: b"d",
+        flushes: 4,
+    },
+    Row {
+        name: "a segment is missing",
+        happens: &[More(b"a"), Quiet, Gap(7)],
+        looks: 9,
+        request: StopRequest::Finish,
+        piece: 8,
+        ended: Err(Some(7)),
+        whole: &[],
+        begun: b"a",
+        flushes: 1,
+    },
+    Row {
+        name: "a segment is missing after the next one",
+        happens: &[More(b"a"), Next(b"b"), Gap(9)],
+        looks: 9,
+        request: StopRequest::Finish,
+        piece: 8,
+        ended: Err(Some(9)),
+        whole: &[b"a"],
+        begun: b"b",
+        flushes: 2,
+    },
 ];
 
 #[test]
@@ -229,50 +242,50 @@ fn logs_grow(rt: HostRuntime) -> Result<(), Fail> {
 }
 
 static STOPPED: [Row<'static>; 4] = [
-    // the request comes, and then some bytes and a segment that were there
-    (
-        &[Quiet, Quiet, More(b"ab"), Turn(b"c", b"d")],
-        1,
-        StopRequest::Finish,
-        8,
-        FINISHED,
-        &[b"abc"],
-        b"d",
-        3,
-    ),
-    // before the first look
-    (
-        &[More(b"ab")],
-        0,
-        StopRequest::Finish,
-        1,
-        FINISHED,
-        &[],
-        b"ab",
-        2,
-    ),
-    // at once
-    (
-        &[More(b"ab"), More(b"c")],
-        1,
-        StopRequest::Abort,
-        8,
-        Ok(StopRequest::Abort),
-        &[],
-        b"ab",
-        1,
-    ),
-    // a segment is missing, and the request has come
-    (
-        &[More(b"ab"), Gap(3)],
-        0,
-        StopRequest::Finish,
-        8,
-        Err(Some(3)),
-        &[],
-        b"ab",
-        1,
-    ),
+    Row {
+        name: "what was there is read after the request",
+        happens: &[Quiet, Quiet, More(b"ab"), Turn(b"c", b"d")],
+        looks: 1,
+        request: StopRequest::Finish,
+        piece: 8,
+        ended: FINISHED,
+        whole: &[b"abc"],
+        begun: b"d",
+        flushes: 3,
+    },
+    Row {
+        name: "a request before the first look",
+        happens: &[More(b"ab")],
+        looks: 0,
+        request: StopRequest::Finish,
+        piece: 1,
+        ended: FINISHED,
+        whole: &[],
+        begun: b"ab",
+        flushes: 2,
+    },
+    Row {
+        name: "a request to end at once",
+        happens: &[More(b"ab"), More(b"c")],
+        looks: 1,
+        request: StopRequest::Abort,
+        piece: 8,
+        ended: Ok(StopRequest::Abort),
+        whole: &[],
+        begun: b"ab",
+        flushes: 1,
+    },
+    Row {
+        name: "a segment is missing, and the request has come",
+        happens: &[More(b"ab"), Gap(3)],
+        looks: 0,
+        request: StopRequest::Finish,
+        piece: 8,
+        ended: Err(Some(3)),
+        whole: &[],
+        begun: b"ab",
+        flushes: 1,
+    },
 ];
 
 #[test]

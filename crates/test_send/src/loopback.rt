@@ -18,9 +18,9 @@ use std::thread;
 use std::thread::Threads;
 use std::time::Clock;
 
-/// The settings of both, the connections that the sender makes, the log, and what the sender and
-/// the receiver print.
-type Row<'a> = (&'a [u8], u64, &'a [u8], &'a [u8], &'a [u8]);
+/// A name, the settings of both, the connections that the sender makes, the log, and what the
+/// sender and the receiver print.
+type Row<'a> = (&'static str, &'a [u8], u64, &'a [u8], &'a [u8], &'a [u8]);
 
 const COMPLETE: &[u8] = b"filtered 0\nreport complete 2\n";
 
@@ -30,9 +30,17 @@ const HELD: &[u8] = b"received {__name__=\"up\"} 1000=1\n";
 const NOT_SENT: &[u8] = b"dropped 2 labels 3\ndropped 3 labels 3\nfiltered 0\nreport complete 4\n";
 
 static ROWS: [Row<'static>; 9] = [
-    (b"", 1, UP, COMPLETE, HELD),
-    (b"[receive]\nbusy_first = 1\n", 2, UP, COMPLETE, HELD),
+    ("one sample", b"", 1, UP, COMPLETE, HELD),
     (
+        "a receiver that is busy at first",
+        b"[receive]\nbusy_first = 1\n",
+        2,
+        UP,
+        COMPLETE,
+        HELD,
+    ),
+    (
+        "samples that do not rise",
         b"",
         1,
         FALLS,
@@ -40,6 +48,7 @@ static ROWS: [Row<'static>; 9] = [
         b"received {__name__=\"up\"} 10=1 20=3\n",
     ),
     (
+        "two references of one series",
         b"[send]\nshards = 3\n",
         1,
         BEHIND,
@@ -47,6 +56,7 @@ static ROWS: [Row<'static>; 9] = [
         b"received {__name__=\"up\"} 20=1\n",
     ),
     (
+        "both take any name",
         b"[send]\nnames = 'utf8'\n[receive]\nnames = 'utf8'\n",
         1,
         NAMES,
@@ -54,15 +64,24 @@ static ROWS: [Row<'static>; 9] = [
         b"received {\"9x\"=\"1\"} 10=2\nreceived {__name__=\"http.rate\",\"s\xc3\xa4ge\"=\"1\"} 10=1\n",
     ),
     (
+        "the sender alone takes any name",
         b"[send]\nnames = 'utf8'\n",
         1,
         NAMES,
         b"dropped 2 status 400\ndropped 3 status 400\nfiltered 0\nreport complete 4\n",
         b"",
     ),
-    (b"", 0, NAMES, NOT_SENT, b""),
-    (b"[receive]\nnames = 'utf8'\n", 0, NAMES, NOT_SENT, b""),
+    ("legacy names by default", b"", 0, NAMES, NOT_SENT, b""),
     (
+        "the receiver alone takes any name",
+        b"[receive]\nnames = 'utf8'\n",
+        0,
+        NAMES,
+        NOT_SENT,
+        b"",
+    ),
+    (
+        "both take legacy names",
         b"[send]\nnames = 'legacy'\n[receive]\nnames = 'legacy'\n",
         0,
         NAMES,
@@ -92,7 +111,7 @@ fn receives<R: Threads + Wait + Clock + Sync>(
     listener: TcpListener,
     held: &mut Room,
 ) -> bool {
-    let Some(most) = Bounded::try_new(row.1.max(1)) else {
+    let Some(most) = Bounded::try_new(row.2.max(1)) else {
         return false;
     };
     let Ok(counters) = ReceiveCounters::new(alloc) else {
@@ -105,11 +124,11 @@ fn receives<R: Threads + Wait + Clock + Sync>(
         capacity: Capacity::unlimited(),
         counters: &counters,
     };
-    let has_ended = match read_settings(alloc, row.0) {
+    let has_ended = match read_settings(alloc, row.1) {
         Ok(settings) => run_receive(rt, alloc, &settings, service, listener, held).is_ok(),
         Err(_) => false,
     };
-    has_ended && holds_as_printed(alloc, &counters, row.4)
+    has_ended && holds_as_printed(alloc, &counters, row.5)
 }
 
 /// Returns whether a sender ships a log and ends well.
@@ -136,7 +155,7 @@ fn sends<R: Threads + Wait + Clock + Copy + Send + 'static, C: Connect + Drop>(
         max_batch_bytes: None,
         stop,
     };
-    match read_settings(alloc, row.0) {
+    match read_settings(alloc, row.1) {
         Ok(settings) => run_send(rt, alloc, settings, segments, options, printed).is_ok(),
         Err(_) => false,
     }
@@ -145,7 +164,7 @@ fn sends<R: Threads + Wait + Clock + Copy + Send + 'static, C: Connect + Drop>(
 /// Returns whether the sender made a connection, or another client can connect after it: a receiver
 /// ends after one connection.
 fn passes_by<N: Net<Stream = TcpStream>>(net: &N, row: &Row<'_>, address: SocketAddr) -> bool {
-    row.1 > 0 || TcpStream::connect(net, address).is_ok()
+    row.2 > 0 || TcpStream::connect(net, address).is_ok()
 }
 
 /// A receiver that is busy for the first connection takes the sample of the second one. Samples
@@ -154,8 +173,9 @@ fn passes_by<N: Net<Stream = TcpStream>>(net: &N, row: &Row<'_>, address: Socket
 #[test]
 fn what_is_sent_is_received(rt: HostRuntime) -> Result<(), Fail> {
     let alloc = rt.alloc();
-    for (i, row) in ROWS.iter().enumerate() {
-        let log = segment(alloc, row.2)?;
+    for row in &ROWS {
+        let name = row.0;
+        let log = segment(alloc, row.3)?;
         let mut printed = Room::new(alloc, 4096)?;
         let mut held = Room::new(alloc, 4096)?;
         let listener = TcpListener::bind(&rt, "127.0.0.1:0")?;
@@ -166,8 +186,8 @@ fn what_is_sent_is_received(rt: HostRuntime) -> Result<(), Fail> {
             || receives(&rt, alloc, row, listener, &mut held),
             || sends(&rt, alloc, row, &log, connect, &mut printed) & passes_by(&rt, row, address),
         );
-        let is_right = printed.as_slice() == row.3 && held.as_slice() == row.4;
-        assert!(rt; received && sent && is_right, "row {i}");
+        let is_right = printed.as_slice() == row.4 && held.as_slice() == row.5;
+        assert!(rt; received && sent && is_right, "{name}");
     }
     Ok(())
 }

@@ -70,8 +70,10 @@ const BUSY: Answers = Answers {
     epochs: 1,
 };
 
-/// The settings, the log, its receivers, how much may be printed, the answer, and what is printed.
+/// A name, the settings, the log, its receivers, how much may be printed, the answer, and what is
+/// printed.
 type Row<'a> = (
+    &'static str,
     &'a [u8],
     &'a [Part<'a>],
     Answers,
@@ -135,14 +137,14 @@ fn shipped<R: Threads + Wait + Clock + Copy + Send + 'static>(
     printed: &mut Room,
 ) -> Result<Result<(), ToolFault>, AllocError> {
     let mut readers = Vec::new(alloc);
-    put_readers(alloc, &mut readers, row.1)?;
+    put_readers(alloc, &mut readers, row.2)?;
     let options = SendOptions {
-        connect: receivers_of(rt, row.2)?,
+        connect: receivers_of(rt, row.3)?,
         counters,
         max_batch_bytes: None,
         stop: StopFlag::new(alloc)?,
     };
-    match read_settings(alloc, row.0) {
+    match read_settings(alloc, row.1) {
         Ok(settings) => Ok(run_send(rt, alloc, settings, readers, options, printed)),
         Err(_) => Err(AllocError),
     }
@@ -154,21 +156,21 @@ fn does<R: Threads + Wait + Clock + Copy + Send + 'static>(
     alloc: Global,
     row: &Row<'_>,
 ) -> Result<bool, AllocError> {
-    let mut printed = Room::new(alloc, row.3)?;
+    let mut printed = Room::new(alloc, row.4)?;
     let counters = SendCounters::new(alloc)?;
     let answer = shipped(rt, alloc, row, &counters, &mut printed)?;
-    let is_counted = tells_as_printed(alloc, &counters, row.5);
-    Ok(answer == row.4 && printed.as_slice() == row.5 && is_counted)
+    let is_counted = tells_as_printed(alloc, &counters, row.6);
+    Ok(answer == row.5 && printed.as_slice() == row.6 && is_counted)
 }
 
 fn wrong_row<R: Threads + Wait + Clock + Copy + Send + 'static>(
     rt: &R,
     alloc: Global,
     rows: &[Row<'_>],
-) -> Result<Option<usize>, AllocError> {
-    for (i, row) in rows.iter().enumerate() {
+) -> Result<Option<&'static str>, AllocError> {
+    for row in rows {
         if !does(rt, alloc, row)? {
-            return Ok(Some(i));
+            return Ok(Some(row.0));
         }
     }
     Ok(None)
@@ -176,6 +178,7 @@ fn wrong_row<R: Threads + Wait + Clock + Copy + Send + 'static>(
 
 static ONE_SEGMENT: [Row<'static>; 11] = [
     (
+        "one sample",
         b"",
         &[Whole(UP)],
         TAKEN,
@@ -184,6 +187,7 @@ static ONE_SEGMENT: [Row<'static>; 11] = [
         b"filtered 0\nreport complete 2\n",
     ),
     (
+        "an empty segment",
         b"",
         &[Whole(b"")],
         TAKEN,
@@ -192,6 +196,7 @@ static ONE_SEGMENT: [Row<'static>; 11] = [
         b"filtered 0\nreport complete 0\n",
     ),
     (
+        "a refused batch",
         b"",
         &[Whole(UP)],
         REFUSED,
@@ -200,6 +205,7 @@ static ONE_SEGMENT: [Row<'static>; 11] = [
         b"dropped 1 status 400\nfiltered 0\nreport complete 2\n",
     ),
     (
+        "a sample without a series",
         b"",
         &[Whole(b"sample 7 10 1\n")],
         TAKEN,
@@ -208,6 +214,7 @@ static ONE_SEGMENT: [Row<'static>; 11] = [
         b"dropped 0 noseries\nfiltered 0\nreport complete 1\n",
     ),
     (
+        "a name that is not sent",
         b"",
         &[Whole(b"series 5 {__name__=\"9\"}\nsample 5 10 1\n")],
         TAKEN,
@@ -216,6 +223,7 @@ static ONE_SEGMENT: [Row<'static>; 11] = [
         b"dropped 1 labels 3\nfiltered 0\nreport complete 2\n",
     ),
     (
+        "a rule drops the series",
         b"[[rule]]\naction = \"drop\"\nsource_labels = [\"__name__\"]\nregex = \"up\"\n",
         &[Whole(UP)],
         TAKEN,
@@ -224,6 +232,7 @@ static ONE_SEGMENT: [Row<'static>; 11] = [
         b"filtered 1\nreport complete 2\n",
     ),
     (
+        "two shards are refused",
         b"[send]\nshards = 2\n",
         &[Whole(
             b"series 1 {__name__=\"a\"}\nseries 2 {__name__=\"b\"}\nsample 2 10 1\nsample 1 10 1\nsample 3 10 1\nsample 2 20 1\nsample 1 20 1\n",
@@ -234,6 +243,7 @@ static ONE_SEGMENT: [Row<'static>; 11] = [
         b"dropped 2 status 400\ndropped 3 status 400\ndropped 4 noseries\ndropped 5 status 400\ndropped 6 status 400\nfiltered 0\nreport complete 7\n",
     ),
     (
+        "samples that do not rise",
         b"",
         &[Whole(FALLS)],
         TAKEN,
@@ -242,6 +252,7 @@ static ONE_SEGMENT: [Row<'static>; 11] = [
         b"dropped 2 notrising\ndropped 3 notrising\nfiltered 0\nreport complete 5\n",
     ),
     (
+        "two references of one series",
         b"[send]\nshards = 3\n",
         &[Whole(BEHIND)],
         TAKEN,
@@ -252,6 +263,7 @@ static ONE_SEGMENT: [Row<'static>; 11] = [
     // a batch of 2,000 samples, whose labels in each of them would take more than 64 KiB, makes one
     // request
     (
+        "2,000 samples are one request",
         b"",
         &[Many(2_000)],
         TAKEN_ONCE,
@@ -259,8 +271,8 @@ static ONE_SEGMENT: [Row<'static>; 11] = [
         Ok(()),
         b"filtered 0\nreport complete 2001\n",
     ),
-    // samples go each way
     (
+        "samples go each way",
         b"[send]\nshards = 2\n[[rule]]\naction = \"drop\"\nsource_labels = [\"__name__\"]\nregex = \"c\"\n",
         &[Whole(
             b"series 1 {__name__=\"a\"}\nseries 2 {__name__=\"b\"}\nseries 3 {__name__=\"c\"}\nseries 4 {__name__=\"9\"}\nsample 1 10 1\nsample 2 10 1\nsample 3 10 1\nsample 4 10 1\nsample 5 10 1\nsample 2 10 2\nsample 3 20 1\nsample 2 20 1\n",
@@ -282,6 +294,7 @@ const NEXT: &[u8] = b"sample 1 2000 2\n";
 
 static SEVERAL_SEGMENTS: [Row<'static>; 5] = [
     (
+        "no segment",
         b"",
         &[],
         TAKEN,
@@ -290,6 +303,7 @@ static SEVERAL_SEGMENTS: [Row<'static>; 5] = [
         b"filtered 0\nreport complete 0\n",
     ),
     (
+        "a series of an earlier segment",
         b"",
         &[Whole(UP), Whole(NEXT)],
         TAKEN,
@@ -298,6 +312,7 @@ static SEVERAL_SEGMENTS: [Row<'static>; 5] = [
         b"filtered 0\nreport complete 3\n",
     ),
     (
+        "a changed byte ends the log",
         b"",
         &[Changed(UP), Whole(NEXT)],
         TAKEN,
@@ -306,6 +321,7 @@ static SEVERAL_SEGMENTS: [Row<'static>; 5] = [
         b"filtered 0\nreport damaged 3\n",
     ),
     (
+        "the last segment is cut",
         b"",
         &[Cut(UP)],
         TAKEN,
@@ -314,6 +330,7 @@ static SEVERAL_SEGMENTS: [Row<'static>; 5] = [
         b"filtered 0\nreport complete 1\n",
     ),
     (
+        "an earlier segment is cut",
         b"",
         &[Cut(UP), Cut(UP)],
         TAKEN,
@@ -339,8 +356,17 @@ const NO_RECEIVER: Answers = Answers {
 };
 
 static NOT_PRINTED: [Row<'static>; 2] = [
-    (b"", &[Whole(UP)], TAKEN, 20, Err(ToolFault::Device), b""),
     (
+        "no room for the report",
+        b"",
+        &[Whole(UP)],
+        TAKEN,
+        20,
+        Err(ToolFault::Device),
+        b"",
+    ),
+    (
+        "no memory for the first receiver",
         b"",
         &[Whole(UP)],
         NO_RECEIVER,
@@ -359,6 +385,7 @@ fn nothing_is_printed(rt: HostRuntime) -> Result<(), Fail> {
 
 static FAILING: [Row<'static>; 3] = [
     (
+        "it fails at once",
         b"",
         &[Fails(b"")],
         BUSY,
@@ -367,6 +394,7 @@ static FAILING: [Row<'static>; 3] = [
         b"filtered 0\nreport abandoned 0\n",
     ),
     (
+        "it fails after a sample",
         b"",
         &[Fails(UP)],
         BUSY,
@@ -375,6 +403,7 @@ static FAILING: [Row<'static>; 3] = [
         b"filtered 0\nabandoned 1\nreport abandoned 2\n",
     ),
     (
+        "two shards with full queues",
         b"[send]\nshards = 2\ncapacity = 1\nbatch = 1\n",
         &[Fails(
             b"series 1 {__name__=\"a\"}\nseries 2 {__name__=\"b\"}\nsample 1 10 1\nsample 2 10 1\nsample 1 20 1\nsample 2 20 1\n",
@@ -420,6 +449,7 @@ const SLOW_FOR_TWO: Answers = Answers {
 
 static SHARDS: [Row<'static>; 5] = [
     (
+        "no memory for more shards",
         NARROW,
         &[Whole(FOUR), Whole(ONE_MORE)],
         SLOW,
@@ -428,6 +458,7 @@ static SHARDS: [Row<'static>; 5] = [
         b"filtered 0\nreport abandoned 5\n",
     ),
     (
+        "more shards take over",
         NARROW,
         &[Whole(FOUR), Whole(ONE_MORE)],
         SLOW_FOR_TWO,
@@ -436,6 +467,7 @@ static SHARDS: [Row<'static>; 5] = [
         b"filtered 0\nreport complete 6\n",
     ),
     (
+        "a receiver that keeps up",
         NARROW,
         &[Whole(FOUR), Whole(ONE_MORE)],
         TAKEN,
@@ -444,6 +476,7 @@ static SHARDS: [Row<'static>; 5] = [
         b"filtered 0\nreport complete 6\n",
     ),
     (
+        "a single segment",
         NARROW,
         &[Whole(FOUR)],
         SLOW,
@@ -452,6 +485,7 @@ static SHARDS: [Row<'static>; 5] = [
         b"filtered 0\nreport complete 5\n",
     ),
     (
+        "a fixed number of shards",
         FIXED,
         &[Whole(FOUR), Whole(ONE_MORE)],
         SLOW,

@@ -14,32 +14,37 @@ use std::test::Fail;
 use std::thread::Threads;
 use std::time::Clock;
 
-/// A request, and how its reply begins.
-type Row<'a> = (&'a [u8], &'a [u8]);
+/// A name, a request, and how its reply begins.
+type Row<'a> = (&'static str, &'a [u8], &'a [u8]);
 
 static ASKED: [Row<'static>; 7] = [
     (
+        "the metrics",
         b"GET /metrics HTTP/1.1\r\nHost: a\r\n\r\n",
         b"HTTP/1.1 200 OK\r\nContent-Type: text/plain; version=0.0.4\r\n",
     ),
     (
+        "the page",
         b"GET / HTTP/1.1\r\n\r\n",
         b"HTTP/1.1 200 OK\r\nContent-Type: text/html; charset=utf-8\r\n",
     ),
     (
+        "another path",
         b"GET /metric HTTP/1.1\r\n\r\n",
         b"HTTP/1.1 404 Not Found\r\n",
     ),
     (
+        "another method at /",
         b"POST / HTTP/1.1\r\n\r\n",
         b"HTTP/1.1 405 Method Not Allowed\r\n",
     ),
     (
+        "another method at /metrics",
         b"POST /metrics HTTP/1.1\r\n\r\n",
         b"HTTP/1.1 405 Method Not Allowed\r\n",
     ),
-    (b"EHLO\r\n\r\n", b"HTTP/1.1 400 Bad Request\r\n"),
-    (b"GET /metrics", b""),
+    ("no HTTP", b"EHLO\r\n\r\n", b"HTTP/1.1 400 Bad Request\r\n"),
+    ("half a request", b"GET /metrics", b""),
 ];
 
 const PAGE: &[u8] = b"# HELP rwship_receive_connections Open connections.
@@ -84,18 +89,19 @@ fn reply_to<N: Net<Stream = TcpStream>>(
     Ok(reply)
 }
 
-/// Returns the first request that the page of a receiver that has done nothing answers differently.
+/// Returns the name of the first request that the page of a receiver that has done nothing answers
+/// differently.
 fn wrong_reply<
     N: Net<Stream = TcpStream, Listener = TcpListener> + Threads + Clock + Copy + Send + 'static,
->(rt: &N, alloc: Global) -> io::Result<Option<usize>> {
+>(rt: &N, alloc: Global) -> io::Result<Option<&'static str>> {
     let listener = TcpListener::bind(rt, "127.0.0.1:0")?;
     let address = listener.local_addr()?;
     let counters = Arc::new(alloc, ReceiveCounters::new(alloc)?)?;
     serve_metrics(rt, *rt, alloc, listener, Counters::Receive(counters))?;
-    for (i, row) in ASKED.iter().enumerate() {
-        let reply = reply_to(rt, alloc, address, row.0)?;
-        if !reply.starts_with(row.1) || reply.is_empty() != row.1.is_empty() {
-            return Ok(Some(i));
+    for row in &ASKED {
+        let reply = reply_to(rt, alloc, address, row.1)?;
+        if !reply.starts_with(row.2) || reply.is_empty() != row.2.is_empty() {
+            return Ok(Some(row.0));
         }
     }
     Ok(None)

@@ -2,7 +2,7 @@
 
 use std::process::Abort;
 
-/// Stops at the first row of a table that is wrong, if there is one.
-pub(crate) fn none_is_wrong(rt: &impl Abort, row: Option<usize>) {
+/// Stops at the first row of a table that is wrong, by its name, if there is one.
+pub(crate) fn none_is_wrong(rt: &impl Abort, row: Option<&'static str>) {
     assert_eq!(rt; row, None);
 }

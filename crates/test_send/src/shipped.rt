@@ -129,9 +129,10 @@ fn receivers_of<R: Copy>(clock: &R, status: StatusCode) -> Receivers<R> {
     }
 }
 
-/// What happens, after how many looks it is to stop, by which request; the answer, and what is
-/// printed.
+/// A name, what happens, after how many looks it is to stop, by which request; the answer, and what
+/// is printed.
 type Row<'a> = (
+    &'static str,
     &'a [Part<'a>],
     u32,
     StopRequest,
@@ -150,8 +151,8 @@ fn does<R: Threads + Wait + Clock + Copy + Send + 'static>(
     let settings = settings_of(alloc, b"")?;
     let mut printed = Room::new(alloc, 4096)?;
     let mut watch = Countdown {
-        looks: row.1,
-        request: row.2,
+        looks: row.2,
+        request: row.3,
         flushes: false,
         reshards,
         said: StopRequest::Continue,
@@ -168,23 +169,23 @@ fn does<R: Threads + Wait + Clock + Copy + Send + 'static>(
         rt,
         alloc,
         settings,
-        row.0,
+        row.1,
         options,
         &mut watch,
         &mut printed,
     )?;
-    let is_counted = tells_as_printed(alloc, &counters, row.4);
-    Ok(answer == row.3 && printed.as_slice() == row.4 && is_counted)
+    let is_counted = tells_as_printed(alloc, &counters, row.5);
+    Ok(answer == row.4 && printed.as_slice() == row.5 && is_counted)
 }
 
 fn wrong_row<R: Threads + Wait + Clock + Copy + Send + 'static>(
     rt: &R,
     alloc: Global,
     rows: &[Row<'_>],
-) -> Result<Option<usize>, AllocError> {
-    for (i, row) in rows.iter().enumerate() {
+) -> Result<Option<&'static str>, AllocError> {
+    for row in rows {
         if !does(rt, alloc, row, false)? || !does(rt, alloc, row, true)? {
-            return Ok(Some(i));
+            return Ok(Some(row.0));
         }
     }
     Ok(None)
@@ -192,6 +193,7 @@ fn wrong_row<R: Threads + Wait + Clock + Copy + Send + 'static>(
 
 static SHIPPED: [Row<'static>; 10] = [
     (
+        "nothing",
         &[],
         2,
         StopRequest::Finish,
@@ -199,70 +201,71 @@ static SHIPPED: [Row<'static>; 10] = [
         b"filtered 0\nreport complete 0\n",
     ),
     (
+        "one sample",
         &[More(UP)],
         5,
         StopRequest::Finish,
         Ok(()),
         b"filtered 0\nreport complete 2\n",
     ),
-    // two pieces make one request
     (
+        "two pieces make one request",
         &[More(UP), Quiet, More(LATER)],
         5,
         StopRequest::Finish,
         Ok(()),
         b"filtered 0\nreport complete 3\n",
     ),
-    // the request has come before the log was looked at
     (
+        "stopped before the first look",
         &[More(UP)],
         0,
         StopRequest::Finish,
         Ok(()),
         b"filtered 0\nreport complete 2\n",
     ),
-    // a record comes in two parts
     (
+        "a record comes in two parts",
         &[Cut(UP, 34), Quiet, Quiet, Rest(UP, 34)],
         5,
         StopRequest::Finish,
         Ok(()),
         b"filtered 0\nreport complete 2\n",
     ),
-    // a segment at a page's end
     (
+        "a segment ends at a page's end",
         &[Padded(UP), Quiet, Next(LATER)],
         5,
         StopRequest::Finish,
         Ok(()),
         b"filtered 0\nreport complete 3\n",
     ),
-    // and within a page
     (
+        "a segment ends within a page",
         &[More(UP), Quiet, Next(LATER)],
         5,
         StopRequest::Finish,
         Ok(()),
         b"filtered 0\nreport complete 3\n",
     ),
-    // within a record
     (
+        "a segment ends within a record",
         &[Cut(UP, 34), Quiet, Next(LATER)],
         9,
         StopRequest::Finish,
         Err(FollowFault::Tool(ToolFault::Log(TailFault::TornSegment))),
         b"filtered 0\nreport damaged 8\n",
     ),
-    // a segment is missing
     (
+        "a segment is missing",
         &[More(UP), Quiet, Gap(3)],
         9,
         StopRequest::Finish,
         Err(FollowFault::Missing(3)),
         b"filtered 0\nabandoned 1\nreport abandoned 2\n",
     ),
-    // at once
     (
+        "stopped at once",
         &[More(UP)],
         3,
         StopRequest::Abort,

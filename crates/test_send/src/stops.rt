@@ -1,5 +1,6 @@
 //! What sets a stop signal.
 
+use crate::rows::none_is_wrong;
 use rw_follow::{StopRequest, StopSignal, watch_file, watch_input};
 use std::alloc::Global;
 use std::fs::Files;
@@ -15,20 +16,30 @@ fn request_after_input(alloc: Global, text: &[u8]) -> StopRequest {
     signal.request()
 }
 
-/// Returns the index of the first input after which something else is asked for.
-fn wrong_input(alloc: Global) -> Option<usize> {
-    INPUTS.iter().position(|(text, request)| request_after_input(alloc, text) != *request)
+/// Returns the name of the first input after which something else is asked for.
+fn wrong_input(alloc: Global) -> Option<&'static str> {
+    for row in &INPUTS {
+        if request_after_input(alloc, row.1) != row.2 {
+            return Some(row.0);
+        }
+    }
+    None
 }
 
 /// Only a whole line asks to end at once, and its end is a line feed.
-static INPUTS: [(&[u8], StopRequest); 7] = [
-    (b"", StopRequest::Finish),
-    (b"hard", StopRequest::Finish),
-    (b"hard\n", StopRequest::Abort),
-    (b"soft\nhard\nsoft\n", StopRequest::Abort),
-    (b"hardly\n hard\nHARD\n", StopRequest::Finish),
-    (b"hard\r\n", StopRequest::Finish),
+static INPUTS: [(&str, &[u8], StopRequest); 7] = [
+    ("no input", b"", StopRequest::Finish),
+    ("no line feed", b"hard", StopRequest::Finish),
+    ("the line 'hard'", b"hard\n", StopRequest::Abort),
     (
+        "'hard' among other lines",
+        b"soft\nhard\nsoft\n",
+        StopRequest::Abort,
+    ),
+    ("other lines", b"hardly\n hard\nHARD\n", StopRequest::Finish),
+    ("a carriage return", b"hard\r\n", StopRequest::Finish),
+    (
+        "a long line that ends in 'hard'",
         b"0123456789012345678901234567890123456789012345678901234567890123hard\n",
         StopRequest::Finish,
     ),
@@ -36,7 +47,7 @@ static INPUTS: [(&[u8], StopRequest); 7] = [
 
 #[test]
 fn an_input_sets_a_signal(rt: HostRuntime) -> Result<(), Fail> {
-    assert_eq!(rt; wrong_input(rt.alloc()), None);
+    none_is_wrong(&rt, wrong_input(rt.alloc()));
     Ok(())
 }
 

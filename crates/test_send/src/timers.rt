@@ -64,7 +64,7 @@ static DUE: [(bool, bool); 9] = [
     (false, true),
 ];
 
-/// Returns the first two questions of which one is answered differently.
+/// Returns the first second at which one of the two questions is answered differently.
 fn wrong_answer(watch: &mut impl Watch) -> Option<usize> {
     for (i, due) in DUE.iter().enumerate() {
         let answers = (watch.is_flush_due(), watch.is_reshard_due());

@@ -1,9 +1,12 @@
 //! Reports of two segments, and of one that is damaged.
 
 use crate::rows::holds;
-use rw_inspect::{Named, Report, find_entries, inspect, json_of, plan_segments, table_of};
+use rw_inspect::{Report, find_entries, inspect, json_of, table_of};
+use rw_log_commands::plan_log;
+use rw_log_read::{Named, SegmentList};
 use rw_relabel::Choice;
 use rw_test_parts::raw_labels;
+use rw_text::ToolFault;
 use rw_types::{ReadFault, Room, Word};
 use rw_wal_tail::TailFault;
 use rw_wal_write::{SegmentWriter, sample_record, series_record};
@@ -98,7 +101,7 @@ const JSON: &str = "\
 const DAMAGED: &str = "\
 {\"type\":\"segment\",\"file\":\"0\",\"bytes\":97,\"pages\":1,\"passed_over\":0,\"entries\":2,\"series\":1,\"samples\":1,\"earliest\":1000,\"latest\":1000}\n\
 {\"type\":\"totals\",\"bytes\":97,\"pages\":1,\"passed_over\":0,\"entries\":2,\"series\":1,\"samples\":1,\"earliest\":1000,\"latest\":1000,\"label_sets\":1,\"without_series\":0,\"bad_labels\":0,\"not_rising\":0,\"first_not_rising\":[]}\n\
-{\"type\":\"fault\",\"fault\":\"checksum of the fragment is not that of its data\",\"file\":\"0\",\"offset\":63,\"behind\":34,\"next\":\"copy the segment again and compare; send ships what stands before the fault, and nothing behind it\"}\n\
+{\"type\":\"fault\",\"fault\":\"the checksum of the fragment does not match its data\",\"file\":\"0\",\"offset\":63,\"behind\":34,\"next\":\"copy the segment again and compare; send ships what comes before the fault, and nothing after it\"}\n\
 ";
 
 /// Returns the reports of both segments, and of the first with its last byte changed.
@@ -130,32 +133,32 @@ const PLAN: &str = "1 kept 0 {__name__=\"up\"}
 samples kept 4 filtered 0 bad 1 noseries 1
 ";
 
-/// Returns what is written as the plan of two segments, and the fault of their log.
+/// Returns what is written as the plan of two segments, and how the run ends.
 fn plan_of(
     alloc: Global,
     first: &[u8],
     second: &[u8],
-) -> Result<(Vec<u8>, Option<TailFault>), ReadFault> {
+) -> Result<(Vec<u8>, Result<(), ToolFault>), AllocError> {
     let mut writer = Room::new(alloc, 4096)?;
-    let segments = both(alloc, first, second)?;
-    let damage = plan_segments(alloc, Choice::legacy(alloc), segments, &mut writer)?;
-    Ok((writer.into_bytes(), damage.map(|damage| damage.fault)))
+    let mut log = SegmentList::new(both(alloc, first, second)?);
+    let outcome = plan_log(alloc, &mut log, &mut writer, Choice::legacy(alloc));
+    Ok((writer.into_bytes(), outcome))
 }
 
 /// Returns whether both segments have their plan, and whether nothing is written if the last byte
 /// of the second is changed.
-fn are_planned(alloc: Global) -> Result<(bool, bool), ReadFault> {
+fn are_planned(alloc: Global) -> Result<(bool, bool), AllocError> {
     let first = segment_of(alloc, &FIRST)?;
     let mut second = segment_of(alloc, &SECOND)?;
-    let (plan, fault) = plan_of(alloc, &first, &second)?;
-    let is_whole = plan.as_slice() == PLAN.as_bytes() && fault.is_none();
+    let (plan, outcome) = plan_of(alloc, &first, &second)?;
+    let is_whole = plan.as_slice() == PLAN.as_bytes() && outcome.is_ok();
     if let Some(byte) = second.last_mut() {
         *byte = 1;
     }
-    let (plan, fault) = plan_of(alloc, &first, &second)?;
+    let (plan, outcome) = plan_of(alloc, &first, &second)?;
     Ok((
         is_whole,
-        plan.is_empty() && fault == Some(TailFault::BadCrc),
+        plan.is_empty() && outcome == Err(ToolFault::Log(TailFault::BadCrc)),
     ))
 }
 

@@ -9,11 +9,11 @@ use Rattle.rw_series_cache.specs.Cached.{Taken}
 use Rattle.rw_series_cache.specs.Known.{Standing, Filtered, Kept, known, definitions_of}
 use Rattle.rw_series_cache.specs.Numbers.{series_of, HasNumber}
 use Rattle.rw_series_cache.specs.Rising.{is_after, rises, IsNoted}
-use Rattle.rw_inspect.specs.Sums.{sums_of}
+use Rattle.rw_log_read.specs.Sums.{sums_of}
 use Rattle.rw_inspect.specs.Troubles.{trouble_as, trouble_of, troubles_of}
 use Rattle.rw_inspect.specs.declared.counter.Judged.{Judged}
 use Rattle.rw_inspect.specs.declared.counter.Judged.TheVariants as judged
-use Rattle.rw_inspect.specs.declared.sums.Sums.{Sums}
+use Rattle.rw_log_read.specs.declared.sums.Sums.{Sums}
 use Rattle.rw_inspect.specs.declared.troubles.Trouble.{Trouble}
 use Rattle.rw_relabel.specs.Choices.{legacy}
 
@@ -24,11 +24,10 @@ pub record IsCacheOf (entries : List Entry) (cache : Taken) : Type 0 where
   pub noted : IsNoted legacy entries cache.noted
 
 -- the parts of a counter are those of its entries
-pub record IsCounter (entries here : List Entry) (count : ℕ) (cache : Taken) (sums sums_here : Sums) (troubles : List (ℕ × Trouble)) : Type 0 where
+pub record IsCounter (entries : List Entry) (count : ℕ) (cache : Taken) (sums : Sums) (troubles : List (ℕ × Trouble)) : Type 0 where
   pub counted : count ≡ length entries
   pub cached : IsCacheOf entries cache
   pub all : sums ≡ sums_of entries
-  pub hand : sums_here ≡ sums_of here
   pub in_trouble : troubles ≡ troubles_of entries
 
 -- a sample after these entries is one of the series of this number, and rises

@@ -41,8 +41,7 @@ pub record IsFinder (positions : List ℕ) (es : List Entry) (count : ℕ) (cach
   pub defined : definitions_of es ≡ cache.definitions
   pub noted : map told notes ≡ gather (note_of positions) es
 
--- the positions, all entries so far, and those of the current segment
+-- the positions and the entries
 pub record Finding : Type 0 where
   pub positions : Vec ℕ Global
   pub entries : List Entry
-  pub here : List Entry

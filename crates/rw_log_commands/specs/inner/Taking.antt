@@ -1,31 +1,20 @@
 -- Inner definitions beside those of Taking.antt: only invariants, private functions and
 -- proofs use them.
-use Rattle.std.specs.Prelude.{◌≡◌, ◌≢◌, ℕ, List, ◌++◌, [], ◌∷◌, Bool, true, Option, Some}
+use Rattle.std.specs.Prelude.{◌≡◌, ℕ, List, [], ◌∷◌, Bool, true, Option}
 use Rattle.std.specs.Io.KnownBytes.{Consumes, IsAtEnd}
-use Rattle.rw_types.specs.declared.entry.Entry.{Entry}
-use Rattle.rw_wal_format.specs.Pieces.{Piece, bytes, fault}
+use Rattle.rw_wal_format.specs.Pieces.{bytes, fault}
 use Rattle.rw_wal_format.specs.declared.tail_fault.TailFault.{TailFault}
-use Rattle.rw_wal_format.specs.declared.tail_fault.TailFault.TheVariants as tail
-use Rattle.rw_wal_tail.specs.Fed.{Fed}
-use Rattle.rw_wal_tail.specs.Taking.{HasTaken}
 use Rattle.rw_text.specs.declared.tool_fault.ToolFault.{ToolFault}
 use Rattle.rw_text.specs.declared.tool_fault.ToolFault.TheVariants.{OutOfMemory, Log, Line, SegmentFull, Device}
-use Rattle.rw_log_commands.specs.Taking.{ReadsToFault}
+use Rattle.rw_log_commands.specs.Taking.{ReadsLogToFault, ReadsToFault}
 
--- A fault of the log is the one that the pieces have. It is one of those that the format names.
-abbrev pub IsFaultOf : List Piece → ToolFault → Type 0
-IsFaultOf pieces OutOfMemory = Unit {0}
-IsFaultOf pieces (Log f) = (f ≢ tail.OutOfMemory) × (fault pieces ≡ Some f)
-IsFaultOf pieces (Line line) = ⊥
-IsFaultOf pieces SegmentFull = ⊥
-IsFaultOf pieces Device = ⊥
-
--- one more piece of bytes was read and fed
-pub record FeedsMore (left_before left_after : Option (List ℕ)) (before after : Fed) : Type 0 where
-  pub text : List ℕ
-  pub read : Consumes left_before left_after text
-  pub fed : after ≡ record before { pieces = before.pieces ++ bytes text ∷ [] }
-  pub still : (taken : List Entry) → HasTaken before taken → HasTaken after taken
+-- why a log is not read to its end, by devices that may fail or not, and then have failed or not
+abbrev pub StopsLog : List (Option (List ℕ)) → List (Option (List ℕ)) → Bool → Bool → ToolFault → Type 0
+StopsLog before after is_sure failed OutOfMemory = Unit {0}
+StopsLog before after is_sure failed (Log f) = ReadsLogToFault f before after
+StopsLog before after is_sure failed (Line line) = ⊥
+StopsLog before after is_sure failed SegmentFull = ⊥
+StopsLog before after is_sure failed Device = (is_sure ≡ true → ⊥) × (failed ≡ true)
 
 -- a segment was read to the end, and it has a fault, or none
 pub record ReadsSegment (has : Option TailFault) (left_before left_after : Option (List ℕ)) (segment : List ℕ) : Type 0 where

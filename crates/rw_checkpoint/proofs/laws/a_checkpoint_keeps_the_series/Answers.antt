@@ -1,4 +1,4 @@
-use Rattle.rw_checkpoint.proofs.CheckpointLemmas.{rest-same, whole-parts, owed-end}
+use Rattle.rw_checkpoint.proofs.CheckpointLemmas.{rest-same, whole-parts, owed-end, owed-part}
 use Rattle.rw_checkpoint.proofs.laws.a_checkpoint_keeps_the_series.Goals as goal
 
 pub returns-clause-rest : goal.returns-clause-rest
@@ -9,3 +9,6 @@ returns-clause-whole c = whole-parts
 
 pub returns-clause-owed : goal.returns-clause-owed
 returns-clause-owed c = owed-end
+
+pub returns-clause-part : goal.returns-clause-part
+returns-clause-part c = owed-part

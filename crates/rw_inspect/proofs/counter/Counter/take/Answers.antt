@@ -1,7 +1,7 @@
 use Rattle.std.proofs.Common.{rules, List, [], ◌∷◌, ◌++◌, ◌∙◌, ap}
 use Rattle.rw_types.specs.declared.entry.Entry.{Entry}
 use Rattle.rw_inspect.specs.inner.Counting.{IsPlaced}
-use Rattle.rw_inspect.specs.Sums.{count_entry}
+use Rattle.rw_log_read.specs.Sums.{with_entry}
 use Rattle.rw_inspect.proofs.CounterLemmas.{counter_definition, counter_sample}
 use Rattle.rw_inspect.proofs.counter.Counter.take.Goals.{in-Def+in_ok-define-in-Def, in-Sample+in_ok-place-in-Sample}
 use Rattle.rw_inspect.proofs.counter.Counter.take.Goals as goal
@@ -9,15 +9,14 @@ use Rattle.rw_inspect.proofs.counter.Counter.take.Goals as goal
 pub invariant_of-self-2 : goal.invariant_of-self-2
 invariant_of-self-2 c =
     let taken = c.push.ensures ∙ ap (λ (es : List Entry). es ++ c.args.entry ∷ []) c.again-taken.ensures in
-    let here = c.push-2.ensures ∙ ap (λ (es : List Entry). es ++ c.args.entry ∷ []) c.again-here.ensures in
-    elim c.match-entry-4.branch [
+    elim c.match-entry-3.branch [
       | in-Def+in_ok-define-in-Def w ↦
           rw w.self-inside-is
-          (counter_definition _ _ _ _ _ _ _ _ _ _ _ _ _ _ _ c.self.invariant (taken ∙ ap (λ (e : Entry). c.self.inside.taken ++ e ∷ []) w.in-Def.is) (here ∙ ap (λ (e : Entry). c.self.inside.here ++ e ∷ []) w.in-Def.is) c.in_ok-count.ensures
-          (c.in_ok-sums.ensures ∙ ap (count_entry c.self.inside.sums) w.in-Def.is) (c.in_ok-sums_here.ensures ∙ ap (count_entry c.self.inside.sums_here) w.in-Def.is) w.in_ok-define-in-Def.ensures.ok)
+          (counter_definition _ _ _ _ _ _ _ _ _ _ _ c.self.invariant (taken ∙ ap (λ (e : Entry). c.self.inside.taken ++ e ∷ []) w.in-Def.is) c.in_ok-count.ensures
+          (c.in_ok-sums.ensures ∙ ap (with_entry c.self.inside.sums) w.in-Def.is) w.in_ok-define-in-Def.ensures.ok)
       | in-Sample+in_ok-place-in-Sample w ↦
           let placed : IsPlaced c.self.inside.cache w.place.new.cache c.self.inside.troubles w.place.new.troubles c.self.inside.count w.in-Sample.reference w.in-Sample.t = search rules in
           rw w.self-inside-is
-          (counter_sample _ _ _ _ _ _ _ _ _ _ _ _ _ _ _ _ _ c.self.invariant (taken ∙ ap (λ (e : Entry). c.self.inside.taken ++ e ∷ []) w.in-Sample.is) (here ∙ ap (λ (e : Entry). c.self.inside.here ++ e ∷ []) w.in-Sample.is) c.in_ok-count.ensures
-          (c.in_ok-sums.ensures ∙ ap (count_entry c.self.inside.sums) w.in-Sample.is) (c.in_ok-sums_here.ensures ∙ ap (count_entry c.self.inside.sums_here) w.in-Sample.is) placed)
+          (counter_sample _ _ _ _ _ _ _ _ _ _ _ _ _ c.self.invariant (taken ∙ ap (λ (e : Entry). c.self.inside.taken ++ e ∷ []) w.in-Sample.is) c.in_ok-count.ensures
+          (c.in_ok-sums.ensures ∙ ap (with_entry c.self.inside.sums) w.in-Sample.is) placed)
     ]

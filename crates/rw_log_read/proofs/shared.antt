@@ -1,0 +1,3 @@
+pub mod HereLemmas
+pub mod LogLemmas
+pub mod ReadingLemmas

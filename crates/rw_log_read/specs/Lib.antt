@@ -1,0 +1,5 @@
+pub mod Left
+pub mod Logs
+pub mod Reading
+pub mod Sums
+pub mod inner

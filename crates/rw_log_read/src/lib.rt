@@ -1,0 +1,21 @@
+//! The log, read entry by entry: the one way in which the commands `body`, `plan` and `inspect`
+//! read it.
+#![tactic(auto)]
+
+mod here;
+mod log;
+mod log_read;
+mod reading;
+mod segment_list;
+mod segment_reader;
+mod skipped;
+mod sums;
+mod taker;
+
+pub use log::read_into;
+pub use log_read::{Damage, LogRead, Segment};
+pub use segment_list::{Named, SegmentList};
+pub use segment_reader::SegmentReader;
+pub use skipped::SkippedRecords;
+pub use sums::{Sums, one_more};
+pub use taker::Taker;

@@ -1,0 +1,14 @@
+mod AnswerLemmas
+mod BatchLemmas
+mod ExampleLemmas
+mod KeptReceiverLemmas
+mod LogLemmas
+mod OrderLemmas
+mod PartLemmas
+mod RefusalLemmas
+mod RelayLemmas
+mod RunLemmas
+mod SenderLemmas
+mod ShardLemmas
+mod TurnLemmas
+mod WorkerLemmas

@@ -1,0 +1,18 @@
+use Rattle.std.proofs.Common.{refl}
+use Rattle.rw_restarts.proofs.ExampleLemmas.{points-of-first, acknowledged-once, runs-are-over, receiver-is}
+use Rattle.rw_restarts.proofs.examples.a_small_history_is_allowed.Goals as goal
+
+pub returns-clause-rising : goal.returns-clause-rising
+returns-clause-rising c = refl
+
+pub returns-clause-points : goal.returns-clause-points
+returns-clause-points c = points-of-first
+
+pub returns-clause-acknowledged : goal.returns-clause-acknowledged
+returns-clause-acknowledged c = acknowledged-once
+
+pub returns-clause-runs : goal.returns-clause-runs
+returns-clause-runs c = runs-are-over
+
+pub returns-clause-receiver : goal.returns-clause-receiver
+returns-clause-receiver c = receiver-is

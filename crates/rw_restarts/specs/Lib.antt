@@ -1,0 +1,11 @@
+pub mod Examples
+pub mod KeptReceivers
+pub mod Logs
+pub mod Parts
+pub mod Receivers
+pub mod Refusals
+pub mod Relay
+pub mod Runs
+pub mod Senders
+pub mod Shards
+pub mod Workers

@@ -1,0 +1,125 @@
+//! Journals in the files of a folder: what they write and cut, and what is there after each call of
+//! a device failed in turn.
+
+ghost use Rattle.std.specs.Prelude.{OnOk};
+ghost use Rattle.rw_journal.specs.Journal.{Only};
+
+use crate::failing_files::{Countdown, FailingFiles};
+use crate::folder_journals::make_folder;
+use rw_journal::{Journal, JournalError};
+use rw_kept_folder::open_journal;
+use std::alloc::Global;
+use std::fs;
+use std::path::Path;
+use std::rt::Files;
+use std::test::Fail;
+
+/// Returns whether a file of a folder has this text; `None` means that it does not exist.
+fn has_text(rt: &HostRuntime, dir: Path<'_>, file: &str, text: Option<&str>) -> bool {
+    let Ok(path) = dir.join(rt.alloc(), file) else {
+        return false;
+    };
+    match (fs::read(rt, path), text) {
+        (Ok(bytes), Some(text)) => bytes.as_slice() == text.as_bytes(),
+        (Err(_), None) => true,
+        _ => false,
+    }
+}
+
+/// Writes a segment, and begins the next one.
+fn write_segment<J: Journal>(journal: &mut J, text: &str) -> Result<(), JournalError>
+    requires { Only (J.seen journal.old) (J.may_leave journal.old) }
+    ensures { OnOk result (Only (J.seen journal.new) (J.may_leave journal.new)) }
+{
+    journal.append(text.as_bytes())?;
+    journal.sync()?;
+    journal.begin()
+}
+
+/// Reads both segments, cuts the second one to a byte, and writes a third one.
+fn go_on<J: Journal>(journal: &mut J, alloc: Global) -> Result<bool, JournalError>
+    requires { Only (J.seen journal.old) (J.may_leave journal.old) }
+{
+    let is_whole = journal.count() == 2
+        && journal.read(alloc, 0)?.as_slice() == b"abc".as_slice()
+        && journal.read(alloc, 1)?.as_slice() == b"de".as_slice();
+    journal.cut(1)?;
+    journal.sync()?;
+    journal.begin()?;
+    write_segment(journal, "fgh")?;
+    Ok(is_whole)
+}
+
+/// Opens the folder and goes on. Returns whether all of it succeeded.
+fn open_and_go_on<R: Files + AllocGlobal + Copy>(rt: &R, dir: &str) -> bool {
+    match open_journal(rt, dir) {
+        Ok(journal) => {
+            let mut journal = journal;
+            go_on(&mut journal, rt.alloc()) == Ok(true)
+        }
+        Err(_) => false,
+    }
+}
+
+#[test]
+fn a_folder_is_written_cut_and_read_again(rt: HostRuntime) -> Result<(), Fail> {
+    let dir = make_folder(
+        &rt,
+        "rwship-a-journal",
+        &[("lock", "x"), ("torn-00000007", "y")],
+    )?;
+    let mut journal = open_journal(&rt, dir.as_path().as_str())?;
+    assert_eq!(rt; journal.count(), 0);
+    journal.begin()?;
+    write_segment(&mut journal, "abc")?;
+    journal.append(b"de")?;
+    assert!(rt; open_and_go_on(&rt, dir.as_path().as_str()));
+    assert!(rt; has_text(&rt, dir.as_path(), "00000000", Some("abc")));
+    assert!(rt; has_text(&rt, dir.as_path(), "00000001", Some("d")));
+    assert!(rt; has_text(&rt, dir.as_path(), "torn-00000001", Some("e")));
+    assert!(rt; has_text(&rt, dir.as_path(), "00000002", Some("fgh")));
+    assert!(rt; has_text(&rt, dir.as_path(), "00000003", Some("")));
+    fs::remove_dir_all(&rt, dir.as_path())?;
+    Ok(())
+}
+
+/// What may be there after a call has failed: the first segment is whole, the second one is cut
+/// only if its end was set aside, and the third one is written only after that.
+fn is_kept(rt: &HostRuntime, dir: Path<'_>) -> bool {
+    let is_cut = has_text(rt, dir, "00000001", Some("d"));
+    let is_uncut = has_text(rt, dir, "00000001", Some("de"));
+    let is_aside = has_text(rt, dir, "torn-00000001", Some("e"));
+    let has_no_third = has_text(rt, dir, "00000002", None);
+    has_text(rt, dir, "00000000", Some("abc")) && (is_cut && is_aside || is_uncut && has_no_third)
+}
+
+/// Has each call of the device fail in turn. Returns how many there are, or `None` if one of them
+/// is passed over or loses what is kept.
+fn fail_each_call(rt: &HostRuntime) -> Result<Option<u64>, Fail> {
+    for call in 0..1000u64 {
+        let files = [("00000000", "abc"), ("00000001", "de")];
+        let dir = make_folder(rt, "rwship-a-failing-journal", &files)?;
+        let countdown = Countdown::new(call);
+        let failing = FailingFiles {
+            rt: *rt,
+            countdown: &countdown,
+        };
+        let is_done = open_and_go_on(&failing, dir.as_path().as_str());
+        let is_kept = is_kept(rt, dir.as_path());
+        fs::remove_dir_all(rt, dir.as_path())?;
+        if !is_kept || is_done == countdown.has_failed() {
+            return Ok(None);
+        }
+        if is_done {
+            return Ok(Some(call));
+        }
+    }
+    Ok(None)
+}
+
+#[test]
+fn a_call_that_fails_loses_nothing(rt: HostRuntime) -> Result<(), Fail> {
+    let calls = fail_each_call(&rt)?;
+    assert!(rt; calls > Some(30));
+    Ok(())
+}
