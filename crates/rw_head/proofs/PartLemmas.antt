@@ -13,18 +13,15 @@ use Rattle.rw_head.specs.declared.verdict.Verdict.TheVariants.{NoMemory}
 use Rattle.rw_head.specs.Bodies.{verdict_of}
 use Rattle.rw_head.specs.inner.Bodies.{Takes, Refuses}
 use Rattle.rw_head.specs.Head.{status_of}
-use Rattle.rw_head.specs.Order.{Point, point_of, points, accept_next, accept}
+use Rattle.rw_head.specs.Order.{Point, point_of, points, accept}
 use Rattle.rw_head.specs.Store.{Store, list_of, with_list}
 use Rattle.rw_head.specs.Verdicts.{LabelLimits, refusal, accepted, taken_unless, taken}
 use Rattle.rw_head.proofs.shared.BodyLemmas.{refuses, faulty}
 use Rattle.rw_head.proofs.shared.OrderLemmas.{accept-none}
+use Rattle.rw_head.proofs.shared.OrderRule.{accept-append}
 use Rattle.rw_head.proofs.shared.StoreLemmas.{list_of-with_list, with_list-twice}
 
 -- ---- samples in two parts
-accept-append : (o : Option (List Point)) (xs ys : List Point) → accept o (xs ++ ys) ≡ accept (accept o xs) ys
-accept-append o [] ys = refl
-accept-append o (x ∷ xs) ys = accept-append (accept_next o x) xs ys
-
 accept-parts : (o : Option (List Point)) (p q : List Sample) → accept o (points (p ++ q)) ≡ accept (accept o (points p)) (points q)
 accept-parts o p q = ap (accept o) (map-append point_of p q) ∙ accept-append o (points p) (points q)
 

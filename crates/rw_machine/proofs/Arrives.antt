@@ -10,7 +10,8 @@ use Rattle.rw_types.proofs.shared.AllLemmas.{AllByRecursion-append, AllByRecursi
 use Rattle.rw_types.proofs.shared.RisingLemmas.{Rises-left}
 use Rattle.rw_head.specs.Lists.{IsEarlier}
 use Rattle.rw_machine.proofs.Risen.{IsEarlierPoint, Rises-risen}
-use Rattle.rw_machine.proofs.OrderRule.{accept_repeats, accept_later, holds_append, holds_right, distinct_apart, Took, take_message}
+use Rattle.rw_head.proofs.shared.OrderRule.{accept_repeats, accept_later, holds_append, holds_right}
+use Rattle.rw_machine.proofs.TakenMessages.{distinct_apart, Took, take_message}
 use Rattle.rw_machine.proofs.shared.Places.{Numbered, numbered_left, numbered_all, of_append}
 use Rattle.rw_machine.proofs.Invariant.{Inv, as_points, waits, home, id_at, Past, SampleOk, ShardOk, GotOk, IsOpen, InStore, RequestOk, AnswersOpen, AnswerOk, by_bool}
 use Rattle.rw_machine.proofs.Keeps.{pairs_of_points, of_none}

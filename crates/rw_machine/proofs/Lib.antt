@@ -5,10 +5,10 @@ pub mod Invariant
 pub mod Keeps
 pub mod Live
 pub mod Measure
-pub mod OrderRule
 pub mod Owed
 pub mod Risen
 pub mod Rounds
 pub mod Sent
 pub mod Stays
+pub mod TakenMessages
 pub mod shared

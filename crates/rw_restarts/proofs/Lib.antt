@@ -3,7 +3,6 @@ mod BatchLemmas
 mod ExampleLemmas
 mod KeptReceiverLemmas
 mod LogLemmas
-mod OrderLemmas
 mod PartLemmas
 mod RefusalLemmas
 mod RelayLemmas

@@ -17,7 +17,7 @@ use Rattle.rw_head.specs.Store.{Store, list_of, with_list}
 use Rattle.rw_head.specs.Verdicts.{LabelLimits, refusal, accepted, taken, taken_unless, taken_all}
 use Rattle.rw_head.proofs.shared.StoreLemmas.{list_of-with_list}
 use Rattle.rw_restarts.specs.Parts.{points_in, IsNextPart, AreWithinLimits, IsLonger, TakesAll, NextPartIsAccepted}
-use Rattle.rw_restarts.proofs.OrderLemmas.{accept_repeats, accept_later, accept-append, hold_all}
+use Rattle.rw_head.proofs.shared.OrderRule.{accept_repeats, accept_later, accept-append, hold_all}
 
 -- of two prefixes of one list one is a prefix of the other
 abbrev Splits : List Point → List Point → List Point → List Point → Type 0

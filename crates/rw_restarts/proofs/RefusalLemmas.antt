@@ -25,7 +25,7 @@ use Rattle.rw_restarts.specs.Parts.{points_in}
 use Rattle.rw_restarts.specs.Runs.{SentMessage, SenderRun, IsSentBy}
 use Rattle.rw_restarts.specs.Receivers.{ReceiverEvent, Answers, Restarts, RestartsDuring, ReceiverState, IsRestarted}
 use Rattle.rw_restarts.specs.Refusals.{IsAnyReceiver, HoldsAcknowledged}
-use Rattle.rw_restarts.proofs.OrderLemmas.{holds_append, holds_right, holds_own}
+use Rattle.rw_head.proofs.shared.OrderRule.{holds_append, holds_right, holds_own}
 use Rattle.rw_restarts.proofs.RunLemmas.{get_some, same_request}
 
 -- ---- one list

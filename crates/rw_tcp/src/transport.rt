@@ -135,24 +135,6 @@ fn cause_at<C: Clock>(cause: Cause, deadline: &Deadline<C>) -> Cause {
     }
 }
 
-/// Sends a request over the two directions of a connection.
-fn exchange_over<R: Source, W: Sink>(
-    alloc: Global,
-    reader: &mut R,
-    writer: &mut W,
-    request: &[u8],
-) -> Result<Heard, Cause>
-    ensures reply { IfOk result
-        (λ h. Hears (R.remaining reader.old) (R.remaining reader.new) (read.Status h)) }
-    ensures written { IfOk result (λ h. judgement_of h ≡ judgement.Done
-        → Appends (W.contents writer.old) (W.contents writer.new) request.now) }
-{
-    match hear_answer(alloc, reader, writer, request) {
-        Ok(heard) => Ok(heard),
-        Err(fault) => Err(cause_of(fault)),
-    }
-}
-
 /// Sends a request over a connection, if there is one, before the deadline.
 fn exchange_through<C: Clock + Copy>(
     alloc: Global,
@@ -165,12 +147,15 @@ fn exchange_through<C: Clock + Copy>(
     let Some(stream) = stream else {
         return Err(Cause::Connect);
     };
-    exchange_over(
+    match hear_answer(
         alloc,
         &mut Std::new(Timely::new(&stream, deadline)),
         &mut Std::new(Timely::new(&stream, deadline)),
         request,
-    )
+    ) {
+        Ok(heard) => Ok(heard),
+        Err(fault) => Err(cause_of(fault)),
+    }
 }
 
 /// Counts an attempt to send a request that was answered with this status: the samples of the

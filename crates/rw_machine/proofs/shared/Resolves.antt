@@ -6,7 +6,7 @@ use Rattle.std.proofs.lemmas.Bool.Decides.{Decides-eqb}
 use Rattle.std.proofs.lemmas.List.{map-append}
 use Rattle.rw_types.proofs.shared.AllLemmas.{AllByRecursion-append, AllByRecursion-filter, AllByRecursion-map, AllByRecursion-weaker}
 use Rattle.rw_machine.proofs.shared.Steps.{each_new, is_same}
-use Rattle.rw_machine.proofs.OrderRule.{holds_right, holds_own}
+use Rattle.rw_head.proofs.shared.OrderRule.{holds_right, holds_own}
 use Rattle.rw_machine.proofs.shared.Places.{Numbered, numbered_more, numbered_left, numbered_right, numbered_all, length_change, get_changed, get_others, of_append}
 use Rattle.rw_machine.proofs.Invariant.{Inv, as_points, waits, home, id_at, Past, SampleOk, ShardOk, GotOk, DoneOk, IsOpen, InStore, RequestOk, AnswersOpen, AnswerOk, quiet, quiet_send, quiet_again, past_change}
 use Rattle.rw_machine.proofs.Keeps.{name_all_other, names_own, owed_same, owed_all, owed_none, owed_append, pairs_of_points}

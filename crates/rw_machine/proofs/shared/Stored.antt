@@ -5,7 +5,7 @@ use Rattle.std.proofs.lemmas.List.Elements.{Contains-append_cases, Contains-appe
 use Rattle.std.proofs.lemmas.Bool.Decides.{Decides-eqb}
 use Rattle.rw_machine.proofs.shared.Steps.{is_same}
 use Rattle.rw_machine.proofs.shared.Others.{known_kept}
-use Rattle.rw_machine.proofs.OrderRule.{holds_append, holds_right, holds_own}
+use Rattle.rw_head.proofs.shared.OrderRule.{holds_append, holds_right, holds_own}
 use Rattle.rw_machine.proofs.shared.Places.{points_append}
 use Rattle.rw_machine.proofs.Invariant.{Inv, as_points, waits, home, by_bool}
 use Rattle.rw_machine.proofs.shared.Classes.{classes}

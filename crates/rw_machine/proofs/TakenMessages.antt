@@ -1,81 +1,17 @@
--- The order rule on repeats and on later samples, one series and a whole message.
-use Rattle.std.proofs.Common.{◌≡◌, ℕ, ◌==◌, Bool, true, false, cond, List, [], ◌∷◌, ◌++◌, map, filter, Option, Some, None, refl, sym, ap, ◌∙◌, subst, ℤ, int_lt, int_eq, ◌||◌, ◌&&◌, not, append-nil, append_assoc}
-use Rattle.std.proofs.lemmas.Bool.Decides.{Decides-int_eq, Decides-eqb}
-use Rattle.std.proofs.lemmas.Bool.{true≢false, not-true, cond-false, cond-true, and_parts, and_from}
+-- A head that takes a whole message: each label set of it once.
+use Rattle.std.proofs.Common.{◌≡◌, Bool, true, false, List, [], ◌∷◌, ◌++◌, map, filter, Option, Some, refl, sym, ap, ◌∙◌, subst, not}
+use Rattle.std.proofs.lemmas.Bool.{true≢false, not-true, cond-false, cond-true}
 use Rattle.std.specs.List.{AllByRecursion}
-use Rattle.rw_types.specs.Rising.{Rises}
-use Rattle.rw_head.specs.Lists.{IsEarlier}
 use Rattle.rw_types.proofs.shared.AllLemmas.{AllByRecursion-filter, AllByRecursion-weaker}
 use Rattle.rw_machine.proofs.shared.Steps.{same_is, is_same}
-use Rattle.rw_head.specs.Order.{accept, accept_one, holds, is_later}
+use Rattle.rw_head.specs.Order.{accept}
 use Rattle.rw_machine.proofs.shared.Views.{Pairs, Store, of, pairs, series_of}
 use Rattle.rw_machine.proofs.Heads.{store_at, put_series, accept_series, accept_all}
 use Rattle.rw_batch.specs.Grouping.{distinct}
 use Rattle.rw_plain_queue.specs.Items.{Placed}
 use Rattle.rw_types.specs.LabelOrder.{labels_eq}
 use Rattle.rw_types.specs.Labels.{Labels}
-use Rattle.rw_types.proofs.shared.TimeLemmas.{int_lt-asymm, int_lt-irrefl}
 use Rattle.rw_types.proofs.shared.Booleans.{either}
-
-not_later : (t : ℤ) (y : ℤ × ℕ) (ys : Pairs) → AllByRecursion (λ (y : ℤ × ℕ). int_lt t y.0 ≡ true) (y ∷ ys) → is_later t (y ∷ ys) ≡ false
-not_later t y [] h = int_lt-asymm t y.0 h.0
-not_later t y (z ∷ ys) h = not_later t z ys h.1
-
-pub repeat_not_later : (s : ℤ × ℕ) (xs : Pairs) → Rises IsEarlier xs → holds s xs ≡ true → is_later s.0 xs ≡ false
-repeat_not_later s [] h at = absurd (true≢false (sym at))
-repeat_not_later s (x ∷ []) h at = by_test (int_eq x.0 s.0 && (x.1 == s.1)) refl at
-  where
-    by_test : (b : Bool) → (int_eq x.0 s.0 && (x.1 == s.1)) ≡ b → (b || false) ≡ true → int_lt x.0 s.0 ≡ false
-    by_test true e at = subst (λ t. int_lt x.0 t ≡ false) ((Decides-int_eq x.0 s.0).0 (and_parts (int_eq x.0 s.0) (x.1 == s.1) e).0) (int_lt-irrefl x.0)
-    by_test false e at = absurd (true≢false (sym at))
-repeat_not_later s (x ∷ y ∷ ys) h at = by_test (int_eq x.0 s.0 && (x.1 == s.1)) refl at (repeat_not_later s (y ∷ ys) h.1)
-  where
-    by_test : (b : Bool) → (int_eq x.0 s.0 && (x.1 == s.1)) ≡ b → (b || holds s (y ∷ ys)) ≡ true → (holds s (y ∷ ys) ≡ true → is_later s.0 (y ∷ ys) ≡ false) → is_later s.0 (y ∷ ys) ≡ false
-    by_test true e at rest = subst (λ t. is_later t (y ∷ ys) ≡ false) ((Decides-int_eq x.0 s.0).0 (and_parts (int_eq x.0 s.0) (x.1 == s.1) e).0) (not_later x.0 y ys h.0)
-    by_test false e at rest = rest at
-
--- repeats change nothing
-pub accept_repeats : (xs ss : Pairs) → Rises IsEarlier xs → AllByRecursion (λ s. holds s xs ≡ true) ss → accept (Some xs) ss ≡ Some xs
-accept_repeats xs [] h all = refl
-accept_repeats xs (s ∷ ss) h all =
-    let step : accept_one xs s ≡ Some xs = cond-false (is_later s.0 xs) (Some (xs ++ s ∷ [])) (cond (holds s xs) (Some xs) None) (repeat_not_later s xs h all.0) ∙ cond-true (holds s xs) (Some xs) None all.0 in
-    ap (λ o. accept o ss) step ∙ accept_repeats xs ss h all.1
-
-later_than : (xs : Pairs) (s : ℤ × ℕ) (ss : Pairs) → Rises IsEarlier (xs ++ s ∷ ss) → is_later s.0 xs ≡ true
-later_than [] s ss h = refl
-later_than (x ∷ []) s ss h = h.0.0
-later_than (x ∷ y ∷ ys) s ss h = later_than (y ∷ ys) s ss h.1
-
--- later samples are appended
-pub accept_later : (xs ss : Pairs) → Rises IsEarlier (xs ++ ss) → accept (Some xs) ss ≡ Some (xs ++ ss)
-accept_later xs [] h = ap Some (sym (append-nil xs))
-accept_later xs (s ∷ ss) h =
-    let step : accept_one xs s ≡ Some (xs ++ s ∷ []) = cond-true (is_later s.0 xs) (Some (xs ++ s ∷ [])) (cond (holds s xs) (Some xs) None) (later_than xs s ss h) in
-    let shift : (xs ++ s ∷ []) ++ ss ≡ xs ++ s ∷ ss = append_assoc xs (s ∷ []) ss in
-    ap (λ o. accept o ss) step ∙ accept_later (xs ++ s ∷ []) ss (subst (Rises IsEarlier) (sym shift) h) ∙ ap Some shift
-
-pub holds_append : (s : ℤ × ℕ) (xs ys : Pairs) → holds s xs ≡ true → holds s (xs ++ ys) ≡ true
-holds_append s [] ys h = absurd (true≢false (sym h))
-holds_append s (x ∷ xs) ys h = by_test (int_eq x.0 s.0 && (x.1 == s.1)) h (holds_append s xs ys)
-  where
-    by_test : (b : Bool) → (b || holds s xs) ≡ true → (holds s xs ≡ true → holds s (xs ++ ys) ≡ true) → (b || holds s (xs ++ ys)) ≡ true
-    by_test true h rest = refl
-    by_test false h rest = rest h
-
-pub holds_right : (s : ℤ × ℕ) (xs ys : Pairs) → holds s ys ≡ true → holds s (xs ++ ys) ≡ true
-holds_right s [] ys h = h
-holds_right s (x ∷ xs) ys h = by_test (int_eq x.0 s.0 && (x.1 == s.1)) (holds_right s xs ys h)
-  where
-    by_test : (b : Bool) → holds s (xs ++ ys) ≡ true → (b || holds s (xs ++ ys)) ≡ true
-    by_test true h = refl
-    by_test false h = h
-
-pub holds_own : (s : ℤ × ℕ) (xs : Pairs) → holds s (s ∷ xs) ≡ true
-holds_own s xs = by_test (int_eq s.0 s.0 && (s.1 == s.1)) (and_from _ _ ((Decides-int_eq s.0 s.0).1 refl) ((Decides-eqb s.1 s.1).1 refl))
-  where
-    by_test : (b : Bool) → b ≡ true → (b || holds s xs) ≡ true
-    by_test true h = refl
-    by_test false h = absurd (true≢false (sym h))
 
 -- no label set twice
 abbrev pub Apart : List Labels → Type 0
