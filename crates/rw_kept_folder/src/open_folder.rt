@@ -43,10 +43,10 @@ impl<R: Files> Model for OpenFolder<R> {
 }
 
 /// Returns the error of a call that failed, and adds the fault to the record.
-fn fail(record: &mut Record, fault: FolderFault) -> JournalError
-    ensures { record.new ≡ record record.old { faults = record.old.faults + 1 } }
+fn fail(noted: &mut Record, fault: FolderFault) -> JournalError
+    ensures { noted.new ≡ record noted.old { faults = noted.old.faults + 1 } }
 {
-    record.fail(&fault);
+    noted.fail(&fault);
     match fault.cause {
         FaultCause::OutOfMemory => JournalError::OutOfMemory,
         _ => JournalError::Failed,

@@ -83,22 +83,22 @@ fn read_file<R: Files + AllocGlobal + Copy>(rt: &R, dir: &str, name: &str) -> io
     Ok(bytes)
 }
 
-/// Reads the segments into memory, and adds them to a record.
+/// Reads the segments into memory, and notes them in a record.
 fn load_all<R: Files + AllocGlobal + Copy>(
     rt: &R,
     dir: &str,
     names: &[SegmentName],
     texts: &mut VecDeque<Vec<u8>>,
-    record: &mut Record,
+    noted: &mut Record,
 ) -> Result<(), FolderError>
-    requires { map (λ v. v.items) texts.old.items ≡ record.old.loaded }
-    ensures loaded { OnOk result (map (λ v. v.items) texts.new.items ≡ record.new.loaded) }
-    ensures calls { record.new.calls ≡ record.old.calls }
+    requires { map (λ v. v.items) texts.old.items ≡ noted.old.loaded }
+    ensures loaded { OnOk result (map (λ v. v.items) texts.new.items ≡ noted.new.loaded) }
+    ensures calls { noted.new.calls ≡ noted.old.calls }
 {
     for name in names {
         match read_file(rt, dir, name.name.as_str()) {
             Ok(text) => {
-                record.load(&text);
+                noted.load(&text);
                 texts.push_back(text)?;
             }
             Err(error) => return Err(error_of(FolderCall::Read, name.number, &error)),
@@ -147,9 +147,9 @@ pub fn open_journal<R: Files + AllocGlobal + Copy>(
     let alloc = rt.alloc();
     let names = list(rt, dir)?;
     let mut texts = VecDeque::new(alloc);
-    let mut record = Record::new();
-    load_all(rt, dir, &names, &mut texts, &mut record)?;
+    let mut noted = Record::new();
+    load_all(rt, dir, &names, &mut texts, &mut noted)?;
     let last = open_last(rt, dir, &names)?;
     let handle = FolderHandle::new(*rt, String::from_str(alloc, dir)?, last);
-    Ok(FolderJournal::new(OpenFolder::new(handle, texts, record)))
+    Ok(FolderJournal::new(OpenFolder::new(handle, texts, noted)))
 }
