@@ -8,6 +8,7 @@ use crate::fault::{FolderCall, FolderFault, cause_of};
 use crate::folder_error::FolderError;
 use crate::folder_handle::FolderHandle;
 use crate::folder_journal::FolderJournal;
+use crate::folder_monitor::FolderMonitor;
 use crate::open_folder::OpenFolder;
 use crate::record::Record;
 use rw_log_folder::{SegmentName, segment_names};
@@ -17,6 +18,7 @@ use std::fs::{OpenFile, OpenOptions};
 use std::io::{ErrorKind, Read};
 use std::path::Path;
 use std::rt::Files;
+use std::time::Clock;
 use std::{fs, io};
 
 /// Returns the error of a call on a segment.
@@ -138,9 +140,11 @@ fn open_last<R: Files + AllocGlobal + Copy>(
 /// them. Segments are the files whose names are one to eight digits; other files are skipped.
 ///
 /// A folder in which a number is missing or is there twice, or which has a checkpoint, is refused.
-pub fn open_journal<R: Files + AllocGlobal + Copy>(
+/// The monitor counts the calls that the journal makes from then on.
+pub fn open_journal<R: Files + Clock + AllocGlobal + Copy>(
     rt: &R,
     dir: &str,
+    monitor: FolderMonitor,
 ) -> Result<FolderJournal<OpenFolder<R>>, FolderError>
     ensures { IfOk result (λ j. Only (seen_of j) (MayLeave j)) }
 {
@@ -150,6 +154,6 @@ pub fn open_journal<R: Files + AllocGlobal + Copy>(
     let mut noted = Record::new();
     load_all(rt, dir, &names, &mut texts, &mut noted)?;
     let last = open_last(rt, dir, &names)?;
-    let handle = FolderHandle::new(*rt, String::from_str(alloc, dir)?, last);
+    let handle = FolderHandle::new(*rt, String::from_str(alloc, dir)?, last, monitor);
     Ok(FolderJournal::new(OpenFolder::new(handle, texts, noted)))
 }
