@@ -111,7 +111,9 @@ is printed at the end.
 
 With --dir each request is written to the log in DIR and synced before it is acknowledged, and at its
 start the receiver holds what DIR has. DIR must exist, and may be empty. Without --dir what it holds is
-in memory only. docs/OPERATING.md explains more, and docs/SETTINGS.md the settings.
+in memory only. After a write to DIR that failed each request is answered with 503 until the receiver
+is stopped; with --end-on-write-error it stops at once. docs/OPERATING.md explains more, and
+docs/SETTINGS.md the settings.
 
 Exit status: 0; 1 if the log in DIR has a fault; 2 for bad options or settings; 3 out of memory; 4 if a
 file, the folder DIR, the network or standard output failed.";

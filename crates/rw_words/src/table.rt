@@ -379,6 +379,12 @@ static RECEIVE: Words = Words {
             bonds: &[Bond::Needs("dir")],
             help: "With --dir: do not print at the end what is held",
         },
+        Opt {
+            name: "end-on-write-error",
+            takes: Takes::Nothing,
+            bonds: &[Bond::Needs("dir"), Bond::Excludes("connections")],
+            help: "With --dir: stop once a write to DIR has failed, and end with status 4",
+        },
         PROGRESS,
         METRICS,
     ],
