@@ -41,10 +41,7 @@ static CASES: [Case; 6] = [
         series: 10,
         width: 8000,
         max_samples: u64::MAX,
-        rows: &[
-            (9, Admission::Answered(204)),
-            (1, Admission::Answered(204)),
-        ],
+        rows: &[(9, Admission::Answered(204)), (1, Admission::Answered(204))],
         segments: 2,
     },
     Case {
@@ -79,10 +76,7 @@ static CASES: [Case; 6] = [
         series: 1,
         width: 1,
         max_samples: u64::MAX,
-        rows: &[
-            (0, Admission::Answered(204)),
-            (0, Admission::Answered(204)),
-        ],
+        rows: &[(0, Admission::Answered(204)), (0, Admission::Answered(204))],
         segments: 2,
     },
     Case {

@@ -84,21 +84,14 @@ fn held_of(alloc: Global, head: &Head, name: &str) -> Result<Vec<(i64, Word)>, L
 
 /// Whether these are samples of the series in their order, at least all those of the first `least`
 /// ones of the list, and at most those of the first `most` ones.
-fn is_part(
-    held: &[(i64, Word)],
-    all: &[Sample],
-    least: usize,
-    most: usize,
-    series: usize,
-) -> bool {
+fn is_part(held: &[(i64, Word)], all: &[Sample], least: usize, most: usize, series: usize) -> bool {
     let mut found = 0;
     let mut place = 0;
     for sample in all {
         if sample.series == series {
             match held.get(found) {
                 Some(point)
-                    if place < most && point.0 == sample.time && point.1.0 == sample.value =>
-                {
+                    if place < most && point.0 == sample.time && point.1.0 == sample.value => {
                     found = found.wrapping_add(1);
                 }
                 Some(_) => return false,

@@ -90,12 +90,12 @@ fn push_request(
     plan.push(alloc, &samples, Admission::Answered(204))
 }
 
-/// Makes a schedule of five requests.
+/// Makes a schedule of three requests.
 fn schedule(alloc: Global, seed: u64) -> Result<Plan, AllocError> {
     let mut plan = Plan::new(alloc, 4, 1)?;
     let mut seed = seed;
     let mut clock = 1000;
-    for _ in 0..5 {
+    for _ in 0..3 {
         push_request(alloc, &mut plan, &mut seed, &mut clock)?;
     }
     Ok(plan)
@@ -103,13 +103,21 @@ fn schedule(alloc: Global, seed: u64) -> Result<Plan, AllocError> {
 
 static JUNK: [&[u8]; 3] = [&[], &[0, 0, 0], &[1, 0, 1, 9, 9, 9, 9, 9]];
 
-/// Opens a journal as a crash during a request leaves it, asks the request again, and opens the
-/// journal once more.
-fn reopen(alloc: Global, plan: &Plan, journal: MemoryJournal, life: Life) -> Result<(), Wrong> {
+/// Opens a journal as a crash during a request left it, and asks the request again; opens the
+/// journal once more if that is wanted.
+fn reopen(
+    alloc: Global,
+    plan: &Plan,
+    journal: MemoryJournal,
+    life: Life,
+    is_opened_twice: bool,
+) -> Result<(), Wrong> {
     let (journal, answered) = live(alloc, plan, journal, life);
-    let answered = answered?;
-    let (_, answered) = live(alloc, plan, journal, Life::whole(answered, answered));
     answered?;
+    if is_opened_twice {
+        let (_, answered) = live(alloc, plan, journal, Life::whole(life.end, life.end));
+        answered?;
+    }
     Ok(())
 }
 
@@ -126,20 +134,18 @@ fn crash_each(
         return Err(Wrong::Count);
     };
     let end = number.saturating_add(1);
-    for torn in 0..last.len() {
+    for torn in 0..last.len().saturating_add(1) {
         *cut = torn;
+        let life = Life {
+            least: if torn < last.len() { number } else { end },
+            most: end,
+            first: number,
+            end,
+        };
         let journal = torn_at(alloc, texts, torn, JUNK[torn % 3])?;
-        reopen(alloc, plan, journal, Life::torn(number, end))?;
+        reopen(alloc, plan, journal, life, torn % 8 == 0)?;
     }
-    *cut = last.len();
-    let journal = torn_at(alloc, texts, last.len(), &[])?;
-    let again = Life {
-        least: end,
-        most: end,
-        first: number,
-        end,
-    };
-    reopen(alloc, plan, journal, again)
+    Ok(())
 }
 
 /// Where a schedule is: the number of the request, and after how many bytes it was crashed.
