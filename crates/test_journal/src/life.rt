@@ -73,8 +73,9 @@ impl Life {
     }
 }
 
-/// Asks a request, once more if memory may have run out. Returns whether it has the answer of the
-/// plan; after a fault of the journal the answer is 503.
+/// Asks a request, once more if memory may have run out and the plan says so: what is held is then as
+/// it was. Returns whether it has the answer of the plan; after a fault of the journal the answer is
+/// 503.
 fn ask<J: Journal>(
     alloc: Global,
     plan: &Plan,
@@ -83,7 +84,7 @@ fn ask<J: Journal>(
     request: &Request,
 ) -> bool {
     let mut admission = kept.admit(&request.body, &plan.capacity);
-    if admission == Admission::Answered(503) && kept.fault().is_none() {
+    if plan.asks_again && admission == Admission::Answered(503) && kept.fault().is_none() {
         if !plan.is_held(alloc, kept.head(), life.least, life.most) {
             return false;
         }

@@ -11,7 +11,7 @@ use std::test::Fail;
 /// Requests to a head which holds at most `max_samples`, and whose segments have at most `pages`
 /// pages; each new sample is of the next one of the series, whose names have about `width` bytes.
 /// And how many segments the journal has after them: an empty one, which was there before, and
-/// those that were begun. A request that is answered 503 is asked twice.
+/// those that were begun.
 struct Case {
     name: &'static str,
     pages: usize,
@@ -68,7 +68,7 @@ static CASES: [Case; 6] = [
             (5, Admission::Answered(503)),
             (1, Admission::Answered(204)),
         ],
-        segments: 4,
+        segments: 3,
     },
     Case {
         name: "a message without samples adds nothing",

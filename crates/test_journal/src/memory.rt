@@ -17,6 +17,7 @@ static ROWS: [Row; 3] = [
 
 fn plan(alloc: Global) -> Result<Plan, AllocError> {
     let mut plan = Plan::new(alloc, 4, 1)?;
+    plan.asks_again = true;
     plan.push_rows(alloc, &ROWS)?;
     Ok(plan)
 }

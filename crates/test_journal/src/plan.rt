@@ -22,6 +22,8 @@ pub(crate) struct Plan {
     /// How many pages a segment has at most.
     pub(crate) pages: usize,
     pub(crate) capacity: Capacity,
+    /// Whether a request is asked once more if memory may have run out.
+    pub(crate) asks_again: bool,
     /// The names of the series.
     names: Vec<String>,
     pub(crate) all: Vec<Sample>,
@@ -45,6 +47,7 @@ impl Plan {
             limits: Limits::standard(alloc)?,
             pages: 4096,
             capacity: Capacity::unlimited(),
+            asks_again: false,
             names: names_of(alloc, series, width)?,
             all: Vec::new(alloc),
             requests: Vec::new(alloc),
