@@ -73,9 +73,9 @@ impl Life {
     }
 }
 
-/// Asks a request, once more if memory may have run out and the plan says so: what is held is then as
-/// it was. Returns whether it has the answer of the plan; after a fault of the journal the answer is
-/// 503.
+/// Asks a request, once more if memory may have run out and the plan says so: what is held is then
+/// as it was. Returns whether it has the answer of the plan, which is 503 after a fault of the
+/// journal.
 fn ask<J: Journal>(
     alloc: Global,
     plan: &Plan,
