@@ -7,11 +7,23 @@ mod appends;
 #[cfg(test)]
 mod entry_counter;
 #[cfg(test)]
+mod failed_calls;
+#[cfg(test)]
+mod failing_journal;
+#[cfg(test)]
+mod life;
+#[cfg(test)]
+mod long_messages;
+#[cfg(test)]
+mod memory;
+#[cfg(test)]
 mod messages;
 #[cfg(test)]
 mod openings;
 #[cfg(test)]
 mod plain;
+#[cfg(test)]
+mod plan;
 #[cfg(test)]
 mod schedules;
 #[cfg(test)]

@@ -1,35 +1,13 @@
 //! Schedules of requests, each of which is crashed at each byte that it writes.
 
-use crate::plain::{Sample, answer, body_of, holds_part};
-use crate::segments::{PAGE, texts_of, torn_at};
-use rw_head::Limits;
-use rw_journal::{Journal, JournalError, MemoryJournal};
-use rw_kept_head::KeptHead;
+use crate::life::{Life, Wrong, live};
+use crate::plain::Sample;
+use crate::plan::Plan;
+use crate::segments::{texts_of, torn_at};
+use rw_head::Admission;
+use rw_journal::MemoryJournal;
 use std::alloc::{AllocError, Global};
 use std::test::Fail;
-
-/// Why a schedule is wrong.
-#[derive(Clone, Copy, Debug, PartialEq, Eq)]
-enum Wrong {
-    OutOfMemory,
-    NotOpened,
-    Status,
-    Held,
-    HeldAfterCrash,
-    HeldAtLast,
-}
-
-impl From<AllocError> for Wrong {
-    fn from(_: AllocError) -> Self {
-        Wrong::OutOfMemory
-    }
-}
-
-impl From<JournalError> for Wrong {
-    fn from(_: JournalError) -> Self {
-        Wrong::OutOfMemory
-    }
-}
 
 /// The next of a row of numbers.
 fn next(seed: &mut u64) -> u64 {
@@ -85,125 +63,116 @@ fn choose(seed: &mut u64, all: &[Sample], clock: &mut i64) -> (Sample, Kind) {
     (sample, Kind::New)
 }
 
-/// A request, the samples that are held after it, and its status.
-#[derive(Drop)]
-struct Request {
-    body: Vec<u8>,
-    after: Vec<Sample>,
-    status: u16,
-}
-
-/// Makes a request of one to three samples after those that are held.
-fn request_after(
+/// Adds a request of one to three samples after those that are held. One that brings a late sample
+/// is refused.
+fn push_request(
     alloc: Global,
+    plan: &mut Plan,
     seed: &mut u64,
-    all: &[Sample],
     clock: &mut i64,
-) -> Result<Request, AllocError> {
+) -> Result<(), AllocError> {
     let mut samples = Vec::new(alloc);
-    let mut after = all.to_vec(alloc)?;
-    let mut status = 204;
+    let mut all = plan.all.to_vec(alloc)?;
+    let mut is_late = false;
     for _ in 0..1 + next(seed) % 3 {
-        let (sample, kind) = choose(seed, all, clock);
+        let (sample, kind) = choose(seed, &plan.all, clock);
         samples.push(sample)?;
         match kind {
-            Kind::New => after.push(sample)?,
+            Kind::New => all.push(sample)?,
             Kind::Repeat => {}
-            Kind::Late => status = 400,
+            Kind::Late => is_late = true,
         }
     }
-    if status == 400 {
-        after = all.to_vec(alloc)?;
+    if is_late {
+        return plan.push(alloc, &samples, Admission::Answered(400));
     }
-    Ok(Request {
-        body: body_of(alloc, &samples)?,
-        after,
-        status,
-    })
+    plan.all = all;
+    plan.push(alloc, &samples, Admission::Answered(204))
 }
 
-/// Opens a journal, looks at what is held, and answers the request once more.
-fn reopen(
-    alloc: Global,
-    mut journal: MemoryJournal,
-    least: usize,
-    request: &Request,
-) -> Result<(), Wrong> {
-    let limits = Limits::standard(alloc)?;
-    journal.sync()?;
-    let Ok(opened) = KeptHead::open(alloc, &limits, journal, 4096) else {
-        return Err(Wrong::NotOpened);
-    };
-    let mut kept = opened.kept;
-    if !holds_part(alloc, kept.head(), &request.after, least) {
-        return Err(Wrong::HeldAfterCrash);
+/// Makes a schedule of three requests.
+fn schedule(alloc: Global, seed: u64) -> Result<Plan, AllocError> {
+    let mut plan = Plan::new(alloc, 4, 1)?;
+    let mut seed = seed;
+    let mut clock = 1000;
+    for _ in 0..3 {
+        push_request(alloc, &mut plan, &mut seed, &mut clock)?;
     }
-    if answer(&mut kept, &request.body) != request.status {
-        return Err(Wrong::Status);
-    }
-    if !holds_part(alloc, kept.head(), &request.after, request.after.len()) {
-        return Err(Wrong::HeldAtLast);
-    }
-    Ok(())
+    Ok(plan)
 }
 
 static JUNK: [&[u8]; 3] = [&[], &[0, 0, 0], &[1, 0, 1, 9, 9, 9, 9, 9]];
 
-/// Crashes a request at each byte that it wrote to the last segment.
-fn crash_each(
+/// Opens a journal as a crash during a request left it, and asks the request again; opens the
+/// journal once more if that is wanted.
+fn reopen(
     alloc: Global,
-    texts: &[Vec<u8>],
-    least: usize,
-    request: &Request,
+    plan: &Plan,
+    journal: MemoryJournal,
+    life: Life,
+    is_opened_twice: bool,
 ) -> Result<(), Wrong> {
-    let Some(last) = texts.last() else {
-        return Err(Wrong::NotOpened);
-    };
-    for cut in 0..last.len() {
-        let junk = JUNK[cut % 3];
-        reopen(alloc, torn_at(alloc, texts, cut, junk)?, least, request)?;
-    }
-    reopen(
-        alloc,
-        torn_at(alloc, texts, last.len(), &[])?,
-        request.after.len(),
-        request,
-    )
-}
-
-/// Plays five requests, each in a life of its own, and crashes each of them.
-fn play(alloc: Global, seed: u64) -> Result<(), Wrong> {
-    let limits = Limits::standard(alloc)?;
-    let mut seed = seed;
-    let mut clock = 1000;
-    let mut all = Vec::new(alloc);
-    let mut journal = MemoryJournal::new(alloc);
-    for _ in 0..5 {
-        let request = request_after(alloc, &mut seed, &all, &mut clock)?;
-        journal.sync()?;
-        let Ok(opened) = KeptHead::open(alloc, &limits, journal, 4096) else {
-            return Err(Wrong::NotOpened);
-        };
-        let mut kept = opened.kept;
-        if answer(&mut kept, &request.body) != request.status {
-            return Err(Wrong::Status);
-        }
-        if !holds_part(alloc, kept.head(), &request.after, request.after.len()) {
-            return Err(Wrong::Held);
-        }
-        journal = kept.into_journal();
-        let texts = texts_of(alloc, &mut journal)?;
-        crash_each(alloc, &texts, all.len(), &request)?;
-        all = request.after;
+    let (journal, answered) = live(alloc, plan, journal, life);
+    answered?;
+    if is_opened_twice {
+        let (_, answered) = live(alloc, plan, journal, Life::whole(life.end, life.end));
+        answered?;
     }
     Ok(())
 }
 
-/// The first schedule that is wrong.
-fn first_wrong(alloc: Global) -> Option<(u64, Wrong)> {
-    for seed in 0..20 {
-        if let Err(wrong) = play(alloc, seed) {
-            return Some((seed, wrong));
+/// Crashes a request at each byte that it wrote to the last segment, and after them; `cut` is after
+/// how many.
+fn crash_each(
+    alloc: Global,
+    plan: &Plan,
+    texts: &[Vec<u8>],
+    number: usize,
+    cut: &mut usize,
+) -> Result<(), Wrong> {
+    let Some(last) = texts.last() else {
+        return Err(Wrong::Count);
+    };
+    let end = number.saturating_add(1);
+    for torn in 0..last.len().saturating_add(1) {
+        *cut = torn;
+        let life = Life {
+            least: if torn < last.len() { number } else { end },
+            most: end,
+            first: number,
+            end,
+        };
+        let journal = torn_at(alloc, texts, torn, JUNK[torn % 3])?;
+        reopen(alloc, plan, journal, life, torn % 8 == 0)?;
+    }
+    Ok(())
+}
+
+/// Where a schedule is: the number of the request, and after how many bytes it was crashed.
+type Place = (usize, usize);
+
+/// Plays the requests of a schedule, each in a life of its own, and crashes each of them.
+fn play(alloc: Global, seed: u64, place: &mut Place) -> Result<(), Wrong> {
+    let plan = schedule(alloc, seed)?;
+    let mut journal = MemoryJournal::new(alloc);
+    for number in 0..plan.requests.len() {
+        place.0 = number;
+        let life = Life::whole(number, number.saturating_add(1));
+        let (left, answered) = live(alloc, &plan, journal, life);
+        answered?;
+        journal = left;
+        let texts = texts_of(alloc, &mut journal)?;
+        crash_each(alloc, &plan, &texts, number, &mut place.1)?;
+    }
+    Ok(())
+}
+
+/// Returns the number of the first schedule that is wrong, where, and why.
+fn first_wrong(alloc: Global) -> Option<(u64, Place, Wrong)> {
+    let mut place = (0, 0);
+    for seed in 0..200 {
+        if let Err(wrong) = play(alloc, seed, &mut place) {
+            return Some((seed, place, wrong));
         }
     }
     None
