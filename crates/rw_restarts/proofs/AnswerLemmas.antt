@@ -1,5 +1,5 @@
 -- What a head did, by the status that it answered.
-use Rattle.std.proofs.Common.{◌≡◌, ◌≢◌, nat_lt, Bool, true, false, cond, is_some, List, [], ◌∷◌, Option, Some, None, Result, Ok, Err, refl, sym, ap, ◌∙◌, arith}
+use Rattle.std.proofs.Common.{◌≡◌, ◌≢◌, ◌⊎◌, inl, inr, nat_lt, Bool, true, false, cond, is_some, List, [], ◌∷◌, Option, Some, None, Result, Ok, Err, refl, sym, ap, ◌∙◌, arith}
 use Rattle.rw_types.specs.Labels.{label_fault}
 use Rattle.rw_write_request.specs.Message.{TimeSeries, WriteRequest}
 use Rattle.rw_head.specs.declared.verdict.Verdict.{Verdict}
@@ -74,3 +74,18 @@ answers-kept h m other = by_busy (nat_lt 0 h.busy) refl
     by_busy : (b : Bool) → nat_lt 0 h.busy ≡ b → (answer_to h (Ok m)).head.store ≡ h.store
     by_busy true e = busy_store h m e
     by_busy false e = free_store h m e ∙ by_keeping h.store (taken_all h.limits (Ok h.store) m) (λ s. other (free_status h m e ∙ s))
+
+by_verdict : (store : Store) (r : Result Store Verdict) → IsRefused r → (status_of (judged store r).verdict ≡ 204) ⊎ (status_of (judged store r).verdict ≡ 400)
+by_verdict store (Ok next) h = inl refl
+by_verdict store (Err v) h = inr h
+
+-- a head without a journal answers 204, 400 or 429
+pub answers-known : (h : State) (m : WriteRequest) → ((answer_to h (Ok m)).status ≡ 204) ⊎ (((answer_to h (Ok m)).status ≡ 400) ⊎ ((answer_to h (Ok m)).status ≡ 429))
+answers-known h m = by_busy (nat_lt 0 h.busy) refl
+  where
+    by_busy : (b : Bool) → nat_lt 0 h.busy ≡ b → ((answer_to h (Ok m)).status ≡ 204) ⊎ (((answer_to h (Ok m)).status ≡ 400) ⊎ ((answer_to h (Ok m)).status ≡ 429))
+    by_busy true e = inr (inr (busy_status h m e))
+    by_busy false e = elim (by_verdict h.store (taken_all h.limits (Ok h.store) m) (all_refused h.limits m (Ok h.store) tt)) [
+      | inl taken ↦ inl (free_status h m e ∙ taken)
+      | inr refused ↦ inr (inl (free_status h m e ∙ refused))
+    ]

@@ -29,19 +29,19 @@ use Rattle.rw_head.proofs.shared.OrderRule.{holds_append, holds_right, holds_own
 use Rattle.rw_restarts.proofs.RunLemmas.{get_some, same_request}
 
 -- ---- one list
-abbrev AreHeld : List Point → List Point → Type 0
+abbrev pub AreHeld : List Point → List Point → Type 0
 AreHeld ss xs = AllByRecursion (λ (p : Point). holds p xs ≡ true) ss
 
-held_further : (ss xs ys : List Point) → Begins xs ys → AreHeld ss xs → AreHeld ss ys
+pub held_further : (ss xs ys : List Point) → Begins xs ys → AreHeld ss xs → AreHeld ss ys
 held_further ss xs ys b all =
     AllByRecursion-weaker (λ (p : Point). holds p xs ≡ true) (λ (p : Point). holds p ys ≡ true)
     (λ p h. subst (λ zs. holds p zs ≡ true) (sym b.1) (holds_append p xs b.0 h)) ss all
 
 -- what a list has that took these samples
-record Took (xs ss ys : List Point) : Type 0 where
-  rises : Rises IsEarlier ys
-  begins : Begins xs ys
-  held : AreHeld ss ys
+pub record Took (xs ss ys : List Point) : Type 0 where
+  pub rises : Rises IsEarlier ys
+  pub begins : Begins xs ys
+  pub held : AreHeld ss ys
 
 one_taken : (xs ys : List Point) (s : Point) → Rises IsEarlier xs → (later has : Bool) → is_later s.0 xs ≡ later → holds s xs ≡ has
     → cond later (Some (xs ++ s ∷ [])) (cond has (Some xs) None) ≡ Some ys → Took xs (s ∷ []) ys
@@ -75,7 +75,7 @@ list_taken (s ∷ ss) xs ys up e = by_first (accept_one xs s) refl e (λ zs. lis
         record { rises = rest.rises; begins = begins_twice xs zs ys one.begins rest.begins; held = ((held_further (s ∷ []) zs ys rest.begins one.held).0, rest.held) }
 
 -- ---- a message
-abbrev TookAll : Store → WriteRequest → Store → Type 0
+abbrev pub TookAll : Store → WriteRequest → Store → Type 0
 TookAll store m next = (l : Labels) → Took (list_of store l) (points_in l m) (list_of next l)
 
 ok_is : (a b : Store) → (let no : Result Store Verdict = Ok a in no ≡ Ok b) → a ≡ b
@@ -111,7 +111,7 @@ one_series limits s store next up e = by_refusal (refusal limits s.labels) e
     by_refusal (Some v) e = absurd (no_ok v next e)
     by_refusal None e = by_list (accept (Some (list_of store s.labels)) (points s.samples)) refl e
 
-message_took : (limits : LabelLimits) (m : WriteRequest) (store next : Store) → EachRises store → taken_all limits (Ok store) m ≡ Ok next → TookAll store m next
+pub message_took : (limits : LabelLimits) (m : WriteRequest) (store next : Store) → EachRises store → taken_all limits (Ok store) m ≡ Ok next → TookAll store m next
 message_took limits [] store next up e = subst (TookAll store []) (ok_is store next e) (λ l. record { rises = up l; begins = begins_itself (list_of store l); held = tt })
 message_took limits (s ∷ ss) store next up e = by_first (taken limits store s) refl e (λ mid. message_took limits ss mid next)
   where

@@ -34,7 +34,7 @@ use Rattle.rw_restarts.specs.Parts.{points_in}
 use Rattle.rw_restarts.specs.Runs.{SentMessage, acknowledged_by, acknowledged_in, NoneRefused}
 use Rattle.rw_restarts.specs.Workers.{samples_in_batch, SendsSamples, HasResolvedAll, NeverRefused, WorkerSendsSamples}
 use Rattle.rw_restarts.specs.Senders.{samples_sent}
-use Rattle.rw_restarts.specs.Shards.{HasMadeSteps, HaveMadeSteps, AreDone, AreExchangesOfShards, AreExchangesOfEpochs, HaveRun, AreAllDone, IsRunOfEpochs}
+use Rattle.rw_restarts.specs.Shards.{HasMadeSteps, HaveMadeSteps, AreDone, AreMessagesOfShards, AreMessagesOfEpochs, HaveRun, AreAllDone, IsRunOfEpochs}
 use Rattle.rw_restarts.proofs.RelayLemmas.{no_samples}
 use Rattle.rw_restarts.proofs.LogLemmas.{Begins-after}
 use Rattle.rw_restarts.proofs.SenderLemmas.{samples_sent-append, same_samples}
@@ -136,7 +136,7 @@ then_silent l whole p (x ∷ xs) ys b all s (suc n) y is fine =
 after_silent : (l : Labels) (whole : List Point) (xs ys : List SentMessage) → AreSilent l ys → SendsList l whole xs → SendsList l whole (xs ++ ys)
 after_silent l whole xs ys all s = then_silent l whole [] xs ys (whole, refl) all s
 
-acknowledged_in-append : (l : Labels) (xs ys : List SentMessage) → acknowledged_in l (xs ++ ys) ≡ acknowledged_in l xs ++ acknowledged_in l ys
+pub acknowledged_in-append : (l : Labels) (xs ys : List SentMessage) → acknowledged_in l (xs ++ ys) ≡ acknowledged_in l xs ++ acknowledged_in l ys
 acknowledged_in-append l [] ys = refl
 acknowledged_in-append l (x ∷ xs) ys = ap (λ ps. acknowledged_by l x.message x.judgement ++ ps) (acknowledged_in-append l xs ys) ∙ sym (append_assoc (acknowledged_by l x.message x.judgement) (acknowledged_in l xs) (acknowledged_in l ys))
 
@@ -273,7 +273,7 @@ module _ (choice : Choice) (log : List Entry) (all_sent : List Sent) (numbered :
 
   record Joins (k : ℕ) (xs : List ShardHistory) : Type 0 where
     messages : List SentMessage
-    exchanges : AreExchangesOfShards k xs steps messages
+    exchanges : AreMessagesOfShards k xs steps messages
     sends : (l : Labels) → SendsList l (share k xs l) messages
     done : AllFrom IsDone k xs → (l : Labels) → NeverRefused l messages → acknowledged_in l messages ≡ share k xs l
 
@@ -293,7 +293,7 @@ module _ (choice : Choice) (log : List Entry) (all_sent : List Sent) (numbered :
         let own_run = worker x.setup (steps k) w.made.allowed in
         record {
           messages = own_run.sent ++ rest.messages;
-          exchanges = (own_run.sent, rest.messages, refl, own_run.exchanges, rest.exchanges);
+          exchanges = (own_run.sent, rest.messages, refl, own_run.messages, rest.exchanges);
           sends = λ l. by_shard l (own choice log n l == k) refl;
           done = λ is l fine.
               acknowledged_in-append l own_run.sent rest.messages
@@ -349,13 +349,13 @@ module _ (choice : Choice) (log : List Entry) (steps : ℕ → ℕ → List Step
   -- what the shards of these epochs sent of the samples that they were put
   record Epochs (e : ℕ) (epochs : List (List ShardHistory)) (samples : List Sent) : Type 0 where
     messages : List SentMessage
-    exchanges : AreExchangesOfEpochs e epochs steps messages
+    exchanges : AreMessagesOfEpochs e epochs steps messages
     sends : (l : Labels) → SendsList l (samples_sent l samples) messages
     done : AreAllDone e epochs steps → (l : Labels) → NeverRefused l messages → acknowledged_in l messages ≡ samples_sent l samples
 
   record OneEpoch (e : ℕ) (shards : List ShardHistory) (part : List Sent) : Type 0 where
     messages : List SentMessage
-    exchanges : AreExchangesOfShards 0 shards (steps e) messages
+    exchanges : AreMessagesOfShards 0 shards (steps e) messages
     sends : (l : Labels) → SendsList l (samples_sent l part) messages
     done : AreDone shards (steps e) → (l : Labels) → NeverRefused l messages → acknowledged_in l messages ≡ samples_sent l part
 
@@ -421,7 +421,7 @@ sender-is-run put_owed worker more_put choice log epochs steps p r =
     let all = epochs_send choice log steps worker more_put 0 epochs (sent choice log) (all_numbered choice [] log) p r in
     record {
       sent = all.messages;
-      exchanges = all.exchanges;
+      messages = all.exchanges;
       sends = λ m y l is fine. subst (Begins (acknowledged_in l (take m all.messages) ++ points_in l y.message)) (put_owed choice log l) (all.sends l m y is fine);
       done = λ is l fine. all.done is l fine ∙ put_owed choice log l;
     }

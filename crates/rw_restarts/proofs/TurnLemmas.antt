@@ -18,21 +18,21 @@ use Rattle.rw_worker.specs.Steps.{Working, Step, Takes, Freezes, Sends, Waits, A
 use Rattle.rw_worker.specs.Transcript.{is_again, is_again_by}
 use Rattle.rw_restarts.specs.Workers.{SendInOrder, WorkerSendsInOrder}
 
-same_id_own : (d : BatchId) → same_id d d ≡ true
+pub same_id_own : (d : BatchId) → same_id d d ≡ true
 same_id_own d = and_from (d.epoch == d.epoch && d.shard == d.shard) (d.seq == d.seq) (and_from (d.epoch == d.epoch) (d.shard == d.shard) ((Decides-eqb d.epoch d.epoch).1 refl) ((Decides-eqb d.shard d.shard).1 refl)) ((Decides-eqb d.seq d.seq).1 refl)
 
 -- what is still to come: the open batch, the builder, and what is yet taken
-abbrev to_come : Core → List Step → List Placed
+abbrev pub to_come : Core → List Step → List Placed
 to_come c ss = c.batch ++ (c.builder ++ samples_in (items_of ss))
 
 abbrev Goes : Core → List Step → List Placed → Type 0
 Goes c ss last = SendInOrder c.target (to_come c ss) (exchanges_of ss) last
 
 -- ---- an attempt
-abbrev sent : Core → Core
+abbrev pub sent : Core → Core
 sent c = record c { waiting = true }
 
-sends : (c : Core) → can_send c ≡ true → send c ≡ sent c
+pub sends : (c : Core) → can_send c ≡ true → send c ≡ sent c
 sends c h = cond-true (can_send c) (sent c) c h
 
 is_open : (c : Core) → can_send c ≡ true → (not c.killed ≡ true) × (not (is_empty c.batch) ≡ true)
@@ -40,11 +40,11 @@ is_open c h =
     let first = and_parts (not c.killed) (not (is_empty c.batch) && not c.waiting) h in
     (first.0, (and_parts (not (is_empty c.batch)) (not c.waiting) first.1).0)
 
-waits : (c : Core) → can_send c ≡ true → awaits (sent c) ≡ true
+pub waits : (c : Core) → can_send c ≡ true → awaits (sent c) ≡ true
 waits c h = and_from (not c.killed) (not (is_empty c.batch) && true) (is_open c h).0 (and_from (not (is_empty c.batch)) true (is_open c h).1 refl)
 
 -- what a core comes to by an answer
-abbrev after_answer : Bool → Core → Core
+abbrev pub after_answer : Bool → Core → Core
 after_answer b c = cond b (again (sent c)) (resolve (sent c))
 
 settles : (j : Judgement) (c : Core) → settle j (sent c) ≡ after_answer (is_again_by j) c
@@ -52,7 +52,7 @@ settles Done c = refl
 settles Again c = refl
 settles Refused c = refl
 
-answers : (answer : Result Reply Lost) (w : Working) → can_send w.core ≡ true → (after_attempt answer (record w { core = send w.core })).core ≡ after_answer (is_again answer) w.core
+pub answers : (answer : Result Reply Lost) (w : Working) → can_send w.core ≡ true → (after_attempt answer (record w { core = send w.core })).core ≡ after_answer (is_again answer) w.core
 answers (Ok r) w h =
     ap (λ (k : Core). reply (batch_id k.batch) r.status k) (sends w.core h)
     ∙ cond-true (is_answer (batch_id w.core.batch) (sent w.core)) (settle (judgement_of r.status) (sent w.core)) (sent w.core)
@@ -66,7 +66,7 @@ by_again true c ss last h = h
 by_again false c ss last h = h
 
 -- ---- a builder is frozen
-abbrev frozen : Core → Core
+abbrev pub frozen : Core → Core
 frozen c = record c { builder = []; marked = false; batch = c.builder; waiting = false }
 
 freezes : (c : Core) (ss : List Step) (last : List Placed) → can_freeze c ≡ true → Goes (freeze c) ss last → Goes c ss last
@@ -129,3 +129,8 @@ pub nothing-pending : (setup : WorkerSetup) (steps : List Step) → AreSteps (st
 nothing-pending setup steps h all =
     let c : Core = (after (start_of setup) steps).core in
     append_cancel_left c.resolved (pending c) [] (sym (resolves (start_of setup) steps h) ∙ sym all ∙ sym (append-nil c.resolved))
+
+-- what is resolved comes first of what was taken
+pub resolved-first : (setup : WorkerSetup) (steps : List Step) → AreSteps (start_of setup) steps
+    → samples_in (items_of steps) ≡ (after (start_of setup) steps).core.resolved ++ pending (after (start_of setup) steps).core
+resolved-first setup steps h = resolves (start_of setup) steps h

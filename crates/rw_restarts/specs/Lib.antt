@@ -8,4 +8,5 @@ pub mod Relay
 pub mod Runs
 pub mod Senders
 pub mod Shards
+pub mod Stopped
 pub mod Workers

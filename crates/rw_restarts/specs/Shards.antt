@@ -5,12 +5,12 @@ use Rattle.rw_types.specs.Labels.{Labels}
 use Rattle.rw_types.specs.declared.entry.Entry.{Entry}
 use Rattle.rw_relabel.specs.declared.choice.Choice.{Choice}
 use Rattle.rw_worker.specs.Setups.{start_of}
-use Rattle.rw_worker.specs.Steps.{Step, AreSteps, items_of, exchanges_of}
+use Rattle.rw_worker.specs.Steps.{Step, AreSteps, items_of}
 use Rattle.rw_fleet.specs.ShardHistories.{ShardHistory}
 use Rattle.rw_checkpoint.specs.Owed.{owed_of}
 use Rattle.rw_restarts.specs.Runs.{SentMessage, acknowledged_in}
 use Rattle.rw_restarts.specs.Logs.{SendsOwed}
-use Rattle.rw_restarts.specs.Workers.{AreExchangesOfMessages, HasResolvedAll, NeverRefused}
+use Rattle.rw_restarts.specs.Workers.{AreMessagesOfWorker, HasResolvedAll, NeverRefused}
 
 -- the worker of this shard made these steps: it took what its queue was put, or the first of it
 pub record HasMadeSteps (shard : ShardHistory) (steps : List Step) : Type 0 where
@@ -27,22 +27,22 @@ abbrev pub AreDone : List ShardHistory → (ℕ → List Step) → Type 0
 AreDone shards steps = (k : ℕ) (shard : ShardHistory) → slice_get shards k ≡ Some shard
     → (items_of (steps k) ≡ shard.put) × HasResolvedAll shard.setup (steps k)
 
--- The exchanges of the shards from number k on are those of these messages, shard after shard.
--- Shards share no label set, so it does not matter how their exchanges overlapped.
-abbrev pub AreExchangesOfShards : ℕ → List ShardHistory → (ℕ → List Step) → List SentMessage → Type 0
-AreExchangesOfShards k [] steps sent = sent ≡ []
-AreExchangesOfShards k (shard ∷ shards) steps sent =
+-- The workers of the shards from number k on sent these messages, shard after shard. Shards share
+-- no label set, so it does not matter how their exchanges overlapped.
+abbrev pub AreMessagesOfShards : ℕ → List ShardHistory → (ℕ → List Step) → List SentMessage → Type 0
+AreMessagesOfShards k [] steps sent = sent ≡ []
+AreMessagesOfShards k (shard ∷ shards) steps sent =
     (first : List SentMessage) × (rest : List SentMessage) × (sent ≡ first ++ rest)
-    × AreExchangesOfMessages shard.setup.target (exchanges_of (steps k)) first
-    × AreExchangesOfShards (suc k) shards steps rest
+    × AreMessagesOfWorker shard.setup (steps k) first
+    × AreMessagesOfShards (suc k) shards steps rest
 
--- and so are those of the shards of these epochs, epoch after epoch
-abbrev pub AreExchangesOfEpochs : ℕ → List (List ShardHistory) → (ℕ → ℕ → List Step)
+-- and so did those of these epochs, epoch after epoch
+abbrev pub AreMessagesOfEpochs : ℕ → List (List ShardHistory) → (ℕ → ℕ → List Step)
     → List SentMessage → Type 0
-AreExchangesOfEpochs e [] steps sent = sent ≡ []
-AreExchangesOfEpochs e (shards ∷ later) steps sent =
+AreMessagesOfEpochs e [] steps sent = sent ≡ []
+AreMessagesOfEpochs e (shards ∷ later) steps sent =
     (first : List SentMessage) × (rest : List SentMessage) × (sent ≡ first ++ rest)
-    × AreExchangesOfShards 0 shards (steps e) first × AreExchangesOfEpochs (suc e) later steps rest
+    × AreMessagesOfShards 0 shards (steps e) first × AreMessagesOfEpochs (suc e) later steps rest
 
 -- the workers of these epochs made these steps, by their epoch and shard, and those of each epoch
 -- but the last one are done
@@ -63,7 +63,7 @@ AreAllDone e (shards ∷ later) steps =
 pub record IsRunOfEpochs (choice : Choice) (log : List Entry) (epochs : List (List ShardHistory))
     (steps : ℕ → ℕ → List Step) : Type 0 where
   pub sent : List SentMessage
-  pub exchanges : AreExchangesOfEpochs 0 epochs steps sent
+  pub messages : AreMessagesOfEpochs 0 epochs steps sent
   pub sends : SendsOwed choice log sent
   pub done : AreAllDone 0 epochs steps → (l : Labels) → NeverRefused l sent
       → acknowledged_in l sent ≡ owed_of choice log l

@@ -1,12 +1,15 @@
 -- What a worker sends, as the messages of a run.
-use Rattle.std.specs.Prelude.{◌≡◌, ℕ, false, List, [], ◌∷◌, ◌++◌, map, filter, take, if◌then◌else◌, Option, None, Some, Result, Ok, Err, slice_get, ⊤}
+use Rattle.std.specs.Prelude.{◌≡◌, ◌⊎◌, ℕ, true, false, List, [], ◌∷◌, ◌++◌, map, filter, take, if◌then◌else◌, Option, None, Some, Result, Ok, Err, slice_get, ⊤}
 use Rattle.std.specs.List.{AllByRecursion}
+use Rattle.std.specs.Ordering.{nat_cmp}
+use Rattle.std.specs.FinMap.{FinMap, get}
 use Rattle.rw_types.specs.Beginnings.{Begins}
 use Rattle.rw_types.specs.Labels.{Labels}
 use Rattle.rw_types.specs.LabelOrder.{labels_eq}
 use Rattle.rw_retry.specs.Judgements.{judgement_of}
 use Rattle.rw_retry.specs.declared.judgement.Judgement.{Judgement}
 use Rattle.rw_retry.specs.declared.judgement.Judgement.TheVariants.{Refused}
+use Rattle.rw_ledger.specs.declared.ledger.Reason.{Reason}
 use Rattle.rw_plain_queue.specs.Items.{Placed, samples_in}
 use Rattle.rw_batch.specs.Grouping.{message}
 use Rattle.rw_shard_core.specs.Shard.{IsReadAgain, is_empty, labelled, pending}
@@ -16,7 +19,7 @@ use Rattle.rw_worker.specs.declared.transport.Lost.{Lost}
 use Rattle.rw_worker.specs.Setups.{WorkerSetup, start_of}
 use Rattle.rw_worker.specs.Steps.{Step, AreSteps, after, items_of, exchanges_of}
 use Rattle.rw_worker.specs.Transcript.{Exchange, batch_request, is_again}
-use Rattle.rw_head.specs.Order.{Point}
+use Rattle.rw_head.specs.Order.{Point, holds}
 use Rattle.rw_restarts.specs.Parts.{points_in}
 use Rattle.rw_restarts.specs.Runs.{SentMessage, acknowledged_in, NoneRefused}
 
@@ -63,6 +66,26 @@ AreExchangesOfMessages target [] (x ∷ xs) = ⊥
 AreExchangesOfMessages target (e ∷ es) [] = ⊥
 AreExchangesOfMessages target (e ∷ es) (x ∷ xs) = IsExchangeOfMessage target e x × AreExchangesOfMessages target es xs
 
+-- an answer to one of these messages acknowledged the sample
+abbrev pub IsAcknowledged : List SentMessage → Placed → Type 0
+IsAcknowledged sent x = holds (x.t, x.word) (acknowledged_in x.labels sent) ≡ true
+
+-- the position is named, for whichever reason
+abbrev pub HasName : FinMap nat_cmp Reason → ℕ → Type 0
+HasName names p = (reason : Reason) × (get names p ≡ Some reason)
+
+-- the sample was acknowledged, or is named
+abbrev pub IsSettled : List SentMessage → FinMap nat_cmp Reason → Placed → Type 0
+IsSettled sent names x = IsAcknowledged sent x ⊎ HasName names x.place.pos
+
+-- Messages that a worker sent by these steps: they are those of its exchanges. Each sample that is
+-- resolved was acknowledged, or the worker's part of the ledger names it.
+pub record AreMessagesOfWorker (setup : WorkerSetup) (steps : List Step) (sent : List SentMessage)
+    : Type 0 where
+  pub exchanges : AreExchangesOfMessages setup.target (exchanges_of steps) sent
+  pub resolved : AllByRecursion (IsSettled sent (after (start_of setup) steps).ledger.names)
+      (after (start_of setup) steps).core.resolved
+
 -- each message has of each label set what comes next of these samples after those that were
 -- acknowledged before, unless a message with that label set was refused
 abbrev pub SendsSamples : List Placed → List SentMessage → Type 0
@@ -80,12 +103,12 @@ abbrev pub HasResolvedAll : WorkerSetup → List Step → Type 0
 HasResolvedAll setup steps =
     (after (start_of setup) steps).core.resolved ≡ samples_in (items_of steps)
 
--- The exchanges of these steps are those of messages that send the samples that were taken. If all
+-- By these steps a worker sent messages that send the samples that were taken. If all
 -- of these are resolved, all samples of a label set of which no message was refused are
 -- acknowledged.
 pub record WorkerSendsSamples (setup : WorkerSetup) (steps : List Step) : Type 0 where
   pub sent : List SentMessage
-  pub exchanges : AreExchangesOfMessages setup.target (exchanges_of steps) sent
+  pub messages : AreMessagesOfWorker setup steps sent
   pub sends : SendsSamples (samples_in (items_of steps)) sent
   pub done : HasResolvedAll setup steps → (l : Labels) → NeverRefused l sent
       → acknowledged_in l sent ≡ samples_in_batch l (samples_in (items_of steps))

@@ -8,11 +8,12 @@ mod receivers;
 mod relay;
 mod runs;
 mod senders;
+mod stopped;
 mod workers;
 
 pub use examples::a_small_history_is_allowed;
 pub use logs::{a_run_over_a_part_is_a_run_over_the_log, many_runs_hold_one_log};
-pub use receivers::a_kept_head_is_such_a_receiver;
+pub use receivers::{a_kept_head_is_such_a_receiver, an_endpoint_is_such_a_receiver};
 pub use relay::{
     a_relay_holds_what_the_first_receiver_holds, a_report_names_what_a_relay_lacks,
     what_was_read_stays_in_the_log,
@@ -22,4 +23,5 @@ pub use runs::{
     what_comes_next_is_accepted,
 };
 pub use senders::{a_sender_is_a_run, what_is_put_is_what_is_owed};
+pub use stopped::{a_stopped_shipper_adds_its_samples, a_stopped_shipper_is_such_a_sender};
 pub use workers::{a_batch_has_its_samples, a_worker_sends_in_order, a_worker_sends_its_samples};

@@ -1,10 +1,16 @@
-//! The law of a head over a journal, as a receiver that is started again. The function has an empty
-//! body: its contract is the law.
+//! Laws of an endpoint, and of a head over a journal, as a receiver that is started again. Each
+//! function has an empty body: its contract is the law.
 
-ghost use Rattle.std.specs.Prelude.{ℕ};
+ghost use Rattle.std.specs.Prelude.{◌≢◌, ℕ};
 ghost use Rattle.rw_types.specs.Beginnings.{Begins};
 ghost use Rattle.rw_types.specs.Labels.{Labels};
 ghost use Rattle.rw_write_request.specs.Message.{WriteRequest};
+ghost use Rattle.rw_machine.specs.Worlds.{Setup};
+ghost use Rattle.rw_machine.specs.declared.event.How.{How};
+ghost use Rattle.rw_worker.specs.Transcript.{Exchange};
+ghost use Rattle.rw_simulation.specs.Arrivals.{Receives};
+ghost use Rattle.rw_restarts.specs.Runs.{SentMessage};
+ghost use Rattle.rw_restarts.specs.Workers.{IsExchangeOfMessage};
 ghost use Rattle.rw_retry.specs.Judgements.{judgement_of};
 ghost use Rattle.rw_head.specs.Head.{State};
 ghost use Rattle.rw_head.specs.Store.{Store, list_of};
@@ -25,4 +31,16 @@ pub fn a_kept_head_is_such_a_receiver()
         → ((l : Labels) → Begins (list_of acknowledged l) (list_of old l))
         → LiesBetween old most left → SaysWhat left again
         → IsRestarted (state_of old acknowledged) most (state_of again acknowledged) }
+{}
+
+/// Law: what came over the wire is an answer to a message, as these laws ask of a receiver. The
+/// receiver read the bytes that the exchange carries, and answered them as its endpoint answers the
+/// batch in them, or turned them away without a look at them (`Receives`). It did not find the body
+/// too long.
+pub fn an_endpoint_is_such_a_receiver()
+    ensures { (c : Setup) (how : How) (e : Exchange) (x : SentMessage) (old : State) (status : ℕ)
+        (new : State) (acknowledged : Store) → IsExchangeOfMessage c.target e x
+        → Receives c how e.request old status new → status ≢ 413
+        → AnswersAs old.limits x.message (judgement_of status) (state_of old.store acknowledged)
+        (state_of new.store (acknowledged_after (judgement_of status) acknowledged new.store)) }
 {}

@@ -16,3 +16,6 @@ returns-clause-runs c = runs-are-over
 
 pub returns-clause-receiver : goal.returns-clause-receiver
 returns-clause-receiver c = receiver-is
+
+pub returns-clause-places : goal.returns-clause-places
+returns-clause-places c x y z = refl
