@@ -1,11 +1,13 @@
 //! A folder of segments as the operating system has it, with the file of the last one.
 
 use crate::fault::{FaultCause, FolderCall, FolderFault, cause_of};
+use crate::folder_monitor::FolderMonitor;
 use std::alloc::{AllocError, Global};
 use std::fs::{OpenFile, OpenOptions};
 use std::io::{ErrorKind, Read, Seek, SeekFrom, Write};
 use std::path::{Path, PathBuf};
 use std::rt::Files;
+use std::time::{Clock, Instant};
 use std::{fs, io};
 
 /// The greatest number of a segment, whose name has eight digits.
@@ -21,6 +23,7 @@ pub(crate) struct FolderHandle<R: Files> {
     number: Option<u64>,
     file: Option<R::File>,
     fault: Option<FolderFault>,
+    monitor: FolderMonitor,
 }
 
 /// Returns the number of the segment after this one.
@@ -46,9 +49,14 @@ fn read_from<F: Read + Seek>(alloc: Global, file: &mut F, offset: u64) -> io::Re
     Ok(bytes)
 }
 
-impl<R: Files + AllocGlobal + Copy> FolderHandle<R> {
+impl<R: Files + Clock + AllocGlobal + Copy> FolderHandle<R> {
     /// Returns a folder whose last segment has this number and this file.
-    pub(crate) fn new(rt: R, dir: String, last: Option<(u64, R::File)>) -> FolderHandle<R> {
+    pub(crate) fn new(
+        rt: R,
+        dir: String,
+        last: Option<(u64, R::File)>,
+        monitor: FolderMonitor,
+    ) -> FolderHandle<R> {
         let (number, file) = match last {
             Some((number, file)) => (Some(number), Some(file)),
             None => (None, None),
@@ -59,6 +67,7 @@ impl<R: Files + AllocGlobal + Copy> FolderHandle<R> {
             number,
             file,
             fault: None,
+            monitor,
         }
     }
 
@@ -144,7 +153,19 @@ impl<R: Files + AllocGlobal + Copy> FolderHandle<R> {
         }
     }
 
-    /// Keeps the fault of a call that failed.
+    /// Counts a sync that began then, if it has succeeded.
+    fn count_sync(&self, begun: Option<Instant>, outcome: &io::Result<()>) {
+        if outcome.is_err() {
+            return;
+        }
+        let took = match begun {
+            Some(begun) => begun.elapsed(&self.rt).ok(),
+            None => None,
+        };
+        self.monitor.count_sync(took);
+    }
+
+    /// Keeps the fault of a call that failed, and counts it.
     fn end(&mut self, call: FolderCall, outcome: io::Result<()>) -> Result<(), FolderFault> {
         match outcome {
             Ok(()) => Ok(()),
@@ -155,6 +176,7 @@ impl<R: Files + AllocGlobal + Copy> FolderHandle<R> {
                     cause: cause_of(&error),
                 };
                 self.fault = Some(fault);
+                self.monitor.count_failure();
                 Err(fault)
             }
         }
@@ -166,6 +188,9 @@ impl<R: Files + AllocGlobal + Copy> FolderHandle<R> {
             return Err(fault);
         }
         let outcome = self.write(bytes);
+        if outcome.is_ok() {
+            self.monitor.count_bytes(bytes.len());
+        }
         self.end(FolderCall::Write, outcome)
     }
 
@@ -193,7 +218,9 @@ impl<R: Files + AllocGlobal + Copy> FolderHandle<R> {
         if let Some(fault) = self.fault {
             return Err(fault);
         }
+        let begun = Instant::now(&self.rt).ok();
         let outcome = self.sync_file();
+        self.count_sync(begun, &outcome);
         self.end(FolderCall::Sync, outcome)
     }
 
@@ -202,7 +229,9 @@ impl<R: Files + AllocGlobal + Copy> FolderHandle<R> {
         if let Some(fault) = self.fault {
             return Err(fault);
         }
+        let begun = Instant::now(&self.rt).ok();
         let outcome = self.sync_dir();
+        self.count_sync(begun, &outcome);
         self.end(FolderCall::SyncFolder, outcome)
     }
 
@@ -212,6 +241,9 @@ impl<R: Files + AllocGlobal + Copy> FolderHandle<R> {
             return Err(fault);
         }
         let outcome = self.create();
+        if outcome.is_ok() {
+            self.monitor.count_segment();
+        }
         self.end(FolderCall::Create, outcome)
     }
 }

@@ -15,6 +15,7 @@ use rw_journal::JournalError;
 use std::collections::VecDeque;
 use std::marker::Model;
 use std::rt::Files;
+use std::time::Clock;
 
 /// The files of a folder. Contracts see what was loaded, and what was asked of the operating system
 /// since then; what the files hold and what a crash may leave of them is defined by that.
@@ -43,17 +44,17 @@ impl<R: Files> Model for OpenFolder<R> {
 }
 
 /// Returns the error of a call that failed, and adds the fault to the record.
-fn fail(record: &mut Record, fault: FolderFault) -> JournalError
-    ensures { record.new ≡ record record.old { faults = record.old.faults + 1 } }
+fn fail(noted: &mut Record, fault: FolderFault) -> JournalError
+    ensures { noted.new ≡ record noted.old { faults = noted.old.faults + 1 } }
 {
-    record.fail(&fault);
+    noted.fail(&fault);
     match fault.cause {
         FaultCause::OutOfMemory => JournalError::OutOfMemory,
         _ => JournalError::Failed,
     }
 }
 
-impl<R: Files + AllocGlobal + Copy> OpenFolder<R> {
+impl<R: Files + Clock + AllocGlobal + Copy> OpenFolder<R> {
     /// Returns the files of a folder whose segments have these texts, which the record says were
     /// loaded.
     pub(crate) fn new(
@@ -81,7 +82,7 @@ impl<R: Files + AllocGlobal + Copy> OpenFolder<R> {
     }
 }
 
-impl<R: Files + AllocGlobal + Copy> SegmentFiles for OpenFolder<R> {
+impl<R: Files + Clock + AllocGlobal + Copy> SegmentFiles for OpenFolder<R> {
     ghost seen = { λ f. seen_of f };
 
     ghost may_leave = { λ f c. MayLeave f c };

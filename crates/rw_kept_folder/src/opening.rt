@@ -8,6 +8,7 @@ use crate::fault::{FolderCall, FolderFault, cause_of};
 use crate::folder_error::FolderError;
 use crate::folder_handle::FolderHandle;
 use crate::folder_journal::FolderJournal;
+use crate::folder_monitor::FolderMonitor;
 use crate::open_folder::OpenFolder;
 use crate::record::Record;
 use rw_log_folder::{SegmentName, segment_names};
@@ -17,6 +18,7 @@ use std::fs::{OpenFile, OpenOptions};
 use std::io::{ErrorKind, Read};
 use std::path::Path;
 use std::rt::Files;
+use std::time::Clock;
 use std::{fs, io};
 
 /// Returns the error of a call on a segment.
@@ -83,22 +85,22 @@ fn read_file<R: Files + AllocGlobal + Copy>(rt: &R, dir: &str, name: &str) -> io
     Ok(bytes)
 }
 
-/// Reads the segments into memory, and adds them to a record.
+/// Reads the segments into memory, and notes them in a record.
 fn load_all<R: Files + AllocGlobal + Copy>(
     rt: &R,
     dir: &str,
     names: &[SegmentName],
     texts: &mut VecDeque<Vec<u8>>,
-    record: &mut Record,
+    noted: &mut Record,
 ) -> Result<(), FolderError>
-    requires { map (λ v. v.items) texts.old.items ≡ record.old.loaded }
-    ensures loaded { OnOk result (map (λ v. v.items) texts.new.items ≡ record.new.loaded) }
-    ensures calls { record.new.calls ≡ record.old.calls }
+    requires { map (λ v. v.items) texts.old.items ≡ noted.old.loaded }
+    ensures loaded { OnOk result (map (λ v. v.items) texts.new.items ≡ noted.new.loaded) }
+    ensures calls { noted.new.calls ≡ noted.old.calls }
 {
     for name in names {
         match read_file(rt, dir, name.name.as_str()) {
             Ok(text) => {
-                record.load(&text);
+                noted.load(&text);
                 texts.push_back(text)?;
             }
             Err(error) => return Err(error_of(FolderCall::Read, name.number, &error)),
@@ -138,18 +140,20 @@ fn open_last<R: Files + AllocGlobal + Copy>(
 /// them. Segments are the files whose names are one to eight digits; other files are skipped.
 ///
 /// A folder in which a number is missing or is there twice, or which has a checkpoint, is refused.
-pub fn open_journal<R: Files + AllocGlobal + Copy>(
+/// The monitor counts the calls that the journal makes from then on.
+pub fn open_journal<R: Files + Clock + AllocGlobal + Copy>(
     rt: &R,
     dir: &str,
+    monitor: FolderMonitor,
 ) -> Result<FolderJournal<OpenFolder<R>>, FolderError>
     ensures { IfOk result (λ j. Only (seen_of j) (MayLeave j)) }
 {
     let alloc = rt.alloc();
     let names = list(rt, dir)?;
     let mut texts = VecDeque::new(alloc);
-    let mut record = Record::new();
-    load_all(rt, dir, &names, &mut texts, &mut record)?;
+    let mut noted = Record::new();
+    load_all(rt, dir, &names, &mut texts, &mut noted)?;
     let last = open_last(rt, dir, &names)?;
-    let handle = FolderHandle::new(*rt, String::from_str(alloc, dir)?, last);
-    Ok(FolderJournal::new(OpenFolder::new(handle, texts, record)))
+    let handle = FolderHandle::new(*rt, String::from_str(alloc, dir)?, last, monitor);
+    Ok(FolderJournal::new(OpenFolder::new(handle, texts, noted)))
 }

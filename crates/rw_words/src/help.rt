@@ -20,7 +20,8 @@ pub(crate) const LOG: &str = "\
 Example:
   printf 'series 1 {__name__=\"up\"}\\nsample 1 1000 1\\n' | rwship log --dir wal
 
-docs/REPLAY.md describes the lines, there with 'log' before them. The folder of --dir must exist.
+docs/REPLAY.md describes the lines, which a script has after the word 'log'. The folder of --dir must
+exist. Files that it has already are not removed: 'send' ships them too if their numbers go on.
 
 Exit status: 0; 1 for a bad line or a full segment; 2 for bad options; 3 out of memory; 4 if a file,
 standard input or output failed.";
@@ -46,7 +47,7 @@ Example:
 
 It prints a row for each segment, a row for all of them, and how many samples 'send' would drop
 without rules. docs/OPERATING.md shows a table, and what is printed at a fault. With --at it prints
-the entry at each position instead, a sample with the labels that its reference has there.
+the entry at each position instead, and the labels of a sample.
 
 Exit status: 0; 1 if the log has a fault, after its report, or if a position has no entry; 2 for bad
 options; 3 out of memory; 4 if a file, standard input or output failed.";
@@ -84,8 +85,8 @@ server that runs. A server removes its oldest segments and keeps their series in
 
 --follow ends when standard input ends or, with --stop-file, when FILE exists: it ships what the log
 has, and prints its report. A line 'hard', on standard input or as the first line of FILE, ends it at
-once. The report lists each sample that was not taken; docs/OPERATING.md explains its lines, and
-docs/SETTINGS.md the settings.
+once. The report lists each sample that was dropped or is left. docs/OPERATING.md explains its lines,
+and docs/SETTINGS.md the settings.
 
 Exit status: 0 if each sample is acknowledged, dropped or filtered (look for 'dropped' lines); 1 if the
 log has a fault, with --fail-on-drop if samples were dropped, with --fail-on-skip if records were
@@ -110,7 +111,9 @@ is printed at the end.
 
 With --dir each request is written to the log in DIR and synced before it is acknowledged, and at its
 start the receiver holds what DIR has. DIR must exist, and may be empty. Without --dir what it holds is
-in memory only. docs/OPERATING.md explains more, and docs/SETTINGS.md the settings.
+in memory only. After a write to DIR that failed each request is answered with 503 until the receiver
+is stopped; with --end-on-write-error it stops at once. docs/OPERATING.md explains more, and
+docs/SETTINGS.md the settings.
 
 Exit status: 0; 1 if the log in DIR has a fault; 2 for bad options or settings; 3 out of memory; 4 if a
 file, the folder DIR, the network or standard output failed.";

@@ -111,6 +111,8 @@ pub struct Receiving<'a> {
     pub dir: Option<&'a str>,
     /// Whether what is held is not printed at the end.
     pub is_quiet: bool,
+    /// Whether it stops once a write to that folder has failed.
+    pub ends_on_write_error: bool,
     pub reporting: Reporting<'a>,
 }
 

@@ -40,6 +40,7 @@ pub(crate) fn receive_task<'a>(
             max_series: options.get_one::<u64>("max-series"),
             dir: options.get_str("dir"),
             is_quiet: options.get_flag("quiet"),
+            ends_on_write_error: options.get_flag("end-on-write-error"),
             reporting,
         },
     })

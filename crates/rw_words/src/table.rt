@@ -295,7 +295,7 @@ static SEND: Words = Words {
             name: "fail-on-skip",
             takes: Takes::Nothing,
             bonds: &[],
-            help: "End with status 1 if records were skipped that may hold samples, as of histograms",
+            help: "End with status 1 if records were skipped that may hold samples, such as histograms",
         },
         Opt {
             name: "max-batch-bytes",
@@ -353,7 +353,7 @@ static RECEIVE: Words = Words {
             name: "request-ms",
             takes: Takes::NumberOr(10, 3_600_000, "60000"),
             bonds: &[],
-            help: "Close a connection whose request takes more than N milliseconds and 1 more for each byte, 10 to 3600000",
+            help: "Close a connection whose request takes longer than N milliseconds plus 1 for each byte, 10 to 3600000",
         },
         Opt {
             name: "max-samples",
@@ -378,6 +378,12 @@ static RECEIVE: Words = Words {
             takes: Takes::Nothing,
             bonds: &[Bond::Needs("dir")],
             help: "With --dir: do not print at the end what is held",
+        },
+        Opt {
+            name: "end-on-write-error",
+            takes: Takes::Nothing,
+            bonds: &[Bond::Needs("dir"), Bond::Excludes("connections")],
+            help: "With --dir: stop once a write to DIR has failed, and end with status 4",
         },
         PROGRESS,
         METRICS,

@@ -169,7 +169,7 @@ pub fn report_bad_arguments(rt: &HostRuntime, text: &str) -> ExitCode
 pub fn report_bad_address(rt: &HostRuntime, words: &ArgMatches<'_>) -> ExitCode {
     if let Some((option, value)) = bad_address(words) {
         let _ = eprintln!(rt;
-            "error: invalid value '{value}' for '--{option} <HOST:PORT>': a host, a colon and a port from 1 to 65535\n"
+            "error: invalid value '{value}' for '--{option} <HOST:PORT>': expected a host, a colon and a port from 1 to 65535\n"
         );
     }
     report_bad_arguments(rt, "For more information, try '--help'.")

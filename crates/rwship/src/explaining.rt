@@ -9,12 +9,11 @@ use std::alloc::AllocError;
 use std::process::ExitCode;
 
 /// The note on a line that is not made of digits.
-const NO_DIGITS: &str =
-    "a character is neither a hexadecimal digit nor white space, or the last digit has no second one";
+const NO_DIGITS: &str = "expected pairs of lower-case hexadecimal digits; white space is ignored";
 
 /// The note on a script that mixes the two ways of letting its log grow.
 const MIXED: &str =
-    "a script lets its log grow by 'log' lines or by 'feed' and 'segment' lines, and not by both";
+    "a script has 'log' lines, or 'feed' and 'segment' lines, but not both; this line is the first of the other kind";
 
 /// Prints where a segment is damaged.
 fn print_segment_damage(rt: &HostRuntime, segment: &[u8]) -> Result<(), ToolFault> {

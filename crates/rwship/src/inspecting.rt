@@ -49,7 +49,7 @@ pub fn passes_checkpoint_over(rt: &HostRuntime, dir: LogDir<'_>) -> bool {
 pub fn note_checkpoint(rt: &HostRuntime, dir: LogDir<'_>) {
     if passes_checkpoint_over(rt, dir) {
         let _ = eprintln!(rt;
-            "rwship: the newest checkpoint is passed over; --checkpoint reads it"
+            "rwship: the newest checkpoint is not read; give --checkpoint to read it"
         );
     }
 }

@@ -3,9 +3,12 @@
 use crate::bounds::service_of;
 use crate::ending::report_result;
 use crate::reporting::is_watched;
-use crate::stopping::stop_signal;
+use crate::stopping::{finish_on_write_error, stop_signal};
+use rw_follow::StopSignal;
 use rw_head::Limits;
-use rw_kept_folder::{FolderError, FolderFault, FolderJournal, OpenFolder, open_journal};
+use rw_kept_folder::{
+    FolderError, FolderFault, FolderJournal, FolderMonitor, OpenFolder, open_journal,
+};
 use rw_kept_head::{KeptHead, OpenError, Opened};
 use rw_metrics::ReceiveCounters;
 use rw_receive::{FinalHead, serve_connections, serve_until_stop};
@@ -13,12 +16,13 @@ use rw_reopen::ReopenError;
 use rw_text::ToolFault;
 use rw_types::Std;
 use rw_words::{Receiving, Until};
+use std::alloc::{AllocError, Global};
 use std::fs;
 use std::fs::{File, TryLockError};
 use std::io::Error;
 use std::net::TcpListener;
 use std::process::ExitCode;
-use std::sync::Wait;
+use std::sync::{Arc, Wait};
 use std::thread::Threads;
 use std::time::Clock;
 
@@ -54,9 +58,24 @@ pub fn lock_folder(rt: &HostRuntime, dir: &str) -> Result<File, KeepError> {
     }
 }
 
-/// Opens the log in a folder.
-pub fn open_head(rt: &HostRuntime, limits: &Limits, dir: &str) -> Result<Opened<Log>, KeepError> {
-    let journal = match open_journal(rt, dir) {
+/// Returns the journal in a folder. The counters count what is written to it.
+fn open_counted(
+    rt: &HostRuntime,
+    dir: &str,
+    counters: &Arc<ReceiveCounters, Global>,
+) -> Result<Log, FolderError> {
+    let monitor = FolderMonitor::new(Arc::try_clone(counters)?);
+    open_journal(rt, dir, monitor)
+}
+
+/// Opens the log in a folder. The counters count what is written to it.
+pub fn open_head(
+    rt: &HostRuntime,
+    limits: &Limits,
+    dir: &str,
+    counters: &Arc<ReceiveCounters, Global>,
+) -> Result<Opened<Log>, KeepError> {
+    let journal = match open_counted(rt, dir, counters) {
         Ok(journal) => journal,
         Err(error) => return Err(KeepError::Folder(error)),
     };
@@ -125,6 +144,25 @@ fn serve_some<R: Threads + Wait + Clock + Sync>(
     serve_connections(threads, rt.alloc(), limits, service, listener, head)
 }
 
+/// Returns the stop signal of a receiver that keeps a log, which a failed write sets too if that is
+/// asked for.
+fn stop_signal_of<R: Threads>(
+    rt: &HostRuntime,
+    threads: &R,
+    receiving: &Receiving<'_>,
+    counters: &Arc<ReceiveCounters, Global>,
+) -> Result<Arc<StopSignal, Global>, AllocError> {
+    let stop_file = match &receiving.until {
+        Until::FileIs(path) => Some(*path),
+        _ => None,
+    };
+    let signal = stop_signal(rt, threads, stop_file, None)?;
+    if receiving.ends_on_write_error {
+        finish_on_write_error(rt, threads, counters, &signal)?;
+    }
+    Ok(signal)
+}
+
 /// Serves connections until a stop is requested, over a head whose log is in a folder.
 fn serve_until<R: Threads + Wait + Clock + Sync>(
     rt: &HostRuntime,
@@ -132,14 +170,10 @@ fn serve_until<R: Threads + Wait + Clock + Sync>(
     limits: &Limits,
     listener: TcpListener,
     receiving: &Receiving<'_>,
-    counters: &ReceiveCounters,
+    counters: &Arc<ReceiveCounters, Global>,
     head: FolderHead,
 ) -> Result<FinalHead<FolderHead>, ToolFault> {
-    let stop_file = match &receiving.until {
-        Until::FileIs(path) => Some(*path),
-        _ => None,
-    };
-    let signal = stop_signal(rt, threads, stop_file, None)?;
+    let signal = stop_signal_of(rt, threads, receiving, counters)?;
     let service = service_of(receiving, counters);
     serve_until_stop(
         threads,
@@ -160,7 +194,7 @@ pub fn serve_kept<R: Threads + Wait + Clock + Sync>(
     limits: &Limits,
     listener: TcpListener,
     receiving: &Receiving<'_>,
-    counters: &ReceiveCounters,
+    counters: &Arc<ReceiveCounters, Global>,
     head: FolderHead,
 ) -> Result<FolderHead, ToolFault> {
     let served = match &receiving.until {

@@ -121,7 +121,7 @@ fn read_arguments(rt: &HostRuntime) -> Result<Vec<String>, ExitCode> {
         }
         Err(_) => Err(report_bad_arguments(
             rt,
-            "error: a word is not UTF-8\n\nFor more information, try '--help'.",
+            "error: an argument is not UTF-8\n\nFor more information, try '--help'.",
         )),
     }
 }

@@ -88,25 +88,31 @@ fn serve<R: Threads + Wait + Clock + Sync>(
 }
 
 /// Returns counters that have counted nothing.
-fn new_counters(rt: &HostRuntime) -> Result<Arc<ReceiveCounters, Global>, AllocError> {
-    let counters = ReceiveCounters::new(rt.alloc())?;
-    Ok(Arc::new(rt.alloc(), counters)?)
-}
-
-/// Returns new counters, which are reported from here on as far as that is asked for.
-fn reported_counters<R: Threads>(
+fn new_counters(
     rt: &HostRuntime,
-    threads: &R,
     receiving: &Receiving<'_>,
-) -> Result<Arc<ReceiveCounters, Global>, ToolFault> {
-    let counters = new_counters(rt)?;
+) -> Result<Arc<ReceiveCounters, Global>, AllocError> {
+    let counters = match receiving.dir {
+        Some(_) => ReceiveCounters::of_kept_log(rt.alloc())?,
+        None => ReceiveCounters::new(rt.alloc())?,
+    };
     counters.set_limits(
         receiving.max_samples.unwrap_or(0),
         receiving.max_series.unwrap_or(0),
     );
-    let shown = Counters::Receive(Arc::try_clone(&counters)?);
+    Ok(Arc::new(rt.alloc(), counters)?)
+}
+
+/// Reports these counters from here on, as far as that is asked for. Returns them as what is shown.
+fn report_counters<R: Threads>(
+    rt: &HostRuntime,
+    threads: &R,
+    receiving: &Receiving<'_>,
+    counters: &Arc<ReceiveCounters, Global>,
+) -> Result<Counters, ToolFault> {
+    let shown = Counters::Receive(Arc::try_clone(counters)?);
     begin_reporting(rt, threads, &receiving.reporting, &shown)?;
-    Ok(counters)
+    Ok(shown)
 }
 
 /// Serves connections, and reports how that goes as far as it is asked for.
@@ -117,9 +123,10 @@ fn serve_and_report<R: Threads + Wait + Clock + Sync>(
     listener: TcpListener,
     receiving: &Receiving<'_>,
 ) -> Result<(), ToolFault> {
-    let counters = reported_counters(rt, threads, receiving)?;
+    let counters = new_counters(rt, receiving)?;
+    let shown = report_counters(rt, threads, receiving, &counters)?;
     let outcome = serve(rt, threads, settings, listener, receiving, &counters);
-    end_reporting(rt, &receiving.reporting, &Counters::Receive(counters));
+    end_reporting(rt, &receiving.reporting, &shown);
     outcome
 }
 
@@ -131,19 +138,20 @@ fn keep<R: Threads + Wait + Clock + Sync>(
     settings: &Settings,
     listener: TcpListener,
     receiving: &Receiving<'_>,
+    counters: &Arc<ReceiveCounters, Global>,
     head: FolderHead,
 ) -> Result<FolderHead, ToolFault> {
-    let counters = reported_counters(rt, threads, receiving)?;
+    let shown = report_counters(rt, threads, receiving, counters)?;
     let outcome = serve_kept(
         rt,
         threads,
         &settings.limits,
         listener,
         receiving,
-        &counters,
+        counters,
         head,
     );
-    end_reporting(rt, &receiving.reporting, &Counters::Receive(counters));
+    end_reporting(rt, &receiving.reporting, &shown);
     outcome
 }
 
@@ -160,10 +168,14 @@ fn receive_into<R: Threads + Wait + Clock + Sync>(
         Ok(lock) => lock,
         Err(error) => return report_keep_error(rt, dir, error),
     };
-    let status = match open_head(rt, &settings.limits, dir) {
+    let Ok(counters) = new_counters(rt, receiving) else {
+        return report_result(rt, Err(ToolFault::OutOfMemory));
+    };
+    let status = match open_head(rt, &settings.limits, dir, &counters) {
         Ok(opened) => {
             report_opened(rt, dir, &opened, receiving);
-            let outcome = keep(rt, threads, settings, listener, receiving, opened.kept);
+            let head = opened.kept;
+            let outcome = keep(rt, threads, settings, listener, receiving, &counters, head);
             report_kept(rt, dir, outcome)
         }
         Err(error) => report_keep_error(rt, dir, error),

@@ -238,7 +238,7 @@ fn note_lost_series(rt: &HostRuntime, sending: &Sending<'_>, counters: &SendCoun
         let count = numbers.drops.no_series;
         if count > 0 && passes_checkpoint_over(rt, sending.dir) {
             let _ = eprintln!(rt;
-                "  samples without a series: {count}; --checkpoint reads series from the newest checkpoint"
+                "  samples without a series: {count}; give --checkpoint to read the series of the newest checkpoint"
             );
         }
     }
@@ -253,7 +253,7 @@ fn note_skipped(rt: &HostRuntime, count: u64) {
     }
 }
 
-/// Explains which samples are missing for want of a series, or since they are not read.
+/// Explains which samples are missing because they have no series, or because they are not read.
 fn explain_missing(rt: &HostRuntime, sending: &Sending<'_>, counters: &SendCounters) {
     note_lost_series(rt, sending, counters);
     note_skipped(rt, counters.skipped().lost());

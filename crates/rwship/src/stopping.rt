@@ -1,10 +1,15 @@
 //! The stop signal of the program.
 
 use rw_follow::{StopRequest, StopSignal, watch_file, watch_input};
+use rw_metrics::ReceiveCounters;
 use rw_send::StopFlag;
 use std::alloc::{AllocError, Global};
 use std::sync::Arc;
 use std::thread::{self, Threads};
+use std::time::Duration;
+
+/// How many milliseconds pass between two looks at the counters of a log.
+const LOOK_MS: u64 = 200;
 
 /// Sets the flag of the workers if an end at once is requested: they do not see the signal.
 fn forward_abort(signal: &StopSignal, workers: &Option<StopFlag>) {
@@ -43,4 +48,46 @@ pub fn stop_signal<R: Threads>(
     };
     drop(watcher);
     Ok(signal)
+}
+
+/// Returns whether a write to the log of a folder has failed. The answer is `false` if memory runs
+/// out for it.
+fn has_failed(alloc: Global, counters: &ReceiveCounters) -> bool {
+    match counters.numbers(alloc) {
+        Ok(numbers) => match numbers.kept {
+            Some(kept) => kept.failed > 0,
+            None => false,
+        },
+        Err(_) => false,
+    }
+}
+
+/// Looks five times a second whether a write to the log of a folder has failed, and then asks to
+/// finish.
+fn watch_writes(rt: &HostRuntime, counters: &ReceiveCounters, signal: &StopSignal) {
+    for _ in 0..u64::MAX {
+        if has_failed(rt.alloc(), counters) {
+            signal.finish();
+            return;
+        }
+        thread::sleep(rt, Duration::from_millis(LOOK_MS));
+    }
+}
+
+/// Has the signal ask to finish once these counters count a failed write to the log of a folder.
+/// The thread that does so is never joined.
+pub fn finish_on_write_error<R: Threads>(
+    rt: &HostRuntime,
+    threads: &R,
+    counters: &Arc<ReceiveCounters, Global>,
+    signal: &Arc<StopSignal, Global>,
+) -> Result<(), AllocError> {
+    let counters = Arc::try_clone(counters)?;
+    let signal = Arc::try_clone(signal)?;
+    let host = *rt;
+    let watcher = thread::spawn(threads, move || {
+        watch_writes(&host, &counters, &signal);
+    })?;
+    drop(watcher);
+    Ok(())
 }

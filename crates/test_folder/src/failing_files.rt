@@ -6,6 +6,7 @@ use std::fs::{Metadata, OpenFile, OpenOptions};
 use std::io;
 use std::io::{ErrorKind, Read, Seek, SeekFrom, Write};
 use std::rt::Files;
+use std::time::{Clock, Duration};
 
 /// Counts calls down, and has the one at zero fail.
 #[derive(Drop)]
@@ -105,6 +106,16 @@ impl<'a, R: Alloc<A = Global>> Alloc for FailingFiles<'a, R> {
 
     fn alloc(&self) -> Global {
         self.rt.alloc()
+    }
+}
+
+impl<'a, R: Clock> Clock for FailingFiles<'a, R> {
+    fn monotonic(&self) -> io::Result<Duration> {
+        self.rt.monotonic()
+    }
+
+    fn since_1970(&self) -> io::Result<Duration> {
+        self.rt.since_1970()
     }
 }
 

@@ -7,12 +7,13 @@ ghost use Rattle.rw_journal.specs.Journal.{Only};
 use crate::failing_files::{Countdown, FailingFiles};
 use crate::folder_journals::make_folder;
 use rw_journal::{Journal, JournalError};
-use rw_kept_folder::open_journal;
+use rw_kept_folder::{FolderMonitor, open_journal};
 use std::alloc::Global;
 use std::fs;
 use std::path::Path;
 use std::rt::Files;
 use std::test::Fail;
+use std::time::Clock;
 
 /// Returns whether a file of a folder has this text; `None` means that it does not exist.
 fn has_text(rt: &HostRuntime, dir: Path<'_>, file: &str, text: Option<&str>) -> bool {
@@ -51,8 +52,8 @@ fn go_on<J: Journal>(journal: &mut J, alloc: Global) -> Result<bool, JournalErro
 }
 
 /// Opens the folder and goes on. Returns whether all of it succeeded.
-fn open_and_go_on<R: Files + AllocGlobal + Copy>(rt: &R, dir: &str) -> bool {
-    match open_journal(rt, dir) {
+fn open_and_go_on<R: Files + Clock + AllocGlobal + Copy>(rt: &R, dir: &str) -> bool {
+    match open_journal(rt, dir, FolderMonitor::none()) {
         Ok(journal) => {
             let mut journal = journal;
             go_on(&mut journal, rt.alloc()) == Ok(true)
@@ -68,7 +69,7 @@ fn a_folder_is_written_cut_and_read_again(rt: HostRuntime) -> Result<(), Fail> {
         "rwship-a-journal",
         &[("lock", "x"), ("torn-00000007", "y")],
     )?;
-    let mut journal = open_journal(&rt, dir.as_path().as_str())?;
+    let mut journal = open_journal(&rt, dir.as_path().as_str(), FolderMonitor::none())?;
     assert_eq!(rt; journal.count(), 0);
     journal.begin()?;
     write_segment(&mut journal, "abc")?;

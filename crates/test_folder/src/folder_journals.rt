@@ -1,7 +1,10 @@
-//! Journals in the files of a folder: which folders are refused, and why.
+//! Journals in the files of a folder: which folders are refused, and why, and what is counted.
 
-use rw_kept_folder::{FaultCause, FolderError, open_journal};
-use std::path::PathBuf;
+use rw_journal::Journal;
+use rw_kept_folder::{FaultCause, FolderError, FolderMonitor, open_journal};
+use rw_metrics::{KeptNumbers, ReceiveCounters};
+use std::path::{Path, PathBuf};
+use std::sync::Arc;
 use std::test::Fail;
 use std::{env, fs};
 
@@ -55,7 +58,7 @@ static REFUSED: [Refused; 4] = [
 fn first_not_refused(rt: &HostRuntime) -> Result<Option<&'static str>, Fail> {
     for row in &REFUSED {
         let dir = make_folder(rt, "rwship-a-refused-journal", row.files)?;
-        let error = open_journal(rt, dir.as_path().as_str()).err();
+        let error = open_journal(rt, dir.as_path().as_str(), FolderMonitor::none()).err();
         fs::remove_dir_all(rt, dir.as_path())?;
         if error != Some(row.error) {
             return Ok(Some(row.name));
@@ -75,8 +78,8 @@ fn a_folder_that_cannot_be_listed_says_why(rt: HostRuntime) -> Result<(), Fail> 
     let dir = make_folder(&rt, "rwship-an-unlisted-journal", &[("00000000", "a")])?;
     let file = dir.as_path().join(rt.alloc(), "00000000")?;
     let none = dir.as_path().join(rt.alloc(), "none")?;
-    let of_file = open_journal(&rt, file.as_path().as_str()).err();
-    let of_none = open_journal(&rt, none.as_path().as_str()).err();
+    let of_file = open_journal(&rt, file.as_path().as_str(), FolderMonitor::none()).err();
+    let of_none = open_journal(&rt, none.as_path().as_str(), FolderMonitor::none()).err();
     fs::remove_dir_all(&rt, dir.as_path())?;
     assert_eq!(rt;
         of_file,
@@ -86,5 +89,42 @@ fn a_folder_that_cannot_be_listed_says_why(rt: HostRuntime) -> Result<(), Fail> 
         of_none,
         Some(FolderError::Unreadable(FaultCause::NotFound))
     );
+    Ok(())
+}
+
+/// Begins a segment, appends three bytes and syncs them, and begins a segment whose file exists.
+/// Returns whether that failed, and a sync after it.
+fn write_until_a_fault(
+    rt: &HostRuntime,
+    dir: Path<'_>,
+    monitor: FolderMonitor,
+) -> Result<bool, Fail> {
+    let mut journal = open_journal(rt, dir.as_str(), monitor)?;
+    journal.begin()?;
+    journal.append(b"abc")?;
+    journal.sync()?;
+    fs::write(rt, dir.join(rt.alloc(), "00000001")?, "")?;
+    Ok(journal.begin().is_err() && journal.sync().is_err())
+}
+
+#[test]
+fn a_journal_is_counted_up_to_its_fault(rt: HostRuntime) -> Result<(), Fail> {
+    let alloc = rt.alloc();
+    let counters = Arc::new(alloc, ReceiveCounters::of_kept_log(alloc)?)?;
+    let monitor = FolderMonitor::new(Arc::try_clone(&counters)?);
+    let dir = make_folder(&rt, "rwship-a-counted-journal", &[])?;
+    let has_failed = write_until_a_fault(&rt, dir.as_path(), monitor)?;
+    fs::remove_dir_all(&rt, dir.as_path())?;
+    let counted = counters.numbers(alloc)?.kept;
+    let sync_micros = counted.map_or(0, |numbers| numbers.sync_micros);
+    let wanted = KeptNumbers {
+        bytes: 3,
+        syncs: 2,
+        sync_micros,
+        segments: 1,
+        failed: 1,
+    };
+    assert!(rt; has_failed);
+    assert_eq!(rt; counted, Some(wanted));
     Ok(())
 }

@@ -3,6 +3,7 @@
 
 use crate::clients::{Clients, Door, read_by};
 use crate::counted::holds_as_printed;
+use crate::rows::none_is_wrong;
 use rw_follow::StopSignal;
 use rw_head::Capacity;
 use rw_metrics::ReceiveCounters;
@@ -21,6 +22,7 @@ use std::{io, thread};
 /// end.
 #[derive(Drop)]
 struct Row<'a> {
+    name: &'static str,
     /// Whether it serves until it is stopped. Otherwise it serves as many connections as it may at
     /// once.
     has_sign: bool,
@@ -112,25 +114,34 @@ fn does_with<R: Net<Stream = TcpStream, Listener = TcpListener> + Threads + Wait
     Ok(is_done && are_replies(&read?, row.replies) && is_counted)
 }
 
-/// Returns the number of the first row that differs.
+/// Returns whether a service and its clients do as a row says, and it prints what the row says.
+fn does<R: Net<Stream = TcpStream, Listener = TcpListener> + Threads + Wait + Clock + Sync>(
+    rt: &R,
+    alloc: Global,
+    row: &Row<'_>,
+) -> Result<bool, Fail> {
+    let settings = read_settings(alloc, b"")?;
+    let mut printed = Room::new(alloc, 4096)?;
+    let is_so = does_with(rt, alloc, row, &settings, &mut printed)?;
+    Ok(is_so && printed.as_slice() == row.printed)
+}
+
+/// Returns the name of the first row that differs.
 fn wrong_row<R: Net<Stream = TcpStream, Listener = TcpListener> + Threads + Wait + Clock + Sync>(
     rt: &R,
     alloc: Global,
-) -> Result<Option<usize>, Fail> {
-    let settings = read_settings(alloc, b"")?;
-    for (at, row) in ROWS.iter().enumerate() {
-        let mut printed = Room::new(alloc, 4096)?;
-        let is_so = does_with(rt, alloc, row, &settings, &mut printed)?;
-        if !is_so || printed.as_slice() != row.printed {
-            return Ok(Some(at));
+) -> Result<Option<&'static str>, Fail> {
+    for row in &ROWS {
+        if !does(rt, alloc, row)? {
+            return Ok(Some(row.name));
         }
     }
     Ok(None)
 }
 
 static ROWS: [Row<'static>; 11] = [
-    // a seat is used again
     Row {
+        name: "a seat is used again",
         has_sign: true,
         most: 1,
         idle_ms: 60_000,
@@ -139,6 +150,7 @@ static ROWS: [Row<'static>; 11] = [
         printed: b"received {__name__=\"up\"} 1000=1 1001=1 1002=1 1003=1 1004=1\n",
     },
     Row {
+        name: "there are more seats than clients",
         has_sign: true,
         most: 1_000,
         idle_ms: 60_000,
@@ -147,6 +159,7 @@ static ROWS: [Row<'static>; 11] = [
         printed: b"received {__name__=\"up\"} 1000=1 1001=1 1002=1 1003=1 1004=1\n",
     },
     Row {
+        name: "clients side by side",
         has_sign: true,
         most: 2,
         idle_ms: 60_000,
@@ -154,8 +167,8 @@ static ROWS: [Row<'static>; 11] = [
         replies: 2,
         printed: b"received {__name__=\"up\"} 1000=1 1001=1\n",
     },
-    // a connection without a request is closed at the stop
     Row {
+        name: "a connection without a request is closed at the stop",
         has_sign: true,
         most: 2,
         idle_ms: 60_000,
@@ -163,8 +176,8 @@ static ROWS: [Row<'static>; 11] = [
         replies: 1,
         printed: b"received {__name__=\"up\"} 1000=1\n",
     },
-    // a connection in a request has its reply
     Row {
+        name: "a connection in a request has its reply",
         has_sign: true,
         most: 2,
         idle_ms: 60_000,
@@ -173,6 +186,7 @@ static ROWS: [Row<'static>; 11] = [
         printed: b"received {__name__=\"up\"} 1000=1 1001=1\n",
     },
     Row {
+        name: "an end at once leaves a request without its reply",
         has_sign: true,
         most: 2,
         idle_ms: 60_000,
@@ -180,8 +194,8 @@ static ROWS: [Row<'static>; 11] = [
         replies: 1,
         printed: b"received {__name__=\"up\"} 1000=1\n",
     },
-    // a silent client does not keep the only seat
     Row {
+        name: "a silent client does not keep the only seat",
         has_sign: true,
         most: 1,
         idle_ms: 100,
@@ -190,6 +204,7 @@ static ROWS: [Row<'static>; 11] = [
         printed: b"received {__name__=\"up\"} 1000=1\n",
     },
     Row {
+        name: "there is one client more than places",
         has_sign: true,
         most: 2,
         idle_ms: 60_000,
@@ -197,8 +212,8 @@ static ROWS: [Row<'static>; 11] = [
         replies: 1,
         printed: b"received {__name__=\"up\"} 1000=1\n",
     },
-    // a seat is used again while another one is not
     Row {
+        name: "a seat is used again while another one is not",
         has_sign: true,
         most: 2,
         idle_ms: 60_000,
@@ -206,8 +221,8 @@ static ROWS: [Row<'static>; 11] = [
         replies: 7,
         printed: b"received {__name__=\"up\"} 1000=1 1001=1 1002=1 1003=1 1004=1 1005=1 1006=1\n",
     },
-    // neither a silent client nor one that writes on after its last reply delays the end
     Row {
+        name: "a silent client does not delay the end",
         has_sign: false,
         most: 2,
         idle_ms: 100,
@@ -216,6 +231,7 @@ static ROWS: [Row<'static>; 11] = [
         printed: b"received {__name__=\"up\"} 1000=1\n",
     },
     Row {
+        name: "a client that writes on after its last reply does not delay the end",
         has_sign: false,
         most: 1,
         idle_ms: 60_000,
@@ -227,7 +243,6 @@ static ROWS: [Row<'static>; 11] = [
 
 #[test]
 fn a_service_serves_until_it_is_stopped(rt: HostRuntime) -> Result<(), Fail> {
-    let wrong = wrong_row(&rt, rt.alloc())?;
-    assert_eq!(rt; wrong, None);
+    none_is_wrong(&rt, wrong_row(&rt, rt.alloc())?);
     Ok(())
 }
