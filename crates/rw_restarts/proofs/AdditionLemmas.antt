@@ -4,7 +4,6 @@ use Rattle.std.specs.List.{AllByRecursion}
 use Rattle.std.proofs.lemmas.Bool.{and_parts, cases_eq, eqb-true}
 use Rattle.std.proofs.lemmas.Bool.Decides.{Decides-int_eq}
 use Rattle.std.proofs.lemmas.Option.{none-some, same_Some}
-use Rattle.rw_types.specs.Beginnings.{Begins}
 use Rattle.rw_types.specs.Labels.{Labels}
 use Rattle.rw_types.proofs.shared.BeginningLemmas.{begins_itself, begins_twice}
 use Rattle.rw_write_request.specs.Message.{WriteRequest}
@@ -39,7 +38,7 @@ use Rattle.rw_restarts.specs.Runs.{SenderRun, SentMessage, acknowledged_by, ackn
 use Rattle.rw_restarts.specs.Receivers.{AnswersAs, ReceiverEvent, ReceiverState, state_of}
 use Rattle.rw_restarts.specs.KeptReceivers.{acknowledged_after}
 use Rattle.rw_restarts.specs.Refusals.{IsAnyReceiver, HoldsAcknowledged}
-use Rattle.rw_restarts.specs.Stopped.{AddsOverWire, AddsToReceiver, HasAdded, IsOpenReceiver, steps_at}
+use Rattle.rw_restarts.specs.Stopped.{AddsOverWire, AddsToReceiver, HasAdded, IsGrown, IsOpenReceiver, steps_at}
 use Rattle.rw_restarts.specs.Workers.{AreExchangesOfMessages, IsExchangeOfMessage, WorkerSendsSamples, judgement_by}
 use Rattle.rw_restarts.proofs.ListedLemmas.{IsAcknowledgedBy, unlisted-worker, worked_at}
 use Rattle.rw_restarts.proofs.ReceivedLemmas.{too-long-keeps}
@@ -126,68 +125,67 @@ not_413 status done e = no_done (sym (ap judgement_of e) ∙ done)
     no_done : Refused ≡ Done → ⊥
     no_done e = cc (e)
 
-module _ (c : Setup) (exchanges : ℕ → ℕ → List Exchange) (arrivals : List Arrival) (heads : ℕ → State) (r : IsOpenReceiver c exchanges arrivals heads)
+module _ (c : Setup) (exchanges : ℕ → ℕ → List Exchange) (arrivals : List Arrival) (heads answered : ℕ → State) (r : IsOpenReceiver c exchanges arrivals heads answered)
     (requests : (e k i : ℕ) (x : Exchange) → slice_get (exchanges e k) i ≡ Some x → (m : SentMessage) × IsExchangeOfMessage c.target x m)
     (answers : (how : How) (e : Exchange) (x : SentMessage) (old : State) (status : ℕ) (new : State) (acknowledged : Store) → IsExchangeOfMessage c.target e x → Receives c how e.request old status new → status ≢ 413
     → AnswersAs old.limits x.message (judgement_of status) (state_of old.store acknowledged) (state_of new.store (acknowledged_after (judgement_of status) acknowledged new.store))) where
-  record Grows (old new : Store) : Type 0 where
-    rises : EachRises new
-    begins : (l : Labels) → Begins (list_of old l) (list_of new l)
+  grown_twice : (one two three : Store) → IsGrown one two → IsGrown two three → IsGrown one three
+  grown_twice one two three a b = record { rises = b.rises; begins = λ l. begins_twice (list_of one l) (list_of two l) (list_of three l) (a.begins l) (b.begins l) }
 
-  same_store : (old new : Store) → EachRises old → new ≡ old → Grows old new
-  same_store old new up e = subst (Grows old) (sym e) (record { rises = up; begins = λ l. begins_itself (list_of old l) })
+  same_store : (old new : Store) → EachRises old → new ≡ old → IsGrown old new
+  same_store old new up e = subst (IsGrown old) (sym e) (record { rises = up; begins = λ l. begins_itself (list_of old l) })
 
   answered_store : (limits : LabelLimits) (m : WriteRequest) (j : Judgement) (old new acknowledged : Store) → EachRises old
-      → AnswersAs limits m j (state_of old acknowledged) (state_of new (acknowledged_after j acknowledged new)) → Grows old new
+      → AnswersAs limits m j (state_of old acknowledged) (state_of new (acknowledged_after j acknowledged new)) → IsGrown old new
   answered_store limits m Done old new acknowledged up h =
       let took = message_took limits m old new up h.0 in record { rises = λ l. (took l).rises; begins = λ l. (took l).begins }
   answered_store limits m Again old new acknowledged up h = same_store old new up (ap (λ (s : ReceiverState). s.store) h)
   answered_store limits m Refused old new acknowledged up h = same_store old new up (ap (λ (s : ReceiverState). s.store) h.0)
 
-  step : (n : ℕ) (a : Arrival) → slice_get arrivals n ≡ Some a → EachRises (heads n).store → Grows (heads n).store (heads (suc n)).store
+  step : (n : ℕ) (a : Arrival) → slice_get arrivals n ≡ Some a → EachRises (heads n).store → IsGrown (heads n).store (answered n).store
   step n a at up =
       let got = r.receives n a at in
       let message_of = requests a.epoch a.shard a.number got.0 got.1 in
       elim (cases_eq a.status 413) [
-        | inl e ↦ same_store (heads n).store (heads (suc n)).store up (too-long-keeps c got.0 message_of.0 (heads n) a.status (heads (suc n)) message_of.1 a.how got.2 e)
-        | inr other ↦ answered_store (heads n).limits message_of.0.message (judgement_of a.status) (heads n).store (heads (suc n)).store (heads n).store up
-            (answers a.how got.0 message_of.0 (heads n) a.status (heads (suc n)) (heads n).store message_of.1 got.2 other)
+        | inl e ↦ same_store (heads n).store (answered n).store up (too-long-keeps c got.0 message_of.0 (heads n) a.status (answered n) message_of.1 a.how got.2 e)
+        | inr other ↦ answered_store (heads n).limits message_of.0.message (judgement_of a.status) (heads n).store (answered n).store (heads n).store up
+            (answers a.how got.0 message_of.0 (heads n) a.status (answered n) (heads n).store message_of.1 got.2 other)
       ]
 
   -- from one moment on to a later one
-  grown : (from n : ℕ) → EachRises (heads from).store → from + n ≤ length arrivals → Grows (heads from).store (heads (from + n)).store
+  grown : (from n : ℕ) → EachRises (heads from).store → from + n ≤ length arrivals → IsGrown (heads from).store (heads (from + n)).store
   grown from zero up le = same_store (heads from).store (heads (from + 0)).store up (ap (λ i. (heads i).store) (omega arith))
   grown from (suc n) up le =
       let first = grown from n up (omega (arith, le)) in
       let found = get_some arrivals (from + n) (omega (arith, le)) in
-      let next = step (from + n) found.0 found.1 first.rises in
-      subst (λ i. Grows (heads from).store (heads i).store) (omega arith)
-      (record { rises = next.rises; begins = λ l. begins_twice (list_of (heads from).store l) (list_of (heads (from + n)).store l) (list_of (heads (suc (from + n))).store l) (first.begins l) (next.begins l) })
+      let next = grown_twice (heads (from + n)).store (answered (from + n)).store (heads (suc (from + n))).store (step (from + n) found.0 found.1 first.rises) (r.between (from + n) (omega (arith, le))) in
+      subst (λ i. IsGrown (heads from).store (heads i).store) (omega arith) (grown_twice (heads from).store (heads (from + n)).store (heads (suc (from + n))).store first next)
 
-  until : (n : ℕ) → n ≤ length arrivals → Grows (heads 0).store (heads n).store
-  until n le = subst (λ i. Grows (heads 0).store (heads i).store) (omega arith) (grown 0 n r.rises (omega (arith, le)))
+  until : (n : ℕ) → n ≤ length arrivals → IsGrown (heads 0).store (heads n).store
+  until n le = subst (λ i. IsGrown (heads 0).store (heads i).store) (omega arith) (grown 0 n r.rises (omega (arith, le)))
 
-  to_end : (n : ℕ) → n ≤ length arrivals → Grows (heads n).store (heads (length arrivals)).store
+  to_end : (n : ℕ) → n ≤ length arrivals → IsGrown (heads n).store (heads (length arrivals)).store
   to_end n le =
       let rest : n + (length arrivals - n) ≡ length arrivals = omega (arith, le) in
-      subst (λ i. Grows (heads n).store (heads i).store) rest (grown n (length arrivals - n) (until n le).rises (omega (arith, le)))
+      subst (λ i. IsGrown (heads n).store (heads i).store) rest (grown n (length arrivals - n) (until n le).rises (omega (arith, le)))
 
   -- what a message brought that was answered so is held in the end
   held_in_end : (e k i : ℕ) (x : Exchange) (m : SentMessage) (reply : Reply) (p : Point) (l : Labels) → slice_get (exchanges e k) i ≡ Some x → x.answer ≡ Ok reply → judgement_of reply.status ≡ Done
       → IsExchangeOfMessage c.target x m → holds p (points_in l m.message) ≡ true → holds p (list_of (heads (length arrivals)).store l) ≡ true
-  held_in_end e k i x m reply p l at answered done of has =
-      let was = r.told e k i x reply at answered in
+  held_in_end e k i x m reply p l at reply_is done of has =
+      let was = r.told e k i x reply at reply_is in
       let got = r.receives was.at was.a was.is in
       let same : got.0 ≡ x = same_Some got.0 x (sym got.1 ∙ ap (λ j. slice_get (exchanges j was.a.shard) was.a.number) was.epoch_is ∙ ap (λ j. slice_get (exchanges e j) was.a.number) was.shard_is ∙ ap (λ j. slice_get (exchanges e k) j) was.number_is ∙ at) in
       let judged : judgement_of was.a.status ≡ Done = ap judgement_of was.status_is ∙ done in
       let early = was.early in
-      let received : Receives c was.a.how x.request (heads was.at) was.a.status (heads (suc was.at)) = subst (λ (y : Exchange). Receives c was.a.how y.request (heads was.at) was.a.status (heads (suc was.at))) same got.2 in
-      let answer : AnswersAs (heads was.at).limits m.message Done (state_of (heads was.at).store (heads was.at).store) (state_of (heads (suc was.at)).store (acknowledged_after Done (heads was.at).store (heads (suc was.at)).store)) =
-      subst (λ j. AnswersAs (heads was.at).limits m.message j (state_of (heads was.at).store (heads was.at).store) (state_of (heads (suc was.at)).store (acknowledged_after j (heads was.at).store (heads (suc was.at)).store))) judged
-      (answers was.a.how x m (heads was.at) was.a.status (heads (suc was.at)) (heads was.at).store of received (not_413 was.a.status judged)) in
-      let took = message_took (heads was.at).limits m.message (heads was.at).store (heads (suc was.at)).store (until was.at (omega (arith, early))).rises answer.0 in
+      let received : Receives c was.a.how x.request (heads was.at) was.a.status (answered was.at) = subst (λ (y : Exchange). Receives c was.a.how y.request (heads was.at) was.a.status (answered was.at)) same got.2 in
+      let answer : AnswersAs (heads was.at).limits m.message Done (state_of (heads was.at).store (heads was.at).store) (state_of (answered was.at).store (acknowledged_after Done (heads was.at).store (answered was.at).store)) =
+      subst (λ j. AnswersAs (heads was.at).limits m.message j (state_of (heads was.at).store (heads was.at).store) (state_of (answered was.at).store (acknowledged_after j (heads was.at).store (answered was.at).store))) judged
+      (answers was.a.how x m (heads was.at) was.a.status (answered was.at) (heads was.at).store of received (not_413 was.a.status judged)) in
+      let took = message_took (heads was.at).limits m.message (heads was.at).store (answered was.at).store (until was.at (omega (arith, early))).rises answer.0 in
+      let later = grown_twice (answered was.at).store (heads (suc was.at)).store (heads (length arrivals)).store (r.between was.at (omega (arith, early))) (to_end (suc was.at) (omega (arith, early))) in
       held_there p (points_in l m.message) (list_of (heads (length arrivals)).store l)
-      (held_further (points_in l m.message) (list_of (heads (suc was.at)).store l) (list_of (heads (length arrivals)).store l) ((to_end (suc was.at) (omega (arith, early))).begins l) (took l).held) has
+      (held_further (points_in l m.message) (list_of (answered was.at).store l) (list_of (heads (length arrivals)).store l) (later.begins l) (took l).held) has
 
 message_of_exchange : (target : Target) (es : List Exchange) (ms : List SentMessage) → AreExchangesOfMessages target es ms → (n : ℕ) (e : Exchange) → slice_get es n ≡ Some e → (m : SentMessage) × IsExchangeOfMessage target e m
 message_of_exchange target [] ms of n e at = absurd (none-some e at)
@@ -219,7 +217,7 @@ module _ {T : Type 0} (tells : T → Type 0) (seen : T → List Exchange) (is_fo
         let found = message_of_exchange owner.1.worker.value.target (exchanges_of w.is.report.steps) sent.sent sent.messages.exchanges i x (sym (ap (λ es. slice_get es i) are) ∙ at) in
         (found.0, subst (λ t. IsExchangeOfMessage t x found.0) (for_target owner.0 owner.1 owner.2) found.1)
 
-    module _ (arrivals : List Arrival) (heads : ℕ → State) (receiver : IsOpenReceiver c exchanges arrivals heads)
+    module _ (arrivals : List Arrival) (heads answered : ℕ → State) (receiver : IsOpenReceiver c exchanges arrivals heads answered)
         (answers : (how : How) (e : Exchange) (x : SentMessage) (old : State) (status : ℕ) (new : State) (acknowledged : Store) → IsExchangeOfMessage c.target e x → Receives c how e.request old status new → status ≢ 413
         → AnswersAs old.limits x.message (judgement_of status) (state_of old.store acknowledged) (state_of new.store (acknowledged_after (judgement_of status) acknowledged new.store))) where
       unlisted_held : (x : Point) (l : Labels) → IsAcknowledgedBy tells seen is_for s r h x l → holds x (list_of (heads (length arrivals)).store l) ≡ true
@@ -228,12 +226,12 @@ module _ {T : Type 0} (tells : T → Type 0) (seen : T → List Exchange) (is_fo
           let e = exchange_of_message b.j.worker.value.target (exchanges_of b.is.report.steps) b.own b.by.exchanges m.n m.m m.at in
           let reply = replied e.0.answer m.m e.2.judgement_is m.judgement in
           let are : exchanges b.j.worker.value.queue.epoch b.j.worker.value.queue.shard ≡ exchanges_of b.is.report.steps = exchanges_at exchanges h.joined h.worked of.each b.n b.j b.at ∙ ap exchanges_of b.steps_are in
-          held_in_end c exchanges arrivals heads receiver carries_message answers b.j.worker.value.queue.epoch b.j.worker.value.queue.shard m.n e.0 m.m reply.0 x l
+          held_in_end c exchanges arrivals heads answered receiver carries_message answers b.j.worker.value.queue.epoch b.j.worker.value.queue.shard m.n e.0 m.m reply.0 x l
           (ap (λ es. slice_get es m.n) are ∙ e.1) reply.1 reply.2 (subst (λ t. IsExchangeOfMessage t e.0 m.m) (for_target b.n b.j b.at) e.2) m.has
 
       has_added : HasAdded s r (heads 0).store (heads (length arrivals)).store
       has_added =
-          let all = until c exchanges arrivals heads receiver carries_message answers (length arrivals) (omega arith) in record {
+          let all = until c exchanges arrivals heads answered receiver carries_message answers (length arrivals) (omega arith) in record {
             stays = all.begins;
             in_order = all.rises;
             added = λ p x l u. unlisted_held x l (unlisted-worker tells seen is_for s r h sends p x l u);
@@ -243,4 +241,4 @@ module _ {T : Type 0} (tells : T → Type 0) (seen : T → List Exchange) (is_fo
       → ((c : Setup) (how : How) (e : Exchange) (x : SentMessage) (old : State) (status : ℕ) (new : State) (acknowledged : Store) → IsExchangeOfMessage c.target e x → Receives c how e.request old status new → status ≢ 413
       → AnswersAs old.limits x.message (judgement_of status) (state_of old.store acknowledged) (state_of new.store (acknowledged_after (judgement_of status) acknowledged new.store)))
       → (s : Shipping T) (r : Report T) → AddsOverWire tells seen is_for s r
-  adds-over-wire sends answers s r h c exchanges arrivals heads target of receiver = has_added sends s r h c exchanges target of arrivals heads receiver (answers c)
+  adds-over-wire sends answers s r h c exchanges arrivals heads answered target of receiver = has_added sends s r h c exchanges target of arrivals heads answered receiver (answers c)

@@ -1,5 +1,5 @@
 -- A shipper that was stopped, as one run of a sender.
-use Rattle.std.specs.Prelude.{◌≡◌, ℕ, zero, suc, ◌+◌, true, false, List, [], ◌∷◌, length, map, take, Some, Ok, slice_get}
+use Rattle.std.specs.Prelude.{◌≡◌, ℕ, zero, suc, ◌+◌, ◌<◌, true, false, List, [], ◌∷◌, length, map, take, Some, Ok, slice_get}
 use Rattle.rw_types.specs.Beginnings.{Begins}
 use Rattle.rw_types.specs.Labels.{Labels}
 use Rattle.rw_types.specs.declared.entry.Entry.{Entry}
@@ -61,14 +61,22 @@ pub record HasAdded {T : Type 0} (s : Shipping T) (r : Report T) (old new : Stor
   pub added : (p : ℕ) (x : Point) (l : Labels) → IsUnlisted s r p x l
       → holds x (list_of new l) ≡ true
 
--- One head as the receiver of workers with these exchanges, whatever it held at first: what came to
--- it is of their exchanges, and a status that a worker read is one that it gave to that exchange.
+-- each list has what it had, maybe with more after it, and rises
+pub record IsGrown (old new : Store) : Type 0 where
+  pub rises : EachRises new
+  pub begins : (l : Labels) → Begins (list_of old l) (list_of new l)
+
+-- A receiver of workers with these exchanges, whatever it held at first: the n-th request that came
+-- to it, of one of these exchanges, met the n-th of `heads` and left the n-th of `answered`. In
+-- between it may be sent anything else, or be started again, if nothing is lost by that
+-- (`between`). A status that a worker read is one that it gave to that exchange (`told`).
 pub record IsOpenReceiver (c : Setup) (exchanges : ℕ → ℕ → List Exchange) (arrivals : List Arrival)
-    (heads : ℕ → State) : Type 0 where
+    (heads answered : ℕ → State) : Type 0 where
   pub rises : EachRises (heads 0).store
   pub receives : (n : ℕ) (a : Arrival) → slice_get arrivals n ≡ Some a
       → (x : Exchange) × (slice_get (exchanges a.epoch a.shard) a.number ≡ Some x)
-      × Receives c a.how x.request (heads n) a.status (heads (suc n))
+      × Receives c a.how x.request (heads n) a.status (answered n)
+  pub between : (n : ℕ) → n < length arrivals → IsGrown (answered n).store (heads (suc n)).store
   pub told : (e k i : ℕ) (x : Exchange) (r : Reply) → slice_get (exchanges e k) i ≡ Some x
       → x.answer ≡ Ok r → IsAnsweredBy arrivals (length arrivals) e k i r.status
 
@@ -124,12 +132,12 @@ module _ {T : Type 0} (tells : T → Type 0) (seen : T → List Exchange) (is_fo
         → IsAnyReceiver limits runs events states
         → HasAdded s r (states 0).acknowledged (states (length events)).store
 
-    -- And over the wire: the requests of its workers come to one head, in whatever order, each
+    -- And over the wire: the requests of its workers come to a receiver, in whatever order, each
     -- once, often, late or never.
     abbrev pub AddsOverWire : Shipping T → Report T → Type 0
     AddsOverWire s r = (h : HasStopped tells seen is_for s r) (c : Setup)
-        (exchanges : ℕ → ℕ → List Exchange) (arrivals : List Arrival) (heads : ℕ → State)
+        (exchanges : ℕ → ℕ → List Exchange) (arrivals : List Arrival) (heads answered : ℕ → State)
         → c.target ≡ s.fleet.config.target
         → AreExchangesOf tells seen is_for h.joined h.worked exchanges
-        → IsOpenReceiver c exchanges arrivals heads
+        → IsOpenReceiver c exchanges arrivals heads answered
         → HasAdded s r (heads 0).store (heads (length arrivals)).store

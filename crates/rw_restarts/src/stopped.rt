@@ -37,8 +37,9 @@ pub fn a_stopped_shipper_is_such_a_sender<T: Transport>()
 ///
 /// `events` is about a receiver that may be started again meanwhile, and be sent the messages of
 /// other runs. Then what it had acknowledged before is in its place. `received` is about what comes
-/// over the wire, in whatever order, each once, often, late or never, to one head that goes on:
-/// its premises on the network are those of `one_receiver_holds_the_samples` of `rw_simulation`.
+/// over the wire, in whatever order, each once, often, late or never. In between the receiver may
+/// be sent anything else, or be started again, if nothing is lost by that. The premises on the
+/// network are among those of `one_receiver_holds_the_samples` of `rw_simulation`.
 pub fn a_stopped_shipper_adds_its_samples<T: Transport>()
     ensures events { (s : Shipping T) (r : Report T)
         → AddsToReceiver T.tells T.seen T.is_for s r }
