@@ -58,16 +58,6 @@ pub fn lock_folder(rt: &HostRuntime, dir: &str) -> Result<File, KeepError> {
     }
 }
 
-/// Returns the journal in a folder. The counters count what is written to it.
-fn open_counted(
-    rt: &HostRuntime,
-    dir: &str,
-    counters: &Arc<ReceiveCounters, Global>,
-) -> Result<Log, FolderError> {
-    let monitor = FolderMonitor::new(Arc::try_clone(counters)?);
-    open_journal(rt, dir, monitor)
-}
-
 /// Opens the log in a folder. The counters count what is written to it.
 pub fn open_head(
     rt: &HostRuntime,
@@ -75,7 +65,10 @@ pub fn open_head(
     dir: &str,
     counters: &Arc<ReceiveCounters, Global>,
 ) -> Result<Opened<Log>, KeepError> {
-    let journal = match open_counted(rt, dir, counters) {
+    let Ok(counters) = Arc::try_clone(counters) else {
+        return Err(KeepError::Folder(FolderError::OutOfMemory));
+    };
+    let journal = match open_journal(rt, dir, FolderMonitor::new(counters)) {
         Ok(journal) => journal,
         Err(error) => return Err(KeepError::Folder(error)),
     };
