@@ -23,9 +23,9 @@ use Rattle.rw_simulation.specs.Arrivals.{Arrival}
 use Rattle.rw_simulation.specs.Received.{AreExchangesOf, is_left}
 use Rattle.rw_simulation.specs.StoppedRuns.{IsNamedIn}
 use Rattle.rw_restarts.specs.Runs.{SenderRun, acknowledged_in}
-use Rattle.rw_restarts.specs.Receivers.{ReceiverEvent, ReceiverState}
+use Rattle.rw_restarts.specs.Receivers.{IsReceiverOf, ReceiverEvent, ReceiverState}
 use Rattle.rw_restarts.specs.Refusals.{IsAnyReceiver}
-use Rattle.rw_restarts.specs.Logs.{IsRunOverPart}
+use Rattle.rw_restarts.specs.Logs.{AreRunsOverLog, IsRunOverPart}
 use Rattle.rw_restarts.specs.Workers.{NeverRefused}
 use Rattle.rw_restarts.specs.Stopped.{IsGrown, IsOpenReceiver, IsStoppedRun, run_from_start}
 use Rattle.rw_follow.specs.Growth.{Moment}
@@ -40,7 +40,9 @@ use Rattle.rw_sent_held.specs.Held.{machine_of}
 
 -- What a shipper with this configuration sent that was fed these pieces: one run, by the steps that
 -- its workers report (`run`), over each log that begins with what was fed (`over`). If the outcome
--- is complete, all that is owed of a label set was acknowledged, if no message was refused of it.
+-- is complete, all that is owed of a label set was acknowledged, if no message was refused of it
+-- (`complete`). So whatever other runs over one log one receiver was sent messages of, which began
+-- empty, it holds all that is owed of what was fed (`held`).
 pub record IsRunOverFed {T : Type 0} (tells : T → Type 0) (seen : T → List Exchange)
     (is_for : ℕ → ℕ → T → Type 0) (c : ConfigFields) (pieces : List Piece) (s : Shipping T)
     (r : Report T) (stopped : HasStopped tells seen is_for s r) : Type 0 where
@@ -50,6 +52,12 @@ pub record IsRunOverFed {T : Type 0} (tells : T → Type 0) (seen : T → List E
   pub complete : (end : ℕ) → r.outcome ≡ Complete end → (l : Labels)
       → NeverRefused l run.run.sent
       → acknowledged_in l run.run.sent ≡ owed_of (choice_of c) (entries pieces) l
+  pub held : (end : ℕ) → r.outcome ≡ Complete end → (limits : LabelLimits) (log : List Entry)
+      (runs : List SenderRun) (i : ℕ) (events : List ReceiverEvent) (states : ℕ → ReceiverState)
+      → slice_get runs i ≡ Some (run_from_start run.run.sent)
+      → AreRunsOverLog (choice_of c) log runs → IsReceiverOf limits runs events states
+      → (l : Labels) → Begins (owed_of (choice_of c) (entries pieces) l)
+      (list_of (states (length events)).store l)
 
 abbrev pub SentIsRun : {T : Type 0} → (T → Type 0) → (T → List Exchange) → (ℕ → ℕ → T → Type 0)
     → ConfigFields → Option ℕ → List (Option (List ℕ)) → List Bool → Report T

@@ -11,7 +11,9 @@ ghost use Rattle.rw_send.specs.declared.follow_fault.FollowFault.{FollowFault};
 ghost use Rattle.rw_sent_held.specs.Held.{FollowedIsHeld, SentIsHeld};
 ghost use Rattle.rw_sent_held.specs.Restarts.{FollowedAdds, FollowedIsRun, SentAdds, SentIsRun};
 
-use rw_restarts::{a_stopped_shipper_adds_its_samples, a_stopped_shipper_is_such_a_sender};
+use rw_restarts::{
+    a_stopped_shipper_adds_its_samples, a_stopped_shipper_is_such_a_sender, many_runs_hold_one_log,
+};
 use rw_simulation::one_receiver_holds_the_samples;
 use rw_worker::Transport;
 
@@ -37,7 +39,8 @@ pub fn one_receiver_holds_what_was_sent<T: Transport>()
 /// (`followed`), is one run of a sender over each log that begins with what was fed, as the laws of
 /// `rw_restarts` ask. So it may be one of many runs into one receiver (`many_runs_hold_one_log`).
 /// If the outcome is complete, all that what was fed owes of a label set was acknowledged, if no
-/// message was refused of it. There is no premise on how the run ended.
+/// message was refused of it; and a receiver of these many runs, which refuses none, holds it.
+/// There is no premise on how the run ended.
 pub fn a_send_is_such_a_sender<T: Transport>()
     ensures sent { (c : ConfigFields) (limit : Option ℕ) (lefts : List (Option (List ℕ)))
         (sures : List Bool) (r : Report T) (answer : Result (Unit {0}) ToolFault)
@@ -47,6 +50,7 @@ pub fn a_send_is_such_a_sender<T: Transport>()
         → FollowedIsRun T.tells T.seen T.is_for c limit is_sure now said r answer }
 {
     a_stopped_shipper_is_such_a_sender::<T>();
+    many_runs_hold_one_log();
 }
 
 /// Law: a run of the command adds to any receiver what it was fed. Whatever the receiver held and
