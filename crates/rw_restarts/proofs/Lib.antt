@@ -15,3 +15,4 @@ mod ShardLemmas
 mod StoppedLemmas
 mod TurnLemmas
 mod WorkerLemmas
+pub mod shared

@@ -40,7 +40,6 @@ use Rattle.rw_sender.specs.Reports.{abandoned_in, part_of}
 use Rattle.rw_sender.specs.Shipping.{Shipping, HasStopped, HasEndedAs}
 use Rattle.rw_sender.specs.declared.report.Report.{Report}
 use Rattle.rw_sender.proofs.shared.ListingLemmas.{resolved_left}
-use Rattle.rw_sender.proofs.shared.PlacementLemmas.{get_some}
 use Rattle.rw_sender.proofs.shared.SpreadLemmas.{none_below, placed_spread}
 use Rattle.rw_simulation.specs.Received.{is_left}
 use Rattle.rw_simulation.specs.StoppedRuns.{IsNamedIn}
@@ -51,6 +50,7 @@ use Rattle.rw_restarts.specs.Runs.{SentMessage, acknowledged_in}
 use Rattle.rw_restarts.specs.Workers.{AreMessagesOfWorker, HasName, IsAcknowledged, IsSettled, WorkerSendsSamples}
 use Rattle.rw_restarts.specs.Shards.{AreMessagesOfEpochs, AreMessagesOfShards}
 use Rattle.rw_restarts.specs.Stopped.{IsUnlisted, first_of_epoch, steps_at, steps_reported}
+use Rattle.rw_restarts.proofs.shared.Elements.{get_within}
 use Rattle.rw_restarts.proofs.ShardLemmas.{acknowledged_in-append}
 use Rattle.rw_restarts.proofs.TurnLemmas.{resolved-first}
 use Rattle.rw_restarts.proofs.WorkerLemmas.{name_own, name_stays}
@@ -75,11 +75,6 @@ get_parts : {X : Type 0} (xs ys : List X) (n : ℕ) (z : X) → slice_get (xs ++
 get_parts [] ys n z e = inr (n, e, omega arith)
 get_parts (x ∷ xs) ys zero z e = inl e
 get_parts (x ∷ xs) ys (suc n) z e = elim (get_parts xs ys n z e) [ inl here ↦ inl here | inr there ↦ inr (there.0, there.1, (let sum = there.2 in omega arith)) ]
-
-get_within : {X : Type 0} (xs ys : List X) (n : ℕ) (y : X) → slice_get (xs ++ ys) n ≡ Some y → n < length xs → slice_get xs n ≡ Some y
-get_within xs ys n y e lt =
-    let found = get_some xs n lt in
-    found.1 ∙ ap Some (same_Some found.0 y (sym (get-first xs ys n found.0 found.1) ∙ e))
 
 -- the epoch and the number of a shard
 abbrev IsOfEpoch : List (List ShardHistory) → ℕ → ShardHistory → Type 0

@@ -110,11 +110,11 @@ all_ended : {T : Type 0} (s : Shards T) (js : List (StoppedShard T)) → s.curre
 all_ended {T} s js none (more, are, same) =
     are ∙ ap (λ (ms : List (StoppedShard T)). s.ended ++ ms) (none_more s.current more none same) ∙ append-nil s.ended
 
-all_from : {T : Type 0} (s : Shipping T) (before : Shards T) (js : List (StoppedShard T)) → (before ≡ s.fleet) ⊎ ((s.fleet.current ≡ []) × AreAll before s.fleet.ended × PlacesAll s.log before) → AreAll s.fleet js → AreAll before js
+pub all_from : {T : Type 0} (s : Shipping T) (before : Shards T) (js : List (StoppedShard T)) → (before ≡ s.fleet) ⊎ ((s.fleet.current ≡ []) × AreAll before s.fleet.ended × PlacesAll s.log before) → AreAll s.fleet js → AreAll before js
 all_from {T} s before js (inl same) all = subst (λ (f : Shards T). AreAll f js) (sym same) all
 all_from {T} s before js (inr (none, were, placed)) all = subst (AreAll before) (sym (all_ended s.fleet js none all)) were
 
-placed_from : {T : Type 0} (s : Shipping T) (before : Shards T) → (before ≡ s.fleet) ⊎ ((s.fleet.current ≡ []) × AreAll before s.fleet.ended × PlacesAll s.log before) → PlacesAll s.log s.fleet → PlacesAll s.log before
+pub placed_from : {T : Type 0} (s : Shipping T) (before : Shards T) → (before ≡ s.fleet) ⊎ ((s.fleet.current ≡ []) × AreAll before s.fleet.ended × PlacesAll s.log before) → PlacesAll s.log s.fleet → PlacesAll s.log before
 placed_from {T} s before (inl same) placed = subst (λ (f : Shards T). PlacesAll s.log f) (sym same) placed
 placed_from s before (inr (none, were, placed)) now = placed
 

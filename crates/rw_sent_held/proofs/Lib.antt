@@ -1,1 +1,2 @@
 pub mod HeldLemmas
+mod RestartLemmas

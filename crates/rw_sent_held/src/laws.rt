@@ -1,5 +1,5 @@
-//! The law of what `run_send` and `run_follow` ship. The function has an empty body: its contract
-//! is the law.
+//! Laws of what `run_send` and `run_follow` ship. Each function has no body but the laws that it
+//! rests on: its contract is the law.
 
 ghost use Rattle.std.specs.Prelude.{ℕ, Bool, List, Option, Result};
 ghost use Rattle.rw_follow.specs.Growth.{Moment};
@@ -9,7 +9,11 @@ ghost use Rattle.rw_sender.specs.declared.report.Report.{Report};
 ghost use Rattle.rw_text.specs.declared.tool_fault.ToolFault.{ToolFault};
 ghost use Rattle.rw_send.specs.declared.follow_fault.FollowFault.{FollowFault};
 ghost use Rattle.rw_sent_held.specs.Held.{FollowedIsHeld, SentIsHeld};
+ghost use Rattle.rw_sent_held.specs.Restarts.{FollowedAdds, FollowedIsRun, SentAdds, SentIsRun};
 
+use rw_restarts::{
+    a_stopped_shipper_adds_its_samples, a_stopped_shipper_is_such_a_sender, many_runs_hold_one_log,
+};
 use rw_simulation::one_receiver_holds_the_samples;
 use rw_worker::Transport;
 
@@ -29,4 +33,38 @@ pub fn one_receiver_holds_what_was_sent<T: Transport>()
         → FollowedIsHeld T.tells T.seen T.is_for c limit is_sure now said r answer }
 {
     one_receiver_holds_the_samples::<T>();
+}
+
+/// Law: what a run of the command sent, by the contract of `run_send` (`sent`) or of `run_follow`
+/// (`followed`), is one run of a sender over each log that begins with what was fed, as the laws of
+/// `rw_restarts` ask. So it may be one of many runs into one receiver (`many_runs_hold_one_log`).
+/// If the outcome is complete, all that what was fed owes of a label set was acknowledged, if no
+/// message was refused of it; and a receiver of these many runs, which refuses none, holds it.
+/// There is no premise on how the run ended.
+pub fn a_send_is_such_a_sender<T: Transport>()
+    ensures sent { (c : ConfigFields) (limit : Option ℕ) (lefts : List (Option (List ℕ)))
+        (sures : List Bool) (r : Report T) (answer : Result (Unit {0}) ToolFault)
+        → SentIsRun T.tells T.seen T.is_for c limit lefts sures r answer }
+    ensures followed { (c : ConfigFields) (limit : Option ℕ) (is_sure : Bool) (now : Option Moment)
+        (said : StopRequest) (r : Report T) (answer : Result (Unit {0}) FollowFault)
+        → FollowedIsRun T.tells T.seen T.is_for c limit is_sure now said r answer }
+{
+    a_stopped_shipper_is_such_a_sender::<T>();
+    many_runs_hold_one_log();
+}
+
+/// Law: a run of the command adds to any receiver what it was fed. Whatever the receiver held and
+/// refuses, it then holds each sample of a kept label set that the report says was placed and lists
+/// neither as left nor as dropped. What it held before is in its place, and each list rises, so
+/// that nothing is held twice. The premises on the network and the receiver are those of
+/// `a_stopped_shipper_adds_its_samples`.
+pub fn a_send_adds_its_samples<T: Transport>()
+    ensures sent { (c : ConfigFields) (limit : Option ℕ) (lefts : List (Option (List ℕ)))
+        (sures : List Bool) (r : Report T) (answer : Result (Unit {0}) ToolFault)
+        → SentAdds T.tells T.seen T.is_for c limit lefts sures r answer }
+    ensures followed { (c : ConfigFields) (limit : Option ℕ) (is_sure : Bool) (now : Option Moment)
+        (said : StopRequest) (r : Report T) (answer : Result (Unit {0}) FollowFault)
+        → FollowedAdds T.tells T.seen T.is_for c limit is_sure now said r answer }
+{
+    a_stopped_shipper_adds_its_samples::<T>();
 }

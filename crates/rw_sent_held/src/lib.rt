@@ -4,4 +4,6 @@
 
 mod laws;
 
-pub use laws::one_receiver_holds_what_was_sent;
+pub use laws::{
+    a_send_adds_its_samples, a_send_is_such_a_sender, one_receiver_holds_what_was_sent,
+};

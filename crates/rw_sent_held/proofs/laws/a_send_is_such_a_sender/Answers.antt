@@ -1,0 +1,14 @@
+use Rattle.std.proofs.Common.{◌≡◌, true}
+use Rattle.rw_send.specs.Segments.{AreSure, HasMoreBytes}
+use Rattle.rw_send.specs.Sending.{StopsAtOnce}
+use Rattle.rw_send.specs.Following.{FollowStopsAtOnce, meal_of}
+use Rattle.rw_sent_held.proofs.RestartLemmas.{is_run}
+use Rattle.rw_sent_held.proofs.laws.a_send_is_such_a_sender.Goals as goal
+
+pub returns-clause-sent : goal.returns-clause-sent
+returns-clause-sent g c config limit lefts sures r answer sent =
+    is_run g.T.Transport.tells g.T.Transport.seen g.T.Transport.is_for config limit (StopsAtOnce (HasMoreBytes lefts sent.pieces) (AreSure sures → ⊥) answer) sent.pieces r sent.report c.a_stopped_shipper_is_such_a_sender.ensures.abandoned c.many_runs_hold_one_log.ensures
+
+pub returns-clause-followed : goal.returns-clause-followed
+returns-clause-followed g c config limit is_sure now said r answer sent =
+    is_run g.T.Transport.tells g.T.Transport.seen g.T.Transport.is_for config limit (FollowStopsAtOnce now said (is_sure ≡ true → ⊥) (meal_of sent.pieces) answer) sent.pieces r sent.report c.a_stopped_shipper_is_such_a_sender.ensures.abandoned c.many_runs_hold_one_log.ensures

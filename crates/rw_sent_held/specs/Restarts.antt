@@ -1,0 +1,132 @@
+-- A run of the command over a log, as a run of a sender that may be started again.
+use Rattle.std.specs.Prelude.{◌≡◌, ℕ, ◌<◌, ⊤, Bool, true, false, List, length, take, Option, Some, Result, slice_get}
+use Rattle.rw_types.specs.Beginnings.{Begins}
+use Rattle.rw_types.specs.Labels.{Labels}
+use Rattle.rw_types.specs.declared.entry.Entry.{Entry}
+use Rattle.rw_types.specs.declared.entry.Entry.TheVariants.{Sample}
+use Rattle.rw_wal_format.specs.Pieces.{Piece, entries}
+use Rattle.rw_series_cache.specs.Known.{Kept, known}
+use Rattle.rw_ledger.specs.declared.ledger.Reason.{Reason}
+use Rattle.rw_shard_core.specs.Configs.{choice_of}
+use Rattle.rw_shard_core.specs.declared.config.ConfigFields.{ConfigFields}
+use Rattle.rw_shard_core.specs.declared.outcome.Outcome.{Outcome}
+use Rattle.rw_shard_core.specs.declared.outcome.Outcome.TheVariants.{Complete, Abandoned, Damaged}
+use Rattle.rw_head.specs.Head.{State}
+use Rattle.rw_head.specs.Order.{Point, holds}
+use Rattle.rw_head.specs.Store.{Store, list_of}
+use Rattle.rw_head.specs.Verdicts.{LabelLimits}
+use Rattle.rw_checkpoint.specs.Owed.{owed_of}
+use Rattle.rw_worker.specs.Transcript.{Exchange}
+use Rattle.rw_sender.specs.Shipping.{Shipping, HasStopped}
+use Rattle.rw_sender.specs.declared.report.Report.{Report}
+use Rattle.rw_simulation.specs.Arrivals.{Arrival}
+use Rattle.rw_simulation.specs.Received.{AreExchangesOf, is_left}
+use Rattle.rw_simulation.specs.StoppedRuns.{IsNamedIn}
+use Rattle.rw_restarts.specs.Runs.{SenderRun, acknowledged_in}
+use Rattle.rw_restarts.specs.Receivers.{IsReceiverOf, ReceiverEvent, ReceiverState}
+use Rattle.rw_restarts.specs.Refusals.{IsAnyReceiver}
+use Rattle.rw_restarts.specs.Logs.{AreRunsOverLog, IsRunOverPart}
+use Rattle.rw_restarts.specs.Workers.{NeverRefused}
+use Rattle.rw_restarts.specs.Stopped.{IsGrown, IsOpenReceiver, IsStoppedRun, run_from_start}
+use Rattle.rw_follow.specs.Growth.{Moment}
+use Rattle.rw_follow.specs.declared.signal.StopRequest.{StopRequest}
+use Rattle.rw_text.specs.declared.tool_fault.ToolFault.{ToolFault}
+use Rattle.rw_send.specs.declared.follow_fault.FollowFault.{FollowFault}
+use Rattle.rw_send.specs.Sending.{IsSent}
+use Rattle.rw_send.specs.Following.{IsFollowed}
+use Rattle.rw_sent_held.specs.Held.{machine_of}
+
+-- ---- one run of a sender
+
+-- What a shipper with this configuration sent that was fed these pieces: one run, by the steps that
+-- its workers report (`run`), over each log that begins with what was fed (`over`). If the outcome
+-- is complete, all that is owed of a label set was acknowledged, if no message was refused of it
+-- (`complete`). So whatever other runs over one log one receiver was sent messages of, which began
+-- empty, it holds all that is owed of what was fed (`held`).
+pub record IsRunOverFed {T : Type 0} (tells : T → Type 0) (seen : T → List Exchange)
+    (is_for : ℕ → ℕ → T → Type 0) (c : ConfigFields) (pieces : List Piece) (s : Shipping T)
+    (r : Report T) (stopped : HasStopped tells seen is_for s r) : Type 0 where
+  pub run : IsStoppedRun tells seen is_for s r stopped
+  pub over : (log : List Entry) → Begins (entries pieces) log
+      → IsRunOverPart (choice_of c) log (run_from_start run.run.sent)
+  pub complete : (end : ℕ) → r.outcome ≡ Complete end → (l : Labels)
+      → NeverRefused l run.run.sent
+      → acknowledged_in l run.run.sent ≡ owed_of (choice_of c) (entries pieces) l
+  pub held : (end : ℕ) → r.outcome ≡ Complete end → (limits : LabelLimits) (log : List Entry)
+      (runs : List SenderRun) (i : ℕ) (events : List ReceiverEvent) (states : ℕ → ReceiverState)
+      → slice_get runs i ≡ Some (run_from_start run.run.sent)
+      → AreRunsOverLog (choice_of c) log runs → IsReceiverOf limits runs events states
+      → (l : Labels) → Begins (owed_of (choice_of c) (entries pieces) l)
+      (list_of (states (length events)).store l)
+
+abbrev pub SentIsRun : {T : Type 0} → (T → Type 0) → (T → List Exchange) → (ℕ → ℕ → T → Type 0)
+    → ConfigFields → Option ℕ → List (Option (List ℕ)) → List Bool → Report T
+    → Result (Unit {0}) ToolFault → Type 0
+SentIsRun tells seen is_for c limit lefts sures r answer =
+    (sent : IsSent tells seen is_for c limit lefts sures r answer)
+    → IsRunOverFed tells seen is_for c sent.pieces sent.report.shipping r sent.report.stopped
+
+abbrev pub FollowedIsRun : {T : Type 0} → (T → Type 0) → (T → List Exchange)
+    → (ℕ → ℕ → T → Type 0) → ConfigFields → Option ℕ → Bool → Option Moment → StopRequest → Report T
+    → Result (Unit {0}) FollowFault → Type 0
+FollowedIsRun tells seen is_for c limit is_sure now said r answer =
+    (sent : IsFollowed tells seen is_for c limit is_sure now said r answer)
+    → IsRunOverFed tells seen is_for c sent.pieces sent.report.shipping r sent.report.stopped
+
+-- ---- what it adds to a receiver
+
+-- the outcome says that this position was placed, and does not list it as left
+abbrev pub IsSettledBy : Outcome → ℕ → Type 0
+IsSettledBy (Complete end) p = ⊤
+IsSettledBy (Abandoned placed samples) p =
+    (p < placed) × (is_left (Abandoned placed samples) p ≡ false)
+IsSettledBy (Damaged f) p = ⊤
+
+-- A sample at this position of what was fed, of a label set that the rules keep, which the report
+-- says was placed, and lists neither as left nor as dropped.
+pub record IsFedUnlisted {T : Type 0} (c : ConfigFields) (pieces : List Piece) (r : Report T)
+    (p : ℕ) (x : Point) (l : Labels) : Type 0 where
+  pub reference : ℕ
+  pub fed : slice_get (entries pieces) p ≡ Some (Sample reference x.0 x.1)
+  pub kept : known (choice_of c) (take p (entries pieces)) reference ≡ Kept l
+  pub settled : IsSettledBy r.outcome p
+  pub not_dropped : (reason : Reason) → IsNamedIn r.parts.items p reason → ⊥
+
+-- what a receiver held is in its place, each list rises, and each such sample is held
+pub record HasAddedFed {T : Type 0} (c : ConfigFields) (pieces : List Piece) (r : Report T)
+    (old new : Store) : Type 0 where
+  pub grown : IsGrown old new
+  pub added : (p : ℕ) (x : Point) (l : Labels) → IsFedUnlisted c pieces r p x l
+      → holds x (list_of new l) ≡ true
+
+-- This is so of a receiver that may be started again meanwhile, and be sent the messages of other
+-- runs, of what it had acknowledged (`events`). And it is so of a receiver to which the requests of
+-- the workers come over the wire, in whatever order, each once, often, late or never (`received`).
+pub record AddsFed {T : Type 0} (tells : T → Type 0) (seen : T → List Exchange)
+    (is_for : ℕ → ℕ → T → Type 0) (c : ConfigFields) (pieces : List Piece) (s : Shipping T)
+    (r : Report T) (stopped : HasStopped tells seen is_for s r) : Type 0 where
+  pub events : (run : IsStoppedRun tells seen is_for s r stopped) (limits : LabelLimits)
+      (runs : List SenderRun) (i : ℕ) (own : SenderRun) (happened : List ReceiverEvent)
+      (states : ℕ → ReceiverState)
+      → slice_get runs i ≡ Some own → own.sent ≡ run.run.sent
+      → IsAnyReceiver limits runs happened states
+      → HasAddedFed c pieces r (states 0).acknowledged (states (length happened)).store
+  pub received : (limits : LabelLimits) (max_body busy : ℕ) (exchanges : ℕ → ℕ → List Exchange)
+      (arrivals : List Arrival) (heads answered : ℕ → State)
+      → AreExchangesOf tells seen is_for stopped.joined stopped.worked exchanges
+      → IsOpenReceiver (machine_of c limits max_body busy) exchanges arrivals heads answered
+      → HasAddedFed c pieces r (heads 0).store (heads (length arrivals)).store
+
+abbrev pub SentAdds : {T : Type 0} → (T → Type 0) → (T → List Exchange) → (ℕ → ℕ → T → Type 0)
+    → ConfigFields → Option ℕ → List (Option (List ℕ)) → List Bool → Report T
+    → Result (Unit {0}) ToolFault → Type 0
+SentAdds tells seen is_for c limit lefts sures r answer =
+    (sent : IsSent tells seen is_for c limit lefts sures r answer)
+    → AddsFed tells seen is_for c sent.pieces sent.report.shipping r sent.report.stopped
+
+abbrev pub FollowedAdds : {T : Type 0} → (T → Type 0) → (T → List Exchange)
+    → (ℕ → ℕ → T → Type 0) → ConfigFields → Option ℕ → Bool → Option Moment → StopRequest → Report T
+    → Result (Unit {0}) FollowFault → Type 0
+FollowedAdds tells seen is_for c limit is_sure now said r answer =
+    (sent : IsFollowed tells seen is_for c limit is_sure now said r answer)
+    → AddsFed tells seen is_for c sent.pieces sent.report.shipping r sent.report.stopped
