@@ -173,7 +173,7 @@ module _ (c : Setup) (exchanges : ℕ → ℕ → List Exchange) (arrivals : Lis
   held_in_end : (e k i : ℕ) (x : Exchange) (m : SentMessage) (reply : Reply) (p : Point) (l : Labels) → slice_get (exchanges e k) i ≡ Some x → x.answer ≡ Ok reply → judgement_of reply.status ≡ Done
       → IsExchangeOfMessage c.target x m → holds p (points_in l m.message) ≡ true → holds p (list_of (heads (length arrivals)).store l) ≡ true
   held_in_end e k i x m reply p l at reply_is done of has =
-      let was = r.told e k i x reply at reply_is in
+      let was = r.statuses_given e k i x reply at reply_is in
       let got = r.receives was.at was.a was.is in
       let same : got.0 ≡ x = same_Some got.0 x (sym got.1 ∙ ap (λ j. slice_get (exchanges j was.a.shard) was.a.number) was.epoch_is ∙ ap (λ j. slice_get (exchanges e j) was.a.number) was.shard_is ∙ ap (λ j. slice_get (exchanges e k) j) was.number_is ∙ at) in
       let judged : judgement_of was.a.status ≡ Done = ap judgement_of was.status_is ∙ done in

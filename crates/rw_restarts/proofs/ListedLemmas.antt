@@ -301,10 +301,10 @@ module _ {T : Type 0} (tells : T → Type 0) (seen : T → List Exchange) (is_fo
         abbrev resolved : List Placed
         resolved = (after (start_of put.j.worker.value) w.is.report.steps).core.resolved
 
-        abbrev behind : List Placed
-        behind = pending (after (start_of put.j.worker.value) w.is.report.steps).core ++ samples_in w.is.begins.0
+        abbrev unresolved : List Placed
+        unresolved = pending (after (start_of put.j.worker.value) w.is.report.steps).core ++ samples_in w.is.begins.0
 
-        put_is : samples_in (put_of put.j.finished.ends) ≡ resolved ++ behind
+        put_is : samples_in (put_of put.j.finished.ends) ≡ resolved ++ unresolved
         put_is =
             ap samples_in (w.is.begins.1 ∙ ap (λ items. items ++ w.is.begins.0) (w.is.taken ∙ sym w.is.report.made.items))
             ∙ samples_in-append (items_of w.is.report.steps) w.is.begins.0
@@ -313,7 +313,7 @@ module _ {T : Type 0} (tells : T → Type 0) (seen : T → List Exchange) (is_fo
 
         among_resolved : slice_get resolved put.i ≡ Some put.y
         among_resolved =
-            get_within resolved behind put.i put.y (sym (ap (λ ys. slice_get ys put.i) put_is) ∙ put.here)
+            get_within resolved unresolved put.i put.y (sym (ap (λ ys. slice_get ys put.i) put_is) ∙ put.here)
             (let lt = resolved_at in let same : put.j.finished.resolved ≡ length resolved = w.is.report.counted in omega (arith, lt, same))
 
         -- so an answer acknowledged it, since else the worker's part of the report would list it

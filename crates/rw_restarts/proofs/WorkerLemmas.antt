@@ -178,8 +178,8 @@ each_sample (x ∷ xs) = (
 
 -- ---- an attempt, and the steps after it
 module _ (c : Core) (names : Names) (ss : List Step) (es : List Exchange) (end : Working) where
-  abbrev behind : List Placed
-  behind = c.builder ++ samples_in (items_of ss)
+  abbrev unsent : List Placed
+  unsent = c.builder ++ samples_in (items_of ss)
 
   abbrev own_message : Result Reply Lost → SentMessage
   own_message answer = record { message = message (map labelled c.batch); judgement = judgement_by answer }
@@ -192,11 +192,11 @@ module _ (c : Core) (names : Names) (ss : List Step) (es : List Exchange) (end :
   exchanges_by true ns f = f.exchanges
   exchanges_by false ns f = f.exchanges
 
-  sends_by : (b : Bool) (ns : Names) (f : Further b ns) → SendsSamples (cond b (to_come c ss) behind) f.sent
+  sends_by : (b : Bool) (ns : Names) (f : Further b ns) → SendsSamples (cond b (to_come c ss) unsent) f.sent
   sends_by true ns f = f.sends
   sends_by false ns f = f.sends
 
-  done_by : (b : Bool) (ns : Names) (f : Further b ns) → pending end.core ≡ [] → (l : Labels) → NeverRefused l f.sent → acknowledged_in l f.sent ≡ samples_in_batch l (cond b (to_come c ss) behind)
+  done_by : (b : Bool) (ns : Names) (f : Further b ns) → pending end.core ≡ [] → (l : Labels) → NeverRefused l f.sent → acknowledged_in l f.sent ≡ samples_in_batch l (cond b (to_come c ss) unsent)
   done_by true ns f = f.done
   done_by false ns f = f.done
 
@@ -232,10 +232,10 @@ module _ (c : Core) (names : Names) (ss : List Step) (es : List Exchange) (end :
     joined = record {
       sent = own_message e.answer ∷ f.sent;
       exchanges = (record { batch = c.batch; request = request; reads = reads; message_is = refl; judgement_is = refl }, exchanges_by b ns f);
-      sends = sends-next c.batch behind (to_come c ss) e.answer f.sent refl (subst (λ q. SendsSamples (cond q (to_come c ss) behind) f.sent) again (sends_by b ns f));
+      sends = sends-next c.batch unsent (to_come c ss) e.answer f.sent refl (subst (λ q. SendsSamples (cond q (to_come c ss) unsent) f.sent) again (sends_by b ns f));
       done = λ none l fine.
-          all_by_answer l c.batch behind (to_come c ss) refl e.answer (acknowledged_in l f.sent) fine.0
-          (done_by b ns f none l fine.1 ∙ ap (λ q. samples_in_batch l (cond q (to_come c ss) behind)) again);
+          all_by_answer l c.batch unsent (to_come c ss) refl e.answer (acknowledged_in l f.sent) fine.0
+          (done_by b ns f none l fine.1 ∙ ap (λ q. samples_in_batch l (cond q (to_come c ss) unsent)) again);
       more = resolved_by b ++ f.more;
       more_is = more_by b ns f;
       settled = AllByRecursion-append (IsSettled (own_message e.answer ∷ f.sent) end.ledger.names) (resolved_by b) f.more settled_now (later_settled (own_message e.answer) f.sent end.ledger.names f.more f.settled);

@@ -69,7 +69,7 @@ pub record IsGrown (old new : Store) : Type 0 where
 -- A receiver of workers with these exchanges, whatever it held at first: the n-th request that came
 -- to it, of one of these exchanges, met the n-th of `heads` and left the n-th of `answered`. In
 -- between it may be sent anything else, or be started again, if nothing is lost by that
--- (`between`). A status that a worker read is one that it gave to that exchange (`told`).
+-- (`between`). A status that a worker read is one that it gave to that exchange (`statuses_given`).
 pub record IsOpenReceiver (c : Setup) (exchanges : ℕ → ℕ → List Exchange) (arrivals : List Arrival)
     (heads answered : ℕ → State) : Type 0 where
   pub rises : EachRises (heads 0).store
@@ -77,7 +77,7 @@ pub record IsOpenReceiver (c : Setup) (exchanges : ℕ → ℕ → List Exchange
       → (x : Exchange) × (slice_get (exchanges a.epoch a.shard) a.number ≡ Some x)
       × Receives c a.how x.request (heads n) a.status (answered n)
   pub between : (n : ℕ) → n < length arrivals → IsGrown (answered n).store (heads (suc n)).store
-  pub told : (e k i : ℕ) (x : Exchange) (r : Reply) → slice_get (exchanges e k) i ≡ Some x
+  pub statuses_given : (e k i : ℕ) (x : Exchange) (r : Reply) → slice_get (exchanges e k) i ≡ Some x
       → x.answer ≡ Ok r → IsAnsweredBy arrivals (length arrivals) e k i r.status
 
 module _ {T : Type 0} (tells : T → Type 0) (seen : T → List Exchange) (is_for : ℕ → ℕ → T → Type 0)
