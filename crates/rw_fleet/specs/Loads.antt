@@ -16,8 +16,8 @@ load_of resolved left = record { placed = counted_to (resolved + left); resolved
 abbrev pub resolved_in : {T : Type 0} → StoppedShard T → ℕ
 resolved_in j = j.finished.resolved
 
-abbrev pub left_in : {T : Type 0} → StoppedShard T → ℕ
-left_in j = length j.abandoned.items
+abbrev pub left_in_shard : {T : Type 0} → StoppedShard T → ℕ
+left_in_shard j = length j.abandoned.items
 
 -- how many samples a shard was put
 abbrev pub count_in : ShardHistory → ℕ
@@ -42,4 +42,4 @@ pub record IsAdvised (window : ℕ) (lanes : List ShardHistory) (resolved left :
 
 -- of the shards that have ended, and of those at work
 abbrev pub IsLoad : {T : Type 0} → Shards T → Load → Type 0
-IsLoad s load = IsAdvised (window_of s.config) s.current (sum_by resolved_in s.ended) (sum_by left_in s.ended) load
+IsLoad s load = IsAdvised (window_of s.config) s.current (sum_by resolved_in s.ended) (sum_by left_in_shard s.ended) load

@@ -3,7 +3,7 @@
 ghost use Rattle.std.specs.Prelude.{◌≡◌, ◌+◌, ◌≤◌, ℕ, List, [], ◌++◌, map, OnOk, Err, vec_len, vec_capacity};
 ghost use Rattle.std.specs.List.{sum_by};
 ghost use Rattle.rw_fleet.specs.ShardHistories.{AreFresh, AreSame, AreSetUp, marked, put_into};
-ghost use Rattle.rw_fleet.specs.Loads.{load_of, resolved_in, left_in, IsAdvised};
+ghost use Rattle.rw_fleet.specs.Loads.{load_of, resolved_in, left_in_shard, IsAdvised};
 ghost use Rattle.rw_fleet.specs.Work.{AreResolved, AreEndedBy, AreWorked, lane_of};
 ghost use Rattle.rw_fleet.specs.inner.Work.{HasUnresolved};
 
@@ -142,7 +142,7 @@ pub(crate) fn resolution_of<T: Transport>(joined: &Vec<StoppedShard<T>>) -> Reso
 /// Returns how far the samples of shards that have ended have come.
 pub(crate) fn load_of_ended<T: Transport>(joined: &Vec<StoppedShard<T>>) -> Load
     ensures { result
-        ≡ load_of (sum_by resolved_in joined.now.items) (sum_by left_in joined.now.items) }
+        ≡ load_of (sum_by resolved_in joined.now.items) (sum_by left_in_shard joined.now.items) }
 {
     let mut load = Load::none();
     for shard in joined.iter() {

@@ -1,9 +1,11 @@
 -- A table after a series was staged: in the list of its label set, or in a new one.
-use Rattle.std.proofs.Common.{◌≡◌, ℕ, ◌+◌, ◌≤◌, ◌^◌, Result, Ok, List, [], length, get_or, true, Some, None, refl, sym, ◌∙◌, ap, subst}
+use Rattle.std.proofs.Common.{◌≡◌, ℕ, ◌+◌, ◌<◌, ◌≤◌, ◌^◌, Result, Ok, List, [], length, get_or, Bool, true, false, nat_eq, eqb-true, Some, None, refl, sym, ◌∙◌, ap, subst, arith}
+use Rattle.std.proofs.lemmas.List.{length-map}
 use Rattle.std.specs.BTreeMap.{get}
 use Rattle.rw_types.specs.Labels.{Labels}
 use Rattle.rw_types.specs.LabelOrder.{labels_cmp}
-use Rattle.rw_head.specs.Order.{Point, accept}
+use Rattle.rw_write_request.specs.Message.{Sample}
+use Rattle.rw_head.specs.Order.{Point, point_of, points, accept}
 use Rattle.rw_head.specs.Store.{Store, list_of, with_list}
 use Rattle.rw_head.specs.declared.verdict.Verdict.{Verdict}
 use Rattle.rw_head.specs.Verdicts.{accepted}
@@ -50,3 +52,14 @@ held_in {before} {index} {new} {lists} {news} {touched} {noted} {fresh} {named} 
       kept = ap (kept_store new.entries) add.behind ∙ kept-added lists index new l x now.places absent none add.place ∙ ap (λ (t : Index). kept_store t.entries lists) same;
       gives = ap (accepted l s) (ap (λ (xs : List Point). accept (Some xs) points) empty ∙ gives) ∙ ap Ok (sym after);
     }
+
+-- a number that is not zero
+pub is_some : (n : ℕ) → 0 < n → false ≡ nat_eq n 0
+is_some n h = by_test (nat_eq n 0) refl
+  where
+    by_test : (b : Bool) → nat_eq n 0 ≡ b → false ≡ b
+    by_test false e = refl
+    by_test true e = absurd (omega (arith, h, eqb-true n 0 e))
+
+pub length_points : (ss : List Sample) → length (points ss) ≡ length ss
+length_points ss = length-map ss point_of

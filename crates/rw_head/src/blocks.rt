@@ -139,6 +139,17 @@ impl Blocks {
         }
     }
 
+    /// Returns an empty list of samples, whose open block has room for `len` of them, or for all
+    /// that it can have.
+    pub(crate) fn with_room(alloc: Global, len: usize) -> Result<Blocks, AllocError>
+        ensures { IfOk result (λ s. s ≡ []) }
+    {
+        Ok(Blocks {
+            sealed: Vec::new(alloc),
+            rest: Vec::with_capacity(alloc, len.min(BLOCK_LEN))?,
+        })
+    }
+
     /// Returns how many samples there are.
     pub(crate) fn len(&self) -> usize
         ensures len { result ≡ length self.now }

@@ -15,7 +15,8 @@ use std::marker::Model;
 const MOST_HEAD_BYTES: usize = 1024;
 
 /// A label set at its place, with the bytes with which a series of it began, before its samples,
-/// once they were seen. Contracts see the label set.
+/// once they were seen, unless they are the fields that the label set keeps. Contracts see the label
+/// set.
 #[derive(Debug, Drop)]
 pub(crate) struct Place {
     name: Name,
@@ -69,14 +70,10 @@ fn are_texts_of(texts: &[(String, String)], labels: &LabelSet) -> bool
     labels.as_slice() == texts
 }
 
-/// Returns whether the bytes spell these labels, and no sample. The canonical spelling is compared
-/// directly, any other one is read.
+/// Returns whether the bytes spell these labels, and no sample. They are read for that.
 fn is_head_of(alloc: Global, bytes: &[u8], labels: &LabelSet) -> bool
     ensures { IsTrue result → IsHeadOf bytes.now labels.now }
 {
-    if bytes == labels.fields() {
-        return true;
-    }
     let Ok(series) = read_series(alloc, bytes) else {
         return false;
     };
@@ -112,33 +109,48 @@ impl Place {
         self.name.labels()
     }
 
-    /// Returns the bytes of a series after the head that is kept, if the series begins with it.
+    /// Returns the head that is kept, or otherwise the one that is spelled canonically. This takes
+    /// no memory.
+    fn head(&self) -> &[u8]
+        ensures { IsHeadOf result.now self.now }
+    {
+        if self.head.is_empty() {
+            self.name.labels().fields()
+        } else {
+            self.head.as_slice()
+        }
+    }
+
+    /// Returns the bytes of a series after the head that is expected, if the series begins with it.
     pub(crate) fn behind_head<'a>(&self, series: &'a [u8]) -> Option<&'a [u8]>
         ensures { IfSome result (λ rest. (head : List ℕ)
             × IsHeadOf head self.now × (series.now ≡ head ++ rest.now)) }
     {
-        if self.head.is_empty() || series.len() < self.head.len() {
+        let head = self.head();
+        if series.len() < head.len() {
             return None;
         }
-        let (front, rest) = series.split_at(self.head.len());
-        if is_same(&self.head, front) {
+        let (front, rest) = series.split_at(head.len());
+        if is_same(head, front) {
             Some(rest)
         } else {
             None
         }
     }
 
-    /// Keeps the head of a series, if it spells this label set, is short, and none is kept. It is
-    /// kept for speed alone: if memory runs out, it is not kept.
+    /// Keeps the head of a series, if it spells this label set in another way than the fields that
+    /// the label set keeps, is short, and none is kept. It is kept for speed alone: if memory runs
+    /// out, it is not kept.
     pub(crate) fn learn(&mut self, series: &[u8])
         ensures { self.new ≡ self.old }
     {
         let alloc = *self.head.allocator();
         let head = head_of(series);
-        if !self.head.is_empty() || head.len() > MOST_HEAD_BYTES {
+        let labels = self.name.labels();
+        if !self.head.is_empty() || head.len() > MOST_HEAD_BYTES || head == labels.fields() {
             return;
         }
-        if !is_head_of(alloc, head, self.name.labels()) {
+        if !is_head_of(alloc, head, labels) {
             return;
         }
         if let Ok(copy) = head.to_vec(alloc) {

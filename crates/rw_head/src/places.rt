@@ -1,6 +1,6 @@
 //! The places of label sets.
 
-ghost use Rattle.std.specs.Prelude.{◌≡◌, ◌≢◌, ◌+◌, min, map, ◌<◌, length, [], ◌^◌, ◌++◌, ◌∷◌, None, Some, IfOk, IfErr, IfSome, OnOk, OnErr, vec_len, vec_capacity};
+ghost use Rattle.std.specs.Prelude.{◌≡◌, ◌≢◌, ◌+◌, min, map, ◌<◌, ◌≤◌, length, [], ◌^◌, ◌++◌, ◌∷◌, None, Some, IfOk, IfErr, IfSome, OnOk, OnErr, vec_len, vec_capacity};
 ghost use Rattle.std.specs.List.{All};
 ghost use Rattle.std.specs.BTreeMap.{get, Updates, IsOrdered};
 ghost use Rattle.rw_types.specs.Labels.{Labels, text_label};
@@ -8,17 +8,23 @@ ghost use Rattle.rw_types.specs.LabelOrder.{labels_cmp};
 ghost use Rattle.rw_head.specs.declared.verdict.Verdict.TheVariants.{NoMemory};
 ghost use Rattle.rw_head.specs.Verdicts.{refusal};
 ghost use Rattle.rw_head.specs.inner.Names.{below, AreNamed, HasNoneRefused};
-ghost use Rattle.rw_head.specs.inner.Finds.{Finds};
+ghost use Rattle.rw_head.specs.Order.{points};
+ghost use Rattle.rw_head.specs.inner.Finds.{Finds, Enters, IsOutOfOrder, names_after};
 ghost use Rattle.rw_head.specs.inner.Bodies.{IsKnown};
 
 use crate::label_bounds::LabelBounds;
 use crate::name::Name;
 use crate::place::Place;
+use crate::sample_list::SampleList;
 use crate::verdict::Verdict;
-use rw_types::LabelSet;
+use rw_types::{LabelSet, Word};
 use std::alloc::{AllocError, Global};
+use std::collections::btree_map::Entry;
 use std::collections::{BTreeMap, btree_map};
 use std::mem;
+
+/// How many samples are staged before it is known whether their label set has a place.
+const FEW_SAMPLES: usize = 16;
 
 /// The places of label sets: each has its own, in the order in which they came. For each it is
 /// noted which one came after it the last time, and with which bytes a series of it began.
@@ -43,13 +49,59 @@ pub(crate) fn put<T: Drop>(items: &mut Vec<T>, item: T)
     }
 }
 
-/// What was found for a label set.
+/// What is known of a label set before its place is looked for in the map.
 #[derive(Drop)]
 pub(crate) enum Found {
-    /// It has this place.
+    /// It has this place, which was expected.
     At(usize),
-    /// It has none. This is a name for it.
-    Nowhere(Name),
+    /// This is a name for it. It may have a place.
+    Named(Name),
+}
+
+/// What was found for a label set in the map.
+#[derive(Drop)]
+pub(crate) enum Entered {
+    /// It had this place.
+    Had(usize),
+    /// It had none, and has the next one now. These are its samples, all of them staged.
+    New(SampleList),
+}
+
+/// Returns the place of a label set. One that has none gets the next place, if its samples are
+/// taken. They are staged before the map is searched, so that one search finds the place or where
+/// it goes; if they are many, they are staged only if there is no place.
+fn enter(
+    tree: &mut BTreeMap<Name, usize>,
+    name: Name,
+    next: usize,
+    alloc: Global,
+    samples: &[(Word, i64)],
+) -> Result<Entered, Verdict>
+    requires { length samples.now ≤ 2 ^ 60 }
+    ensures ok { IfOk result (λ e. Enters e tree.old tree.new name next (points samples.now)) }
+    ensures tree { OnErr result (tree.new.entries ≡ tree.old.entries) }
+    ensures err { IfErr result (λ v. v ≢ NoMemory
+        → IsOutOfOrder v (get labels_cmp tree.old name) (points samples.now)) }
+{
+    if samples.len() > FEW_SAMPLES
+        && let Some(place) = tree.get(&name)
+    {
+        return Ok(Entered::Had(*place));
+    }
+    match SampleList::of(alloc, samples) {
+        Ok(list) => match tree.entry(name) {
+            Err(_) => Err(Verdict::NoMemory),
+            Ok(Entry::Occupied(entry)) => Ok(Entered::Had(*entry.get())),
+            Ok(Entry::Vacant(entry)) => {
+                entry.insert(next);
+                Ok(Entered::New(list))
+            }
+        },
+        Err(verdict) => match tree.get(&name) {
+            Some(place) => Ok(Entered::Had(*place)),
+            None => Err(verdict),
+        },
+    }
 }
 
 impl Places {
@@ -106,9 +158,9 @@ impl Places {
         self.last = place;
     }
 
-    /// Returns the place of the label set of these labels, or a name for it if it has none. The
-    /// place that came after the last one the time before is tried first; if the label set is
-    /// there, it was judged when it came, and this takes no memory.
+    /// Returns the place of the label set of these labels if it is the one that came after the last
+    /// one the time before: then it was judged when it came, and this takes no memory. Otherwise
+    /// judges the labels, and returns a name for their label set.
     pub(crate) fn find(
         &mut self,
         alloc: Global,
@@ -132,14 +184,7 @@ impl Places {
         }
         bounds.take(labels, texts)?;
         let name = Name::of(alloc, mem::replace(labels, LabelSet::empty(alloc)))?;
-        match self.tree.get(&name) {
-            Some(place) => {
-                let place = *place;
-                self.follow(place);
-                Ok(Found::At(place))
-            }
-            None => Ok(Found::Nowhere(name)),
-        }
+        Ok(Found::Named(name))
     }
 
     /// Returns the place of a series and its bytes after the head, if it begins with the head of
@@ -190,25 +235,40 @@ impl Places {
         None
     }
 
-    /// Adds the next place, for a label set that has none.
-    pub(crate) fn push(&mut self, name: Name) -> Result<(), AllocError>
-        requires { get labels_cmp self.old.tree name ≡ None }
-        ensures ok { OnOk result
-            (Updates labels_cmp self.old.tree self.new.tree name
-            (Some (length self.old.names.items))) }
-        ensures names { OnOk result (self.new.names.items ≡ self.old.names.items ++ name ∷ []) }
-        ensures err { OnErr result (self.new.tree.entries ≡ self.old.tree.entries) }
+    /// Returns the place of a label set. One that has none gets the next place, if its samples are
+    /// taken: the map is searched once.
+    pub(crate) fn enter(
+        &mut self,
+        alloc: Global,
+        name: Name,
+        samples: &[(Word, i64)],
+    ) -> Result<Entered, Verdict>
+        requires { length samples.now ≤ 2 ^ 60 }
+        ensures ok { IfOk result (λ e. Enters e self.old.tree self.new.tree name
+            (length self.old.names.items) (points samples.now)) }
+        ensures names { IfOk result (λ e. self.new.names.items
+            ≡ names_after e self.old.names.items name) }
+        ensures tree { OnErr result (self.new.tree.entries ≡ self.old.tree.entries) }
         ensures err_names { OnErr result (self.new.names.items ≡ self.old.names.items) }
+        ensures err { IfErr result (λ v. v ≢ NoMemory
+            → IsOutOfOrder v (get labels_cmp self.old.tree name) (points samples.now)) }
     {
         self.names.reserve(1)?;
         self.after.reserve(1)?;
-        let place = self.names.len();
-        self.tree.insert(name.share()?, place)?;
-        let alloc = *self.names.allocator();
-        put(&mut self.names, Place::new(alloc, name));
-        put(&mut self.after, 0);
-        self.follow(place);
-        Ok(())
+        let next = self.names.len();
+        let share = name.share()?;
+        match enter(&mut self.tree, share, next, alloc, samples)? {
+            Entered::Had(place) => {
+                self.follow(place);
+                Ok(Entered::Had(place))
+            }
+            Entered::New(list) => {
+                put(&mut self.names, Place::new(alloc, name));
+                put(&mut self.after, 0);
+                self.follow(next);
+                Ok(Entered::New(list))
+            }
+        }
     }
 
     /// Removes the places from number `len` on.

@@ -1,13 +1,13 @@
 //! The samples of one series.
 
-ghost use Rattle.std.specs.Prelude.{◌≡◌, ◌+◌, ◌^◌, ◌<◌, ◌≤◌, true, Err, IfOk, OnOk, length, map};
+ghost use Rattle.std.specs.Prelude.{◌≡◌, ◌≢◌, ◌+◌, ◌^◌, ◌<◌, ◌≤◌, [], true, None, Some, Err, IfOk, IfErr, OnOk, length, map};
 ghost use Rattle.rw_head.specs.Order.{points, is_later, accept_one, accept};
 ghost use Rattle.rw_types.specs.Beginnings.{Begins};
 ghost use Rattle.rw_head.specs.Lists.{no_lists, has_samples, more_of};
 ghost use Rattle.rw_head.specs.inner.Lists.{more_count, ListGives};
 ghost use Rattle.rw_head.specs.Blocks.{sealed_of};
 ghost use Rattle.rw_head.specs.inner.Blocks.{open_of};
-ghost use Rattle.rw_head.specs.declared.verdict.Verdict.TheVariants.{NoMemory};
+ghost use Rattle.rw_head.specs.declared.verdict.Verdict.TheVariants.{OutOfOrder, NoMemory};
 
 use crate::block::Block;
 use crate::blocks::Blocks;
@@ -45,6 +45,25 @@ impl SampleList {
             samples: Blocks::new(alloc),
             kept: 0,
         }
+    }
+
+    /// Returns a list of samples of a label set that had none, all of them staged. It has room for
+    /// them alone.
+    pub(crate) fn of(alloc: Global, samples: &[(Word, i64)]) -> Result<SampleList, Verdict>
+        requires { length samples.now ≤ 2 ^ 60 }
+        ensures kept { IfOk result (λ x. x.kept ≡ []) }
+        ensures staged { IfOk result (λ x.
+            accept (Some []) (points samples.now) ≡ Some x.staged) }
+        ensures few { IfOk result (λ x. length x.staged ≤ length samples.now) }
+        ensures err { IfErr result (λ v. v ≢ NoMemory
+            → (v ≡ OutOfOrder) × (accept (Some []) (points samples.now) ≡ None)) }
+    {
+        let mut list = SampleList {
+            samples: Blocks::with_room(alloc, samples.len())?,
+            kept: 0,
+        };
+        list.stage_all(samples)?;
+        Ok(list)
     }
 
     /// Stages a sample, if it is later than the last one. A repeat changes nothing, and any other

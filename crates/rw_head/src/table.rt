@@ -8,7 +8,7 @@ ghost use Rattle.rw_types.specs.LabelOrder.{labels_cmp};
 ghost use Rattle.rw_head.specs.declared.verdict.Verdict.TheVariants.{OutOfOrder, NoMemory};
 ghost use Rattle.rw_head.specs.Order.{points, accept};
 ghost use Rattle.rw_head.specs.Store.{list_of, total, label_sets, held_series, AreListsOf, HasNoEmptyList};
-ghost use Rattle.rw_head.specs.Verdicts.{LabelLimits, taken};
+ghost use Rattle.rw_head.specs.Verdicts.{LabelLimits, accepted, taken};
 ghost use Rattle.rw_head.specs.inner.Bodies.{known_of, KnownGives};
 ghost use Rattle.rw_write_request.specs.Read.{read_series};
 ghost use Rattle.rw_head.specs.inner.Growth.{HoldsNoneRefused};
@@ -24,7 +24,7 @@ use crate::block::Block;
 use crate::capacity::Capacity;
 use crate::label_bounds::LabelBounds;
 use crate::name::Name;
-use crate::places::{Found, Places, put};
+use crate::places::{Entered, Found, Places, put};
 use crate::sample_list::SampleList;
 use crate::series::AllSeries;
 use crate::verdict::Verdict;
@@ -79,51 +79,6 @@ fn has_room(count: u64, more: usize) -> bool
     ensures { IsTrue result ↔ (count + more ≤ 2 ^ 60) }
 {
     more as u64 <= MOST_SAMPLES - count
-}
-
-/// Returns a list of samples of a label set that had none, all of them staged.
-fn new_list(alloc: Global, samples: &[(Word, i64)]) -> Result<SampleList, Verdict>
-    requires { length samples.now ≤ 2 ^ 60 }
-    ensures kept { IfOk result (λ x. x.kept ≡ []) }
-    ensures staged { IfOk result (λ x. accept (Some []) (points samples.now) ≡ Some x.staged) }
-    ensures few { IfOk result (λ x. length x.staged ≤ length samples.now) }
-    ensures err { IfErr result
-        (λ v. v ≢ NoMemory → (v ≡ OutOfOrder) × (accept (Some []) (points samples.now) ≡ None)) }
-{
-    let mut list = SampleList::new(alloc);
-    list.stage_all(samples)?;
-    Ok(list)
-}
-
-/// Adds the list of a label set that has none.
-fn add_list(
-    places: &mut Places,
-    lists: &mut Vec<SampleList>,
-    touched: &mut Vec<usize>,
-    fresh: &mut Vec<Name>,
-    name: Name,
-    list: SampleList,
-) -> Result<(), AllocError>
-    requires absent { get labels_cmp places.old.tree name ≡ None }
-    requires next { length places.old.names.items ≡ length lists.old.items }
-    ensures ok { OnOk result
-        (IsAdded places.old.tree places.new.tree lists.old.items lists.new.items touched.old.items
-        touched.new.items fresh.old.items fresh.new.items name list) }
-    ensures names { length places.new.names.items ≡ length lists.new.items }
-    ensures places { OnErr result (places.new.tree.entries ≡ places.old.tree.entries) }
-    ensures lists { OnErr result (lists.new.items ≡ lists.old.items) }
-    ensures touched { OnErr result (touched.new.items ≡ touched.old.items) }
-    ensures fresh { OnErr result (fresh.new.items ≡ fresh.old.items) }
-{
-    lists.reserve(1)?;
-    touched.reserve(1)?;
-    fresh.reserve(1)?;
-    let share = name.share()?;
-    places.push(name)?;
-    put(touched, lists.len());
-    put(lists, list);
-    put(fresh, share);
-    Ok(())
 }
 
 /// Stages samples in the list at a place.
@@ -276,6 +231,43 @@ impl Table {
         self.count
     }
 
+    /// Stages samples of a label set that the head takes, one after the other, up to the first that
+    /// is refused.
+    fn stage_named(
+        &mut self,
+        alloc: Global,
+        name: Name,
+        samples: &[(Word, i64)],
+    ) -> Result<(), Verdict>
+        requires some { 0 < length samples.now }
+        requires room { total self.old.staged + length samples.now ≤ 2 ^ 60 }
+        ensures kept { self.new.kept ≡ self.old.kept }
+        ensures staged { StoreGives result
+            (accepted name self.old.staged
+            (accept (Some (list_of self.old.staged name)) (points samples.now))) self.new.staged }
+    {
+        self.lists.reserve(1)?;
+        self.touched.reserve(1)?;
+        self.fresh.reserve(1)?;
+        let share = name.share()?;
+        match self.places.enter(alloc, name, samples)? {
+            Entered::Had(place) => stage_held(
+                &mut self.lists,
+                &mut self.touched,
+                &mut self.staged_count,
+                place,
+                samples,
+            ),
+            Entered::New(list) => {
+                self.staged_count += list.staged_len() as u64;
+                put(&mut self.touched, self.lists.len());
+                put(&mut self.lists, list);
+                put(&mut self.fresh, share);
+                Ok(())
+            }
+        }
+    }
+
     /// Stages a series: its labels are judged, and then its samples, one after the other, up to the
     /// first that is refused.
     pub(crate) fn stage(
@@ -309,20 +301,7 @@ impl Table {
                     samples,
                 )
             }
-            Found::Nowhere(name) => {
-                let list = new_list(alloc, samples)?;
-                let count = list.staged_len() as u64;
-                add_list(
-                    &mut self.places,
-                    &mut self.lists,
-                    &mut self.touched,
-                    &mut self.fresh,
-                    name,
-                    list,
-                )?;
-                self.staged_count += count;
-                Ok(())
-            }
+            Found::Named(name) => self.stage_named(alloc, name, samples),
         }
     }
 

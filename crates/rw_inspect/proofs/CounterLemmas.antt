@@ -14,7 +14,7 @@ use Rattle.rw_types.proofs.shared.GatherLemmas.{gather-push}
 use Rattle.rw_inspect.specs.Counting.{log_counts}
 use Rattle.rw_inspect.specs.inner.Counting.{IsCacheOf, IsCounter, IsPlaced}
 use Rattle.rw_log_read.proofs.shared.HereLemmas.{here_none, sums_of-push}
-use Rattle.rw_log_read.specs.Sums.{no_sums, sums_of, with_entry}
+use Rattle.rw_log_read.specs.Sums.{no_sums, sums_of, sums_with_entry}
 use Rattle.rw_inspect.specs.Troubles.{has_bad_labels, has_no_series, not_rising, trouble_of}
 use Rattle.rw_inspect.specs.declared.counts.Counts.{Counts}
 use Rattle.rw_log_read.specs.declared.sums.Sums.{Sums}
@@ -38,19 +38,19 @@ counter_none es choice cache sums troubles e r c s t =
 
 -- an entry was taken
 counter_more : (es now : List Entry) (e : Entry) (count up : ℕ) (cache new : Taken) (sums more : Sums) (troubles grown : List (ℕ × Trouble)) → IsCounter es count cache sums troubles
-    → now ≡ es ++ e ∷ [] → up ≡ count + 1 → more ≡ with_entry sums e
+    → now ≡ es ++ e ∷ [] → up ≡ count + 1 → more ≡ sums_with_entry sums e
     → IsCacheOf (es ++ e ∷ []) new → grown ≡ troubles ++ trouble_of es e → IsCounter now up new more grown
 counter_more es now e count up cache new sums more troubles grown h is one all_is cached trouble =
     rw is record {
       counted = one ∙ ap (λ n. n + 1) h.counted ∙ sym (length-append es (e ∷ []));
       cached = cached;
-      all = all_is ∙ ap (λ s. with_entry s e) h.all ∙ sym (sums_of-push es e);
+      all = all_is ∙ ap (λ s. sums_with_entry s e) h.all ∙ sym (sums_of-push es e);
       in_trouble = trouble ∙ ap (λ ts. ts ++ trouble_of es e) h.in_trouble ∙ sym (gather-push trouble_of es e);
     }
 
 pub counter_definition : (es now : List Entry) (reference : ℕ) (l : Labels) (count up : ℕ) (cache new : Taken) (sums more : Sums) (troubles : List (ℕ × Trouble))
     → IsCounter es count cache sums troubles → now ≡ es ++ Def reference l ∷ [] → up ≡ count + 1
-    → more ≡ with_entry sums (Def reference l) → new ≡ record cache { definitions = cache.definitions ++ Def reference l ∷ [] }
+    → more ≡ sums_with_entry sums (Def reference l) → new ≡ record cache { definitions = cache.definitions ++ Def reference l ∷ [] }
     → IsCounter now up new more troubles
 counter_definition es now reference l count up cache new sums more troubles h is one all_is made =
     let e = Def reference l in
@@ -65,7 +65,7 @@ counter_definition es now reference l count up cache new sums more troubles h is
 
 pub counter_sample : (es now : List Entry) (reference : ℕ) (t : ℤ) (word count up : ℕ) (cache new : Taken) (sums more : Sums) (troubles grown : List (ℕ × Trouble))
     → IsCounter es count cache sums troubles → now ≡ es ++ Sample reference t word ∷ [] → up ≡ count + 1
-    → more ≡ with_entry sums (Sample reference t word)
+    → more ≡ sums_with_entry sums (Sample reference t word)
     → IsPlaced cache new troubles grown count reference t → IsCounter now up new more grown
 counter_sample es now reference t word count up cache new sums more troubles grown h is one all_is placed =
     let both = placed.placed es word h.cached h.counted in

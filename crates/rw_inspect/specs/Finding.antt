@@ -71,7 +71,7 @@ unfoldable pub there_text : ℕ → List ℕ → List ℕ → List ℕ
 there_text position name text = decimal position ++ codes " " ++ name ++ codes " " ++ text ++ codes "\n"
 
 unfoldable pub not_there_text : ℕ → List ℕ
-not_there_text position = decimal position ++ codes " is not there\n"
+not_there_text position = decimal position ++ codes " has no entry\n"
 
 abbrev pub finding_line : List Segment → ℕ → Option (List ℕ) → List ℕ
 finding_line segments position None = not_there_text position

@@ -50,14 +50,14 @@ fault_words tail.BadLength = codes "the fragment extends past the end of its pag
 fault_words tail.BadCrc = codes "the checksum of the fragment does not match its data"
 fault_words tail.Compressed = codes "the fragment is compressed"
 fault_words tail.NonzeroPadding = codes "a byte of the padding at the end of the page is not zero"
-fault_words tail.Sequence = codes "the fragment starts a record inside another one, or continues none"
+fault_words tail.Sequence = codes "the fragment begins a record inside another record, or continues no record"
 fault_words tail.BadRecord = codes "the record does not have the form of its type"
-fault_words tail.TornSegment = codes "the segment ends inside a record, and another one follows"
+fault_words tail.TornSegment = codes "the segment ends inside a record, but another segment follows"
 
 -- what to do next
 abbrev pub next_step : TailFault → List ℕ
 next_step tail.OutOfMemory = codes "free some memory and run the command again"
-next_step tail.Compressed = codes "let Prometheus write its log with --no-storage.tsdb.wal-compression; send ships what comes before the fault"
+next_step tail.Compressed = codes "start Prometheus with --no-storage.tsdb.wal-compression; send ships what comes before the fault"
 next_step tail.TornSegment = codes "copy the segment again, or let Prometheus repair the log as it starts; send ships what comes before the fault"
 next_step f = codes "copy the segment again and compare; send ships what comes before the fault, and nothing after it"
 

@@ -175,7 +175,7 @@ fn push_not_there(out: &mut Vec<u8>, position: u64) -> Result<(), AllocError>
     ensures { OnOk result (out.new.items ≡ out.old.items ++ not_there_text position) }
 {
     push_number(out, position)?;
-    out.extend_from_slice(b" is not there\n")
+    out.extend_from_slice(b" has no entry\n")
 }
 
 /// Takes the definition of an entry, if it is one.
@@ -322,7 +322,7 @@ impl Taker for Finder {
 /// SEGMENT series REF LABELS`, or `POS SEGMENT sample REF T VALUE LABELS` with the label set that
 /// its reference stands for there, each line ended by LF. `bad FAULT` stands for labels that are
 /// not a label set, whatever names are accepted, `noseries` for those of a reference without a
-/// definition before it, and `POS is not there` if there is no entry.
+/// definition before it, and `POS has no entry` if there is no entry.
 pub fn find_entries<S: Source + Drop>(
     alloc: Global,
     segments: Vec<Named<S>>,

@@ -17,10 +17,10 @@ pub(crate) fn fault_words(fault: TailFault) -> &'static str
         TailFault::Compressed => "the fragment is compressed",
         TailFault::NonzeroPadding => "a byte of the padding at the end of the page is not zero",
         TailFault::Sequence => {
-            "the fragment starts a record inside another one, or continues none"
+            "the fragment begins a record inside another record, or continues no record"
         }
         TailFault::BadRecord => "the record does not have the form of its type",
-        TailFault::TornSegment => "the segment ends inside a record, and another one follows",
+        TailFault::TornSegment => "the segment ends inside a record, but another segment follows",
     }
 }
 
@@ -31,7 +31,7 @@ pub(crate) fn next_step(fault: TailFault) -> &'static str
     match fault {
         TailFault::OutOfMemory => "free some memory and run the command again",
         TailFault::Compressed => {
-            "let Prometheus write its log with --no-storage.tsdb.wal-compression; send ships what comes before the fault"
+            "start Prometheus with --no-storage.tsdb.wal-compression; send ships what comes before the fault"
         }
         TailFault::TornSegment => {
             "copy the segment again, or let Prometheus repair the log as it starts; send ships what comes before the fault"

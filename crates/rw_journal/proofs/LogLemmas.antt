@@ -4,7 +4,7 @@ use Rattle.std.specs.List.{AllByRecursion}
 use Rattle.rw_types.specs.declared.entry.Entry.{Entry}
 use Rattle.rw_wal_format.specs.Segments.{Stop, between, Reading, segment}
 use Rattle.rw_wal_format.specs.Pieces.{Piece, bytes, next_segment, then_after, reading_after, reading}
-use Rattle.rw_journal.specs.Logs.{log_of, entries_of, IsWhole, IsCleanCut}
+use Rattle.rw_journal.specs.Logs.{log_of, entries_of, IsWholeText, IsCleanCut}
 
 log_next : (s : List ℕ) (ss : List (List ℕ)) (last : List ℕ) → log_of (s ∷ (ss ++ last ∷ [])) ≡ bytes s ∷ next_segment ∷ log_of (ss ++ last ∷ [])
 log_next s [] last = refl
@@ -18,7 +18,7 @@ pub each_of : ℕ → List (List ℕ) → List Entry
 each_of page [] = []
 each_of page (s ∷ ss) = (segment page s).entries ++ each_of page ss
 
-pub add_up : (page : ℕ) (done : List (List ℕ)) (last : List ℕ) → AllByRecursion (IsWhole page) done
+pub add_up : (page : ℕ) (done : List (List ℕ)) (last : List ℕ) → AllByRecursion (IsWholeText page) done
     → entries_of page (done ++ last ∷ []) ≡ each_of page done ++ (segment page last).entries
 unfolding reading each_of
 add_up page [] last all = refl
@@ -34,12 +34,12 @@ each_push page [] s = append-nil (segment page s).entries
 each_push page (d ∷ ds) s =
     ap (λ (es : List Entry). (segment page d).entries ++ es) (each_push page ds s) ∙ sym (append_assoc (segment page d).entries (each_of page ds) (segment page s).entries)
 
-all_push : (page : ℕ) (done : List (List ℕ)) (s : List ℕ) → AllByRecursion (IsWhole page) done → IsWhole page s → AllByRecursion (IsWhole page) (done ++ s ∷ [])
+all_push : (page : ℕ) (done : List (List ℕ)) (s : List ℕ) → AllByRecursion (IsWholeText page) done → IsWholeText page s → AllByRecursion (IsWholeText page) (done ++ s ∷ [])
 all_push page [] s all w = (w, tt)
 all_push page (d ∷ ds) s all w = (all.0, all_push page ds s all.1 w)
 
 -- a next segment adds its entries
-pub next_adds : (page : ℕ) (done : List (List ℕ)) (text last : List ℕ) → AllByRecursion (IsWhole page) done → IsWhole page text
+pub next_adds : (page : ℕ) (done : List (List ℕ)) (text last : List ℕ) → AllByRecursion (IsWholeText page) done → IsWholeText page text
     → entries_of page (done ++ text ∷ last ∷ []) ≡ entries_of page (done ++ text ∷ []) ++ (segment page last).entries
 next_adds page done text last all whole =
     ap (entries_of page) (sym (append_assoc done (text ∷ []) (last ∷ [])))
@@ -47,7 +47,7 @@ next_adds page done text last all whole =
     ∙ ap (λ (es : List Entry). es ++ (segment page last).entries) (each_push page done text ∙ sym (add_up page done text all))
 
 -- after a clean cut a next segment adds its entries to those that were there
-pub goes_on : (page : ℕ) (done : List (List ℕ)) (text next : List ℕ) (at : ℕ) → AllByRecursion (IsWhole page) done → IsCleanCut page text at
+pub goes_on : (page : ℕ) (done : List (List ℕ)) (text next : List ℕ) (at : ℕ) → AllByRecursion (IsWholeText page) done → IsCleanCut page text at
     → entries_of page (done ++ take at text ∷ next ∷ []) ≡ entries_of page (done ++ text ∷ []) ++ (segment page next).entries
 goes_on page done text next at all cut =
     ap (entries_of page) (sym (append_assoc done (take at text ∷ []) (next ∷ [])))

@@ -16,11 +16,11 @@ abbrev pub entries_of : ℕ → Segments → List Entry
 entries_of page segments = (reading page (log_of segments)).entries
 
 -- a segment ends between two records, so that a next one may be begun
-abbrev pub IsWhole : ℕ → List ℕ → Type 0
-IsWhole page text = (segment page text).stop ≡ between
+abbrev pub IsWholeText : ℕ → List ℕ → Type 0
+IsWholeText page text = (segment page text).stop ≡ between
 
 -- a segment may be cut there: it keeps all its entries, and ends between two records
 pub record IsCleanCut (page : ℕ) (text : List ℕ) (at : ℕ) : Type 0 where
   pub within : at ≤ length text
   pub keeps : (segment page (take at text)).entries ≡ (segment page text).entries
-  pub whole : IsWhole page (take at text)
+  pub whole : IsWholeText page (take at text)

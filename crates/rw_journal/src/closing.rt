@@ -3,7 +3,7 @@
 ghost use Rattle.std.specs.Prelude.{◌≡◌, ◌<◌, ◌++◌, [], ◌∷◌, take, OnOk, IsErrOf};
 ghost use Rattle.rw_journal.specs.Journal.{on_last, Only, LeavesOnly};
 ghost use Rattle.rw_wal_format.specs.Pieces.{page_size};
-ghost use Rattle.rw_journal.specs.Logs.{entries_of, IsWhole, IsCleanCut};
+ghost use Rattle.rw_journal.specs.Logs.{entries_of, IsWholeText, IsCleanCut};
 ghost use Rattle.rw_journal.specs.TornLogs.{last_of, AllBefore};
 
 use crate::journal::{Journal, JournalError};
@@ -13,14 +13,14 @@ use crate::journal::{Journal, JournalError};
 pub fn close_torn<J: Journal>(journal: &mut J, at: usize) -> Result<(), JournalError>
     // After a restart, what is read is what is on the disk.
     requires synced { Only (J.seen journal.old) (J.may_leave journal.old) }
-    requires whole { AllBefore (IsWhole page_size) (J.seen journal.old) }
+    requires whole { AllBefore (IsWholeText page_size) (J.seen journal.old) }
     requires clean { IsCleanCut page_size (last_of (J.seen journal.old)) at }
 
     ensures segments { OnOk result
         (J.seen journal.new ≡ on_last (take at) (J.seen journal.old) ++ [] ∷ []) }
     ensures entries { OnOk result
         (entries_of page_size (J.seen journal.new) ≡ entries_of page_size (J.seen journal.old)) }
-    ensures whole { OnOk result (AllBefore (IsWhole page_size) (J.seen journal.new)) }
+    ensures whole { OnOk result (AllBefore (IsWholeText page_size) (J.seen journal.new)) }
     ensures synced { OnOk result (Only (J.seen journal.new) (J.may_leave journal.new)) }
 
     // A crash at any moment leaves a log with the same entries.

@@ -7,7 +7,7 @@ ghost use Rattle.rw_types.specs.declared.entry.Entry.{Entry};
 ghost use Rattle.rw_wal_format.specs.Laws.{AreRecords, log_all, entries_of_records};
 ghost use Rattle.rw_wal_format.specs.Pieces.{bytes, next_segment, page_size, fault};
 ghost use Rattle.rw_wal_format.specs.Segments.{segment};
-ghost use Rattle.rw_journal.specs.Logs.{entries_of, IsWhole, IsCleanCut};
+ghost use Rattle.rw_journal.specs.Logs.{entries_of, IsWholeText, IsCleanCut};
 ghost use Rattle.rw_journal.specs.Journal.{Segments, with_more};
 ghost use Rattle.rw_journal.specs.Torn.{IsTorn, IsTornLog};
 ghost use Rattle.rw_journal.specs.TornLogs.{NoChance, last_of, AllBefore};
@@ -29,7 +29,7 @@ pub fn a_torn_end_is_a_beginning()
 pub fn a_torn_log_is_a_beginning<J: Journal>()
     ensures { (page : ℕ) (old : Segments) (written : List ℕ) (left : Segments) → 0 < page
         → NoChance page (last_of (with_more old written)) (last_of left)
-        → AllBefore (IsWhole page) old
+        → AllBefore (IsWholeText page) old
         → IsTornLog J.tears page (length (last_of old)) old written left
         → Begins (entries_of page old) (entries_of page left)
         × Begins (entries_of page left) (entries_of page (with_more old written)) }
@@ -39,7 +39,7 @@ pub fn a_torn_log_is_a_beginning<J: Journal>()
 /// entries, and then those of the last one.
 pub fn segments_add_up()
     ensures { (page : ℕ) (done : List (List ℕ)) (text last : List ℕ)
-        → AllByRecursion (IsWhole page) done → IsWhole page text
+        → AllByRecursion (IsWholeText page) done → IsWholeText page text
         → entries_of page (done ++ text ∷ last ∷ [])
         ≡ entries_of page (done ++ text ∷ []) ++ (segment page last).entries }
 {}
@@ -48,7 +48,7 @@ pub fn segments_add_up()
 /// the log has the entries that it had, and then those of the next one.
 pub fn a_cut_log_goes_on()
     ensures { (page : ℕ) (done : List (List ℕ)) (text next : List ℕ) (at : ℕ)
-        → AllByRecursion (IsWhole page) done → IsCleanCut page text at
+        → AllByRecursion (IsWholeText page) done → IsCleanCut page text at
         → entries_of page (done ++ take at text ∷ next ∷ [])
         ≡ entries_of page (done ++ text ∷ []) ++ (segment page next).entries }
 {}
@@ -67,7 +67,7 @@ pub fn a_checked_cut_is_clean()
 /// nothing before them.
 pub fn records_add_entries()
     ensures { (done : Segments) (ds more : List (List ℕ)) (es fs : List Entry)
-        → AllByRecursion (IsWhole page_size) done → AreRecords (ds ++ more)
+        → AllByRecursion (IsWholeText page_size) done → AreRecords (ds ++ more)
         → entries_of_records ds ≡ Some es → entries_of_records more ≡ Some fs
         → entries_of page_size (done ++ log_all page_size 0 (ds ++ more) ∷ [])
         ≡ entries_of page_size (done ++ log_all page_size 0 ds ∷ []) ++ fs }

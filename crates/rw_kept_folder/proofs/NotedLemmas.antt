@@ -7,21 +7,21 @@ use Rattle.rw_kept_folder.specs.declared.file_call.FileCall.{FileCall}
 use Rattle.rw_kept_folder.specs.declared.file_call.FileCall.TheVariants.{Append, SetLen, CreateNext, SyncData, SyncFolder}
 use Rattle.rw_kept_folder.specs.Files.{HasAll, IsSureIfAll}
 use Rattle.rw_kept_folder.proofs.LengthLemmas.{length_on_last}
-use Rattle.rw_kept_folder.specs.Noted.{Noted, State, changed, Tears, Leaves, seen_in, LeftIn, data_synced, folder_synced, step, after, LeftFrom, opened, seen_of, MayLeave, LeftSince}
+use Rattle.rw_kept_folder.specs.Noted.{Noted, FolderState, changed_by, Tears, Leaves, seen_in, LeftIn, data_synced, folder_synced, step, after_calls, LeftFrom, opened, seen_of, MayLeave, LeftSinceNoted}
 use Rattle.rw_kept_folder.specs.inner.Noted.{AreUnread, all_written}
 
-after_push : (s : State) (calls : List FileCall) (call : FileCall) → after s (calls ++ call ∷ []) ≡ step call (after s calls)
+after_push : (s : FolderState) (calls : List FileCall) (call : FileCall) → after_calls s (calls ++ call ∷ []) ≡ step call (after_calls s calls)
 after_push s [] call = refl
 after_push s (x ∷ calls) call = after_push (step x s) calls call
 
-keeps : (s : State) (calls : List FileCall) (call : FileCall) (t : ℕ) (c : Segments) → t ≤ length calls → LeftFrom s calls t c → LeftFrom s (calls ++ call ∷ []) t c
+keeps : (s : FolderState) (calls : List FileCall) (call : FileCall) (t : ℕ) (c : Segments) → t ≤ length calls → LeftFrom s calls t c → LeftFrom s (calls ++ call ∷ []) t c
 keeps s [] call zero c le left = inl left
 keeps s [] call (suc t) c le left = absurd (omega arith)
 keeps s (x ∷ calls) call zero c le (inl now) = inl now
 keeps s (x ∷ calls) call zero c le (inr later) = inr (keeps (step x s) calls call zero c (omega arith) later)
 keeps s (x ∷ calls) call (suc t) c le left = keeps (step x s) calls call t c (omega arith) left
 
-adds : (s : State) (calls : List FileCall) (call : FileCall) (t : ℕ) (c : Segments) → t ≤ length calls → LeftFrom s (calls ++ call ∷ []) t c → LeftFrom s calls t c ⊎ LeftIn (after s (calls ++ call ∷ [])) c
+adds : (s : FolderState) (calls : List FileCall) (call : FileCall) (t : ℕ) (c : Segments) → t ≤ length calls → LeftFrom s (calls ++ call ∷ []) t c → LeftFrom s calls t c ⊎ LeftIn (after_calls s (calls ++ call ∷ [])) c
 adds s [] call zero c le left = left
 adds s [] call (suc t) c le left = absurd (omega arith)
 adds s (x ∷ calls) call zero c le (inl now) = inl (inl now)
@@ -31,19 +31,19 @@ adds s (x ∷ calls) call (suc t) c le left = adds (step x s) calls call t c (om
 module _ (old new : Noted) (loaded : new.loaded ≡ old.loaded) where
   -- no call more
   module _ (calls : new.calls ≡ old.calls) where
-    same_state : after (opened new) new.calls ≡ after (opened old) old.calls
-    same_state = ap (λ (l : Segments). after (record { on_disk = l; under_way = None }) new.calls) loaded ∙ ap (after (opened old)) calls
+    same_state : after_calls (opened new) new.calls ≡ after_calls (opened old) old.calls
+    same_state = ap (λ (l : Segments). after_calls (record { on_disk = l; under_way = None }) new.calls) loaded ∙ ap (after_calls (opened old)) calls
 
     pub same_seen : seen_of new ≡ seen_of old
     same_seen = ap seen_in same_state
 
     pub same_left : NoMore (MayLeave old) (MayLeave new)
-    same_left c left = subst (λ (s : State). LeftIn s c) same_state left
+    same_left c left = subst (λ (s : FolderState). LeftIn s c) same_state left
 
-    same_since : (t : ℕ) (c : Segments) → LeftSince new t c ≡ LeftSince old t c
+    same_since : (t : ℕ) (c : Segments) → LeftSinceNoted new t c ≡ LeftSinceNoted old t c
     same_since t c = ap (λ (l : Segments). LeftFrom (record { on_disk = l; under_way = None }) new.calls t c) loaded ∙ ap (λ (cs : List FileCall). LeftFrom (opened old) cs t c) calls
 
-    pub elapses_same : Elapses (length old.calls) (length new.calls) (LeftSince old) (LeftSince new) (MayLeave new)
+    pub elapses_same : Elapses (length old.calls) (length new.calls) (LeftSinceNoted old) (LeftSinceNoted new) (MayLeave new)
     elapses_same = record {
       later = omega (arith, ap length calls);
       nothing_else = λ t c le left. inl (subst (λ (T : Type 0). T) (same_since t c) left);
@@ -52,29 +52,29 @@ module _ (old new : Noted) (loaded : new.loaded ≡ old.loaded) where
 
   -- one call more
   module _ (call : FileCall) (calls : new.calls ≡ old.calls ++ call ∷ []) where
-    same_step : after (opened new) new.calls ≡ step call (after (opened old) old.calls)
-    same_step = ap (λ (l : Segments). after (record { on_disk = l; under_way = None }) new.calls) loaded ∙ ap (after (opened old)) calls ∙ after_push (opened old) old.calls call
+    same_step : after_calls (opened new) new.calls ≡ step call (after_calls (opened old) old.calls)
+    same_step = ap (λ (l : Segments). after_calls (record { on_disk = l; under_way = None }) new.calls) loaded ∙ ap (after_calls (opened old)) calls ∙ after_push (opened old) old.calls call
 
-    pub seen_after : seen_of new ≡ seen_in (step call (after (opened old) old.calls))
+    pub seen_after : seen_of new ≡ seen_in (step call (after_calls (opened old) old.calls))
     seen_after = ap seen_in same_step
 
-    pub left_after : (c : Segments) → MayLeave new c → LeftIn (step call (after (opened old) old.calls)) c
-    left_after c left = subst (λ (s : State). LeftIn s c) same_step left
+    pub left_after : (c : Segments) → MayLeave new c → LeftIn (step call (after_calls (opened old) old.calls)) c
+    left_after c left = subst (λ (s : FolderState). LeftIn s c) same_step left
 
-    from_new : (t : ℕ) (c : Segments) → LeftSince new t c ≡ LeftFrom (opened old) (old.calls ++ call ∷ []) t c
+    from_new : (t : ℕ) (c : Segments) → LeftSinceNoted new t c ≡ LeftFrom (opened old) (old.calls ++ call ∷ []) t c
     from_new t c = ap (λ (l : Segments). LeftFrom (record { on_disk = l; under_way = None }) new.calls t c) loaded ∙ ap (λ (cs : List FileCall). LeftFrom (opened old) cs t c) calls
 
-    now_new : (c : Segments) → MayLeave new c ≡ LeftIn (after (opened old) (old.calls ++ call ∷ [])) c
-    now_new c = ap (λ (s : State). LeftIn s c) (same_step ∙ sym (after_push (opened old) old.calls call))
+    now_new : (c : Segments) → MayLeave new c ≡ LeftIn (after_calls (opened old) (old.calls ++ call ∷ [])) c
+    now_new c = ap (λ (s : FolderState). LeftIn s c) (same_step ∙ sym (after_push (opened old) old.calls call))
 
-    pub elapses_push : Elapses (length old.calls) (length new.calls) (LeftSince old) (LeftSince new) (MayLeave new)
+    pub elapses_push : Elapses (length old.calls) (length new.calls) (LeftSinceNoted old) (LeftSinceNoted new) (MayLeave new)
     elapses_push = record {
       later = omega (arith, ap length calls, length-append old.calls (call ∷ []));
       nothing_else = λ t c le left. ⊎_elim (λ past. inl past) (λ now. inr (subst (λ (T : Type 0). T) (sym (now_new c)) now)) (adds (opened old) old.calls call t c le (subst (λ (T : Type 0). T) (from_new t c) left));
       keeps = λ t c le left. subst (λ (T : Type 0). T) (sym (from_new t c)) (keeps (opened old) old.calls call t c le left);
     }
 
-data_seen : (u : Option FileCall) (d : Segments) → seen_in (data_synced u (record { on_disk = d; under_way = u })) ≡ changed u d
+data_seen : (u : Option FileCall) (d : Segments) → seen_in (data_synced u (record { on_disk = d; under_way = u })) ≡ changed_by u d
 data_seen None d = refl
 data_seen (Some (Append bytes)) d = refl
 data_seen (Some (SetLen len)) d = refl
@@ -98,7 +98,7 @@ begun_whole : (d c : Segments) → IsBegun d c → length c ≡ length (d ++ [] 
 begun_whole d c (inl same) e = absurd (longer d [] (sym (ap length same) ∙ e))
 begun_whole d c (inr more) e = more
 
-data_sure : (u : Option FileCall) (d c : Segments) → LeftIn (data_synced u (record { on_disk = d; under_way = u })) c → length c ≡ length (changed u d) → c ≡ changed u d
+data_sure : (u : Option FileCall) (d c : Segments) → LeftIn (data_synced u (record { on_disk = d; under_way = u })) c → length c ≡ length (changed_by u d) → c ≡ changed_by u d
 data_sure None d c left e = left
 data_sure (Some (Append bytes)) d c left e = left
 data_sure (Some (SetLen len)) d c left e = left
@@ -106,7 +106,7 @@ data_sure (Some CreateNext) d c left e = begun_whole d c left e
 data_sure (Some SyncData) d c left e = left
 data_sure (Some SyncFolder) d c left e = left
 
-folder_seen : (u : Option FileCall) (d : Segments) → seen_in (folder_synced u (record { on_disk = d; under_way = u })) ≡ changed u d
+folder_seen : (u : Option FileCall) (d : Segments) → seen_in (folder_synced u (record { on_disk = d; under_way = u })) ≡ changed_by u d
 folder_seen None d = refl
 folder_seen (Some (Append bytes)) d = refl
 folder_seen (Some (SetLen len)) d = refl
@@ -122,7 +122,7 @@ folder_fewer (Some CreateNext) d c left = inr left
 folder_fewer (Some SyncData) d c left = left
 folder_fewer (Some SyncFolder) d c left = left
 
-folder_all : (u : Option FileCall) (d c : Segments) → LeftIn (folder_synced u (record { on_disk = d; under_way = u })) c → length c ≡ length (changed u d)
+folder_all : (u : Option FileCall) (d c : Segments) → LeftIn (folder_synced u (record { on_disk = d; under_way = u })) c → length c ≡ length (changed_by u d)
 folder_all None d c left = ap length left
 folder_all (Some (Append bytes)) d c left = ap length left.folder ∙ length_on_last (λ s. s ++ left.more) d ∙ sym (length_on_last (λ s. s ++ bytes) d)
 folder_all (Some (SetLen len)) d c left = ap length left.folder ∙ length_on_last (take left.at) d ∙ sym (length_on_last (take len) d)
@@ -149,7 +149,7 @@ pushed_failed old between new call e p = record {
 }
 
 module _ (old new : Noted) where
-  pub elapses_pushed : (call : FileCall) → Pushed old new call → Elapses (length old.calls) (length new.calls) (LeftSince old) (LeftSince new) (MayLeave new)
+  pub elapses_pushed : (call : FileCall) → Pushed old new call → Elapses (length old.calls) (length new.calls) (LeftSinceNoted old) (LeftSinceNoted new) (MayLeave new)
   elapses_pushed call p = elapses_push old new p.loaded call p.calls
 
   pub append_seen : (bytes : List ℕ) → Pushed old new (Append bytes) → seen_of new ≡ with_more (seen_of old) bytes
@@ -182,29 +182,29 @@ module _ (old new : Noted) where
   -- a sync of the bytes
   pub data_synced_seen : Pushed old new SyncData → seen_of new ≡ seen_of old
   data_synced_seen p =
-      seen_after old new p.loaded SyncData p.calls ∙ data_seen (after (opened old) old.calls).under_way (after (opened old) old.calls).on_disk
+      seen_after old new p.loaded SyncData p.calls ∙ data_seen (after_calls (opened old) old.calls).under_way (after_calls (opened old) old.calls).on_disk
 
   pub data_synced_fewer : Pushed old new SyncData → NoMore (MayLeave old) (MayLeave new)
   data_synced_fewer p c left =
-      data_fewer (after (opened old) old.calls).under_way (after (opened old) old.calls).on_disk c (left_after old new p.loaded SyncData p.calls c left)
+      data_fewer (after_calls (opened old) old.calls).under_way (after_calls (opened old) old.calls).on_disk c (left_after old new p.loaded SyncData p.calls c left)
 
   pub data_synced_sure : Pushed old new SyncData → IsSureIfAll (seen_of new) (MayLeave new)
   data_synced_sure p c left e =
-      data_sure (after (opened old) old.calls).under_way (after (opened old) old.calls).on_disk c (left_after old new p.loaded SyncData p.calls c left) (e ∙ ap length (data_synced_seen p))
+      data_sure (after_calls (opened old) old.calls).under_way (after_calls (opened old) old.calls).on_disk c (left_after old new p.loaded SyncData p.calls c left) (e ∙ ap length (data_synced_seen p))
       ∙ sym (data_synced_seen p)
 
   -- a sync of the folder
   pub folder_synced_seen : Pushed old new SyncFolder → seen_of new ≡ seen_of old
   folder_synced_seen p =
-      seen_after old new p.loaded SyncFolder p.calls ∙ folder_seen (after (opened old) old.calls).under_way (after (opened old) old.calls).on_disk
+      seen_after old new p.loaded SyncFolder p.calls ∙ folder_seen (after_calls (opened old) old.calls).under_way (after_calls (opened old) old.calls).on_disk
 
   pub folder_synced_fewer : Pushed old new SyncFolder → NoMore (MayLeave old) (MayLeave new)
   folder_synced_fewer p c left =
-      folder_fewer (after (opened old) old.calls).under_way (after (opened old) old.calls).on_disk c (left_after old new p.loaded SyncFolder p.calls c left)
+      folder_fewer (after_calls (opened old) old.calls).under_way (after_calls (opened old) old.calls).on_disk c (left_after old new p.loaded SyncFolder p.calls c left)
 
   pub folder_synced_all : Pushed old new SyncFolder → HasAll (seen_of new) (MayLeave new)
   folder_synced_all p c left =
-      folder_all (after (opened old) old.calls).under_way (after (opened old) old.calls).on_disk c (left_after old new p.loaded SyncFolder p.calls c left)
+      folder_all (after_calls (opened old) old.calls).under_way (after_calls (opened old) old.calls).on_disk c (left_after old new p.loaded SyncFolder p.calls c left)
       ∙ ap length (sym (folder_synced_seen p))
 
 -- the segments that were not read stay those of the folder while what is seen stays
@@ -229,9 +229,9 @@ taken noted read text rest (inr some) =
 
 -- nothing was asked yet
 pub fresh_seen : (noted : Noted) → noted.calls ≡ [] → seen_of noted ≡ noted.loaded
-fresh_seen noted none = ap (λ (cs : List FileCall). seen_in (after (opened noted) cs)) none
+fresh_seen noted none = ap (λ (cs : List FileCall). seen_in (after_calls (opened noted) cs)) none
 
-fresh_left : (l : Segments) (cs : List FileCall) → cs ≡ [] → (c : Segments) → LeftIn (after (record { on_disk = l; under_way = None }) cs) c → c ≡ seen_in (after (record { on_disk = l; under_way = None }) cs)
+fresh_left : (l : Segments) (cs : List FileCall) → cs ≡ [] → (c : Segments) → LeftIn (after_calls (record { on_disk = l; under_way = None }) cs) c → c ≡ seen_in (after_calls (record { on_disk = l; under_way = None }) cs)
 fresh_left l [] none c left = left
 fresh_left l (x ∷ cs) none c left = absurd (omega (arith, ap length none))
 

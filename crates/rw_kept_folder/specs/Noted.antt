@@ -12,16 +12,16 @@ pub record Noted : Type 0 where
   pub faults : ℕ
 
 -- the segments on the disk, and the call whose change may still be under way
-pub record State : Type 0 where
+pub record FolderState : Type 0 where
   pub on_disk : Segments
   pub under_way : Option FileCall
 
 -- the segments after a change
-abbrev pub changed : Option FileCall → Segments → Segments
-changed (Some (Append bytes)) segments = with_more segments bytes
-changed (Some (SetLen len)) segments = on_last (take len) segments
-changed (Some CreateNext) segments = segments ++ [] ∷ []
-changed _ segments = segments
+abbrev pub changed_by : Option FileCall → Segments → Segments
+changed_by (Some (Append bytes)) segments = with_more segments bytes
+changed_by (Some (SetLen len)) segments = on_last (take len) segments
+changed_by (Some CreateNext) segments = segments ++ [] ∷ []
+changed_by _ segments = segments
 
 -- bytes that are being written may be torn in any way
 abbrev pub Tears : List ℕ → List ℕ → Type 0
@@ -35,55 +35,55 @@ Leaves (Some CreateNext) segments c = IsBegun segments c
 Leaves _ segments c = c ≡ segments
 
 -- what a read returns
-abbrev pub seen_in : State → Segments
-seen_in s = changed s.under_way s.on_disk
+abbrev pub seen_in : FolderState → Segments
+seen_in s = changed_by s.under_way s.on_disk
 
 -- what a crash may leave
-abbrev pub LeftIn : State → Segments → Type 0
+abbrev pub LeftIn : FolderState → Segments → Type 0
 LeftIn s c = Leaves s.under_way s.on_disk c
 
 -- the change is on the disk
-abbrev pub settled : State → State
-settled s = record { on_disk = seen_in s; under_way = None }
+abbrev pub settled_state : FolderState → FolderState
+settled_state s = record { on_disk = seen_in s; under_way = None }
 
 -- The bytes were synced: then all is on the disk, but a file that was just created may be missing
 -- in the folder.
-abbrev pub data_synced : Option FileCall → State → State
+abbrev pub data_synced : Option FileCall → FolderState → FolderState
 data_synced (Some CreateNext) s = s
-data_synced _ s = settled s
+data_synced _ s = settled_state s
 
 -- The folder was synced: then it has the file that was created.
-abbrev pub folder_synced : Option FileCall → State → State
-folder_synced (Some CreateNext) s = settled s
+abbrev pub folder_synced : Option FileCall → FolderState → FolderState
+folder_synced (Some CreateNext) s = settled_state s
 folder_synced _ s = s
 
 -- A call: a change, which is under way from then on, or a sync that succeeded. A change is asked
 -- only while all that is seen is on the disk.
-abbrev pub step : FileCall → State → State
+abbrev pub step : FileCall → FolderState → FolderState
 step SyncData s = data_synced s.under_way s
 step SyncFolder s = folder_synced s.under_way s
 step call s = record { on_disk = seen_in s; under_way = Some call }
 
 -- after these calls, in order
-abbrev pub after : State → List FileCall → State
-after s [] = s
-after s (call ∷ calls) = after (step call s) calls
+abbrev pub after_calls : FolderState → List FileCall → FolderState
+after_calls s [] = s
+after_calls s (call ∷ calls) = after_calls (step call s) calls
 
 -- what a crash may have left at the moment t, the number of calls before it, or later
-abbrev pub LeftFrom : State → List FileCall → ℕ → Segments → Type 0
+abbrev pub LeftFrom : FolderState → List FileCall → ℕ → Segments → Type 0
 LeftFrom s [] t c = LeftIn s c
 LeftFrom s (call ∷ calls) zero c = LeftIn s c ⊎ LeftFrom (step call s) calls zero c
 LeftFrom s (call ∷ calls) (suc t) c = LeftFrom (step call s) calls t c
 
 -- what was loaded is on the disk
-abbrev pub opened : Noted → State
+abbrev pub opened : Noted → FolderState
 opened noted = record { on_disk = noted.loaded; under_way = None }
 
 abbrev pub seen_of : Noted → Segments
-seen_of noted = seen_in (after (opened noted) noted.calls)
+seen_of noted = seen_in (after_calls (opened noted) noted.calls)
 
 abbrev pub MayLeave : Noted → Segments → Type 0
-MayLeave noted c = LeftIn (after (opened noted) noted.calls) c
+MayLeave noted c = LeftIn (after_calls (opened noted) noted.calls) c
 
-abbrev pub LeftSince : Noted → ℕ → Segments → Type 0
-LeftSince noted t c = LeftFrom (opened noted) noted.calls t c
+abbrev pub LeftSinceNoted : Noted → ℕ → Segments → Type 0
+LeftSinceNoted noted t c = LeftFrom (opened noted) noted.calls t c

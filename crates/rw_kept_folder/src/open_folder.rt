@@ -2,7 +2,7 @@
 
 ghost use Rattle.std.specs.Prelude.{◌≡◌, ◌+◌, [], length, map};
 ghost use Rattle.rw_journal.specs.Journal.{Only};
-ghost use Rattle.rw_kept_folder.specs.Noted.{seen_of, MayLeave, LeftSince, Tears};
+ghost use Rattle.rw_kept_folder.specs.Noted.{seen_of, MayLeave, LeftSinceNoted, Tears};
 ghost use Rattle.rw_kept_folder.specs.inner.Noted.{counts_now, only_now, leaves_seen};
 
 use crate::fault::{FaultCause, FolderFault};
@@ -89,7 +89,7 @@ impl<R: Files + Clock + AllocGlobal + Copy> SegmentFiles for OpenFolder<R> {
 
     ghost moment = { λ f. length f.calls };
 
-    ghost left_since = { λ f t c. LeftSince f t c };
+    ghost left_since = { λ f t c. LeftSinceNoted f t c };
 
     ghost tears = { Tears };
 

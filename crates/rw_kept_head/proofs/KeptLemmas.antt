@@ -16,13 +16,13 @@ use Rattle.rw_head.specs.Order.{Point}
 use Rattle.rw_head.specs.Store.{Store, list_of}
 use Rattle.rw_journal.specs.Journal.{Segments, with_more, IsBegun, LeavesOnly, Only}
 use Rattle.rw_journal.specs.Torn.{IsTornLog}
-use Rattle.rw_journal.specs.Logs.{entries_of, IsWhole}
+use Rattle.rw_journal.specs.Logs.{entries_of, IsWholeText}
 use Rattle.rw_journal.specs.TornLogs.{last_of, AllBefore}
 use Rattle.rw_journal.proofs.shared.TornLogLemmas.{left_between}
 use Rattle.rw_journal.proofs.shared.ClosingLemmas.{nothing_read}
-use Rattle.rw_wal_append.specs.Additions.{without_position, samples_in, definition_entry}
+use Rattle.rw_wal_append.specs.Additions.{without_position, samples_of_labels, definition_entry}
 use Rattle.rw_wal_append.proofs.shared.AdditionLemmas.{samples_in-append}
-use Rattle.rw_wal_append.specs.References.{Named, AreDefined, AreOf, StandFor, points_of, undefined, only_defined}
+use Rattle.rw_wal_append.specs.References.{ReferenceTable, AreDefined, AreReferenced, StandFor, points_of, undefined, only_defined}
 use Rattle.rw_wal_append.specs.Ends.{EndsAt}
 use Rattle.rw_wal_append.proofs.shared.HoldLemmas.{before_all, more_last}
 use Rattle.rw_kept_head.specs.Kept.{SaysWhat, LiesBetween, IsLeft, IsTornWrite, HasNoChance}
@@ -44,13 +44,13 @@ module _ {D : Type 0} (moment : D → ℕ) (left_since : D → ℕ → Segments 
 
 -- ---- logs
 
-pub samples_begin : (es fs : List Entry) (l : Labels) → Begins es fs → Begins (samples_in es l) (samples_in fs l)
-samples_begin es fs l b = (map without_position (samples_after l es b.0), ap (λ (x : List Entry). samples_in x l) b.1 ∙ samples_in-append l es b.0)
+pub samples_begin : (es fs : List Entry) (l : Labels) → Begins es fs → Begins (samples_of_labels es l) (samples_of_labels fs l)
+samples_begin es fs l b = (map without_position (samples_after l es b.0), ap (λ (x : List Entry). samples_of_labels x l) b.1 ∙ samples_in-append l es b.0)
 
 -- what `segments_add_up` says
 abbrev pub AddUp : Type 0
 AddUp =
-    (page : ℕ) (done : List (List ℕ)) (text last : List ℕ) → AllByRecursion (IsWhole page) done → IsWhole page text
+    (page : ℕ) (done : List (List ℕ)) (text last : List ℕ) → AllByRecursion (IsWholeText page) done → IsWholeText page text
     → entries_of page (done ++ text ∷ last ∷ []) ≡ entries_of page (done ++ text ∷ []) ++ (segment page last).entries
 
 nothing_there : (page : ℕ) → entries_of page ([] ∷ []) ≡ entries_of page []
@@ -71,10 +71,10 @@ last_split P s (t ∷ ss) all =
     record { done = s ∷ r.done; text = r.text; is = ap (λ (x : Segments). s ∷ x) r.is; all = (all.0, r.all); here = r.here }
 
 -- an empty segment after whole ones
-pub next_same : AddUp → (page : ℕ) (ss : Segments) → AllByRecursion (IsWhole page) ss → entries_of page (ss ++ [] ∷ []) ≡ entries_of page ss
+pub next_same : AddUp → (page : ℕ) (ss : Segments) → AllByRecursion (IsWholeText page) ss → entries_of page (ss ++ [] ∷ []) ≡ entries_of page ss
 next_same up page [] all = nothing_there page
 next_same up page (s ∷ ss) all =
-    let e = last_split (IsWhole page) s ss all in
+    let e = last_split (IsWholeText page) s ss all in
     ap (λ (x : Segments). entries_of page (x ++ [] ∷ [])) e.is
     ∙ ap (entries_of page) (append_assoc e.done (e.text ∷ []) ([] ∷ []))
     ∙ up page e.done e.text [] e.all e.here
@@ -82,14 +82,14 @@ next_same up page (s ∷ ss) all =
     ∙ append-nil (entries_of page (e.done ++ e.text ∷ []))
     ∙ ap (entries_of page) (sym e.is)
 
-pub begun_same : AddUp → (page : ℕ) (old new : Segments) → AllByRecursion (IsWhole page) old → IsBegun old new → entries_of page new ≡ entries_of page old
+pub begun_same : AddUp → (page : ℕ) (old new : Segments) → AllByRecursion (IsWholeText page) old → IsBegun old new → entries_of page new ≡ entries_of page old
 begun_same up page old new all (inl same) = ap (entries_of page) same
 begun_same up page old new all (inr more) = ap (entries_of page) more ∙ next_same up page old all
 
 -- a log that ends between two records consists of whole segments
-pub ends_whole : ((ss : Segments) (n : ℕ) → EndsAt ss n → EndsAt (ss ++ [] ∷ []) 0) → ((ss : Segments) (n : ℕ) → EndsAt ss n → AllBefore (IsWhole page_size) ss) → (segments : Segments) (offset : ℕ)
-    → EndsAt segments offset → AllByRecursion (IsWhole page_size) segments
-ends_whole next whole segments offset e = before_all (IsWhole page_size) segments [] (whole (segments ++ [] ∷ []) 0 (next segments offset e))
+pub ends_whole : ((ss : Segments) (n : ℕ) → EndsAt ss n → EndsAt (ss ++ [] ∷ []) 0) → ((ss : Segments) (n : ℕ) → EndsAt ss n → AllBefore (IsWholeText page_size) ss) → (segments : Segments) (offset : ℕ)
+    → EndsAt segments offset → AllByRecursion (IsWholeText page_size) segments
+ends_whole next whole segments offset e = before_all (IsWholeText page_size) segments [] (whole (segments ++ [] ∷ []) 0 (next segments offset e))
 
 before_of : (P : List ℕ → Type 0) (ss : Segments) → AllByRecursion P ss → AllBefore P ss
 before_of P [] all = tt
@@ -106,34 +106,34 @@ begun_before P old new all (inl same) = subst (AllBefore P) (sym same) (before_o
 begun_before P old new all (inr more) = subst (AllBefore P) (sym more) (before_next P old all)
 
 -- a next segment was begun
-pub goes_next : AddUp → (old new : Segments) (may_leave : Segments → Type 0) (offset : ℕ) → EndsAt (old ++ [] ∷ []) 0 → AllBefore (IsWhole page_size) (old ++ [] ∷ []) → new ≡ old ++ [] ∷ [] → offset ≡ 0
+pub goes_next : AddUp → (old new : Segments) (may_leave : Segments → Type 0) (offset : ℕ) → EndsAt (old ++ [] ∷ []) 0 → AllBefore (IsWholeText page_size) (old ++ [] ∷ []) → new ≡ old ++ [] ∷ [] → offset ≡ 0
     → Only new may_leave → GoesOn old new may_leave offset
 goes_next up old new may_leave offset ends whole begun zero synced = record {
   begun = inr begun;
-  entries = ap (entries_of page_size) begun ∙ next_same up page_size old (before_all (IsWhole page_size) old [] whole);
+  entries = ap (entries_of page_size) begun ∙ next_same up page_size old (before_all (IsWholeText page_size) old [] whole);
   ends = subst (λ (s : Segments). EndsAt s offset) (sym begun) (subst (EndsAt (old ++ [] ∷ [])) (sym zero) ends);
   synced = synced;
 }
 
 -- ---- what a crash leaves
 
-module _ (up : AddUp) (tears : List ℕ → List ℕ → Type 0) (old new : Store) (segments left : Segments) (says : SaysWhat segments old) (whole : AllByRecursion (IsWhole page_size) segments)
+module _ (up : AddUp) (tears : List ℕ → List ℕ → Type 0) (old new : Store) (segments left : Segments) (says : SaysWhat segments old) (whole : AllByRecursion (IsWholeText page_size) segments)
     (begins : (l : Labels) → Begins (list_of old l) (list_of new l)) where
   between : (base : Segments) → IsBegun segments base → (is : (left ≡ base) ⊎ IsTornWrite tears new base left) → HasNoChance tears new base left is → LiesBetween old new left
   between base begun (inl same) none = λ l.
-      let e : samples_in (entries_of page_size left) l ≡ list_of old l =
-      ap (λ (es : List Entry). samples_in es l) (ap (entries_of page_size) same ∙ begun_same up page_size segments base whole begun) ∙ sym (says l) in (
+      let e : samples_of_labels (entries_of page_size left) l ≡ list_of old l =
+      ap (λ (es : List Entry). samples_of_labels es l) (ap (entries_of page_size) same ∙ begun_same up page_size segments base whole begun) ∙ sym (says l) in (
         subst (Begins (list_of old l)) (sym e) (begins_itself (list_of old l)),
         subst (λ (ps : List Point). Begins ps (list_of new l)) (sym e) (begins l),
       )
   between base begun (inr w) none = λ l.
-      let both = left_between tears page_size base w.written left (lit< tt) none (begun_before (IsWhole page_size) segments base whole begun) w.torn in
-      let e : list_of old l ≡ samples_in (entries_of page_size base) l = says l ∙ ap (λ (es : List Entry). samples_in es l) (sym (begun_same up page_size segments base whole begun)) in (
-        subst (λ (ps : List Point). Begins ps (samples_in (entries_of page_size left) l)) (sym e) (samples_begin (entries_of page_size base) (entries_of page_size left) l both.0),
-        subst (Begins (samples_in (entries_of page_size left) l)) (sym (w.will l)) (samples_begin (entries_of page_size left) (entries_of page_size (with_more base w.written)) l both.1),
+      let both = left_between tears page_size base w.written left (lit< tt) none (begun_before (IsWholeText page_size) segments base whole begun) w.torn in
+      let e : list_of old l ≡ samples_of_labels (entries_of page_size base) l = says l ∙ ap (λ (es : List Entry). samples_of_labels es l) (sym (begun_same up page_size segments base whole begun)) in (
+        subst (λ (ps : List Point). Begins ps (samples_of_labels (entries_of page_size left) l)) (sym e) (samples_begin (entries_of page_size base) (entries_of page_size left) l both.0),
+        subst (Begins (samples_of_labels (entries_of page_size left) l)) (sym (w.will l)) (samples_begin (entries_of page_size left) (entries_of page_size (with_more base w.written)) l both.1),
       )
 
-pub crash_leaves : AddUp → (tears : List ℕ → List ℕ → Type 0) (old new : Store) (segments left : Segments) → SaysWhat segments old → AllByRecursion (IsWhole page_size) segments
+pub crash_leaves : AddUp → (tears : List ℕ → List ℕ → Type 0) (old new : Store) (segments left : Segments) → SaysWhat segments old → AllByRecursion (IsWholeText page_size) segments
     → ((l : Labels) → Begins (list_of old l) (list_of new l)) → (x : IsLeft tears new segments left) → HasNoChance tears new x.base left x.is → LiesBetween old new left
 crash_leaves up tears old new segments left says whole begins x none = between up tears old new segments left says whole begins x.base x.begun x.is none
 
@@ -179,31 +179,31 @@ Samples = List (ℕ × ℤ × ℕ)
 -- what `new_samples_are_read` says
 abbrev pub AreRead : Type 0
 AreRead =
-    (es : List Entry) (n : Named) (samples : List (ℕ × ℤ × ℕ)) (l : Labels) → AreDefined es n → AreOf n samples
-    → samples_in (es ++ map definition_entry (undefined n) ++ map sample_entry samples) l ≡ samples_in es l ++ points_of n l samples
+    (es : List Entry) (n : ReferenceTable) (samples : List (ℕ × ℤ × ℕ)) (l : Labels) → AreDefined es n → AreReferenced n samples
+    → samples_of_labels (es ++ map definition_entry (undefined n) ++ map sample_entry samples) l ≡ samples_of_labels es l ++ points_of n l samples
 
-pub says_more : AreRead → (old new : Store) (base : Segments) (bytes : List ℕ) (n : Named) (samples : List (ℕ × ℤ × ℕ)) (added : List Added) → SaysWhat base old → AddsUp old new added
-    → AreDefined (entries_of page_size base) n → AreOf n samples → ((l : Labels) → points_of n l samples ≡ samples_added l added)
+pub says_more : AreRead → (old new : Store) (base : Segments) (bytes : List ℕ) (n : ReferenceTable) (samples : List (ℕ × ℤ × ℕ)) (added : List Added) → SaysWhat base old → AddsUp old new added
+    → AreDefined (entries_of page_size base) n → AreReferenced n samples → ((l : Labels) → points_of n l samples ≡ samples_added l added)
     → entries_of page_size (with_more base bytes) ≡ entries_of page_size base ++ map definition_entry (undefined n) ++ map sample_entry samples → SaysWhat (with_more base bytes) new
 says_more law old new base bytes n samples added says up defined of points entries = λ l.
     up.lists l
     ∙ ap (λ (ps : List Point). ps ++ samples_added l added) (says l)
-    ∙ ap (λ (ps : List Point). samples_in (entries_of page_size base) l ++ ps) (sym (points l))
+    ∙ ap (λ (ps : List Point). samples_of_labels (entries_of page_size base) l ++ ps) (sym (points l))
     ∙ sym (law (entries_of page_size base) n samples l defined of)
-    ∙ ap (λ (es : List Entry). samples_in es l) (sym entries)
+    ∙ ap (λ (es : List Entry). samples_of_labels es l) (sym entries)
 
 -- the definitions that a log has are the same
-pub still_defined : (es fs : List Entry) (n later : Named) → fs ≡ es → only_defined later ≡ only_defined n → AreDefined es n → AreDefined fs later
+pub still_defined : (es fs : List Entry) (n later : ReferenceTable) → fs ≡ es → only_defined later ≡ only_defined n → AreDefined es n → AreDefined fs later
 still_defined es fs n later same undone defined =
-    subst (λ (x : List Entry). AreDefined x later) (sym same) (subst (λ (m : Named). StandFor es m.first m.sets) (sym undone) defined)
+    subst (λ (x : List Entry). AreDefined x later) (sym same) (subst (λ (m : ReferenceTable). StandFor es m.first m.sets) (sym undone) defined)
 
-pub defined_after_abort : (es : List Entry) (n later : Named) → later ≡ only_defined n → AreDefined es n → AreDefined es later
+pub defined_after_abort : (es : List Entry) (n later : ReferenceTable) → later ≡ only_defined n → AreDefined es n → AreDefined es later
 defined_after_abort es n later aborted defined =
     subst (AreDefined es) (sym aborted) (subst (StandFor es n.first) (sym (take-take n.defined n.defined n.sets (omega arith))) defined)
 
 -- ---- what is collected
 
-pub collected_none : (n : Named) (l : Labels) (samples : List (ℕ × ℤ × ℕ)) (added rest : List Added) → samples ≡ [] → rest ≡ added → points_of n l samples ++ samples_added l rest ≡ samples_added l added
+pub collected_none : (n : ReferenceTable) (l : Labels) (samples : List (ℕ × ℤ × ℕ)) (added rest : List Added) → samples ≡ [] → rest ≡ added → points_of n l samples ++ samples_added l rest ≡ samples_added l added
 collected_none n l samples added rest none same =
     ap (λ (ss : List (ℕ × ℤ × ℕ)). points_of n l ss ++ samples_added l rest) none ∙ ap (samples_added l) same
 

@@ -25,7 +25,7 @@ use Rattle.rw_head.specs.Verdicts.{LabelLimits, is_over_limits, refusal, accepte
 use Rattle.rw_head.proofs.shared.BodyLemmas.{taken_status}
 use Rattle.rw_head.proofs.shared.StoreLemmas.{list_of-with_list, total-with_list}
 use Rattle.rw_head.proofs.shared.StagingLemmas.{push_has}
-use Rattle.rw_wal_append.specs.Additions.{without_position, samples_in}
+use Rattle.rw_wal_append.specs.Additions.{without_position, samples_of_labels}
 use Rattle.rw_wal_append.proofs.shared.AdditionLemmas.{samples_in-append, no_sample}
 use Rattle.rw_kept_head.specs.Admitted.{MayHold}
 use Rattle.rw_kept_head.specs.inner.Restoring.{StandsFor, IsRestored, IsRestoring, IsRestoredOrRefused, IsSeriesOf, IsAdded, CannotFollow, AddsOne, Defines, AddsSample, TakesSample}
@@ -143,18 +143,18 @@ sampled_next names taken lookup later old new reference t w adds restored = reco
   says = λ l.
       adds.added l (labels_of taken reference (length taken)) (restored.known reference)
       ∙ ap (λ (ps : List Point). ps ++ cond (has_labels l (labels_of taken reference (length taken))) ((t, w) ∷ []) []) (restored.says l)
-      ∙ ap (λ (ps : List Point). samples_in taken l ++ ps) (sym (said (has_labels l (labels_of taken reference (length taken))) (length taken) (t, w)))
+      ∙ ap (λ (ps : List Point). samples_of_labels taken l ++ ps) (sym (said (has_labels l (labels_of taken reference (length taken))) (length taken) (t, w)))
       ∙ sym (samples_in-append l taken (Sample reference t w ∷ []));
 }
 
 refused_next : (limits : LabelLimits) (taken : List Entry) (lookup : ℕ → Option (Option TimeSeries)) (store : Store) (reference : ℕ) (t : ℤ) (w : ℕ) (l : Labels) → labels_of taken reference (length taken) ≡ Some l
-    → CannotFollow limits store l (t, w) → IsRestored limits.names taken lookup store → MayHold limits (samples_in (taken ++ Sample reference t w ∷ [])) → ⊥
+    → CannotFollow limits store l (t, w) → IsRestored limits.names taken lookup store → MayHold limits (samples_of_labels (taken ++ Sample reference t w ∷ [])) → ⊥
 refused_next limits taken lookup store reference t w l is cannot restored may =
-    let same : samples_in (taken ++ Sample reference t w ∷ []) l ≡ list_of store l ++ (t, w) ∷ [] =
+    let same : samples_of_labels (taken ++ Sample reference t w ∷ []) l ≡ list_of store l ++ (t, w) ∷ [] =
     samples_in-append l taken (Sample reference t w ∷ [])
-    ∙ ap (λ (ps : List Point). samples_in taken l ++ ps) (said (has_labels l (labels_of taken reference (length taken))) (length taken) (t, w))
-    ∙ ap (λ (o : Option (List (List ℕ × List ℕ))). samples_in taken l ++ cond (has_labels l o) ((t, w) ∷ []) []) is
-    ∙ ap (λ (b : Bool). samples_in taken l ++ cond b ((t, w) ∷ []) []) (equal_if_same l l refl)
+    ∙ ap (λ (ps : List Point). samples_of_labels taken l ++ ps) (said (has_labels l (labels_of taken reference (length taken))) (length taken) (t, w))
+    ∙ ap (λ (o : Option (List (List ℕ × List ℕ))). samples_of_labels taken l ++ cond (has_labels l o) ((t, w) ∷ []) []) is
+    ∙ ap (λ (b : Bool). samples_of_labels taken l ++ cond b ((t, w) ∷ []) []) (equal_if_same l l refl)
     ∙ ap (λ (ps : List Point). ps ++ (t, w) ∷ []) (sym (restored.says l)) in
     cannot (subst (Rises IsEarlier) same (may.rises l)) (may.within l (ap has_samples same ∙ push_has (list_of store l) (t, w)))
 
@@ -169,7 +169,7 @@ pub nothing_yet : (names : Names) (taken : List Entry) (lookup : ℕ → Option 
     → IsRestored names taken lookup store
 nothing_yet names taken lookup store none unknown empty = record {
   known = λ r. subst (λ (o : Option (Option TimeSeries)). StandsFor names o (labels_of taken r (length taken))) (sym (unknown r)) (ap (λ (es : List Entry). labels_of es r (length es)) none);
-  says = λ l. empty l ∙ ap (λ (es : List Entry). samples_in es l) (sym none);
+  says = λ l. empty l ∙ ap (λ (es : List Entry). samples_of_labels es l) (sym none);
 }
 
 -- ---- the whole log
@@ -181,16 +181,16 @@ holds_nothing limits lists none = record {
 }
 
 -- a log that goes on after what is refused is refused
-still_refused : (limits : LabelLimits) (taken : List Entry) (e : Entry) → (MayHold limits (samples_in taken) → ⊥) → MayHold limits (samples_in (taken ++ e ∷ [])) → ⊥
+still_refused : (limits : LabelLimits) (taken : List Entry) (e : Entry) → (MayHold limits (samples_of_labels taken) → ⊥) → MayHold limits (samples_of_labels (taken ++ e ∷ [])) → ⊥
 still_refused limits taken e refuses may =
-    refuses (begin_held limits (samples_in taken) (samples_in (taken ++ e ∷ [])) (λ l. samples_begin taken (taken ++ e ∷ []) l (e ∷ [], refl)) may)
+    refuses (begin_held limits (samples_of_labels taken) (samples_of_labels (taken ++ e ∷ [])) (λ l. samples_begin taken (taken ++ e ∷ []) l (e ∷ [], refl)) may)
 
 pub restoring_next : (taken : List Entry) (e : Entry) (lookup later : ℕ → Option (Option TimeSeries)) (old new : State) (refused done : Bool) → new.limits ≡ old.limits → IsRestoring taken lookup old refused
     → (IsRestored old.limits.names taken lookup old.store → IsRestoredOrRefused old.limits (taken ++ e ∷ []) later new.store done)
     → (MayHold old.limits (list_of old.store) → MayHold old.limits (list_of new.store)) → IsRestoring (taken ++ e ∷ []) later new (refused || not done)
 restoring_next taken e lookup later old new true done same r next held = record {
   restored = λ is. absurd cc;
-  refuses = λ is. subst (λ (limits : LabelLimits). MayHold limits (samples_in (taken ++ e ∷ [])) → ⊥) (sym same) (still_refused old.limits taken e (r.refuses refl));
+  refuses = λ is. subst (λ (limits : LabelLimits). MayHold limits (samples_of_labels (taken ++ e ∷ [])) → ⊥) (sym same) (still_refused old.limits taken e (r.refuses refl));
   holds = subst (λ (limits : LabelLimits). MayHold limits (list_of new.store)) (sym same) (held r.holds);
 }
 restoring_next taken e lookup later old new false true same r next held = record {
@@ -200,7 +200,7 @@ restoring_next taken e lookup later old new false true same r next held = record
 }
 restoring_next taken e lookup later old new false false same r next held = record {
   restored = λ is. absurd cc;
-  refuses = λ is. subst (λ (limits : LabelLimits). MayHold limits (samples_in (taken ++ e ∷ [])) → ⊥) (sym same) (next (r.restored refl));
+  refuses = λ is. subst (λ (limits : LabelLimits). MayHold limits (samples_of_labels (taken ++ e ∷ [])) → ⊥) (sym same) (next (r.restored refl));
   holds = subst (λ (limits : LabelLimits). MayHold limits (list_of new.store)) (sym same) (held r.holds);
 }
 

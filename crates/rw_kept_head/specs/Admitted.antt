@@ -9,7 +9,7 @@ use Rattle.rw_head.specs.Order.{Point}
 use Rattle.rw_head.specs.Verdicts.{LabelLimits, refusal}
 use Rattle.rw_journal.specs.Journal.{Segments}
 use Rattle.rw_journal.specs.Logs.{entries_of}
-use Rattle.rw_wal_append.specs.Additions.{samples_in}
+use Rattle.rw_wal_append.specs.Additions.{samples_of_labels}
 
 -- the limits on label sets
 abbrev pub label_limits : Limits → LabelLimits
@@ -23,4 +23,4 @@ pub record MayHold (limits : LabelLimits) (lists : Labels → List Point) : Type
 
 -- a head with these limits may hold the samples of this log
 abbrev pub IsAdmitted : LabelLimits → Segments → Type 0
-IsAdmitted limits segments = MayHold limits (samples_in (entries_of page_size segments))
+IsAdmitted limits segments = MayHold limits (samples_of_labels (entries_of page_size segments))

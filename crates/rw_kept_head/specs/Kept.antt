@@ -10,9 +10,9 @@ use Rattle.rw_head.specs.Store.{Store, list_of}
 use Rattle.rw_journal.specs.Journal.{Segments, Only, IsBegun, with_more}
 use Rattle.rw_journal.specs.Torn.{IsTornLog}
 use Rattle.rw_journal.specs.declared.journal.JournalError.{JournalError}
-use Rattle.rw_journal.specs.Logs.{entries_of, IsWhole}
+use Rattle.rw_journal.specs.Logs.{entries_of, IsWholeText}
 use Rattle.rw_journal.specs.TornLogs.{NoChance, last_of}
-use Rattle.rw_wal_append.specs.Additions.{samples_in}
+use Rattle.rw_wal_append.specs.Additions.{samples_of_labels}
 
 -- a head, the journal that has its log, and the fault after which every request is answered 503
 pub record Kept (J : Type 0) : Type 0 where
@@ -22,13 +22,13 @@ pub record Kept (J : Type 0) : Type 0 where
 
 -- the log has of each label set the samples that the store has of it, in order
 abbrev pub SaysWhat : Segments → Store → Type 0
-SaysWhat segments store = (l : Labels) → list_of store l ≡ samples_in (entries_of page_size segments) l
+SaysWhat segments store = (l : Labels) → list_of store l ≡ samples_of_labels (entries_of page_size segments) l
 
 -- the log has of each label set all samples of the first store, and after them a prefix of those
 -- that the second one has more
 abbrev pub LiesBetween : Store → Store → Segments → Type 0
 LiesBetween old new left =
-    (l : Labels) → Begins (list_of old l) (samples_in (entries_of page_size left) l) × Begins (samples_in (entries_of page_size left) l) (list_of new l)
+    (l : Labels) → Begins (list_of old l) (samples_of_labels (entries_of page_size left) l) × Begins (samples_of_labels (entries_of page_size left) l) (list_of new l)
 
 -- bytes that were being written to the last segment of a log, so that it says what the store has:
 -- a crash left a torn part of them
@@ -55,5 +55,5 @@ HasNoChance tears new base left (inr w) = NoChance page_size (last_of (with_more
 -- all of it is synced.
 pub record KeepsStore (may_leave : Segments → Type 0) (segments : Segments) (store : Store) : Type 0 where
   pub says : SaysWhat segments store
-  pub whole : AllByRecursion (IsWhole page_size) segments
+  pub whole : AllByRecursion (IsWholeText page_size) segments
   pub synced : Only segments may_leave

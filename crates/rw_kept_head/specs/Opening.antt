@@ -21,10 +21,10 @@ IsRefusedRightly old new NoReferenceLeft = new ≡ old
 
 -- a log is said to be foreign only if no head with these limits holds its samples, and to have no
 -- reference left only if it has one from 2^63 on
-abbrev pub HasCause : LabelLimits → Segments → OpenError → Type 0
-HasCause limits segments (Log e) = Unit {0}
-HasCause limits segments (Foreign at) = IsAdmitted limits segments → ⊥
-HasCause limits segments NoReferenceLeft = 2 ^ 63 ≤ greatest_after 0 (entries_of page_size segments)
+abbrev pub HasOpeningCause : LabelLimits → Segments → OpenError → Type 0
+HasOpeningCause limits segments (Log e) = Unit {0}
+HasOpeningCause limits segments (Foreign at) = IsAdmitted limits segments → ⊥
+HasOpeningCause limits segments NoReferenceLeft = 2 ^ 63 ≤ greatest_after 0 (entries_of page_size segments)
 
 -- these segments have the same entries
 abbrev pub HasSameEntries : Segments → Segments → Type 0

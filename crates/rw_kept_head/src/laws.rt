@@ -10,8 +10,8 @@ ghost use Rattle.rw_head.specs.Head.{State, answer};
 ghost use Rattle.rw_head.specs.Store.{Store, list_of};
 ghost use Rattle.rw_head.specs.Verdicts.{LabelLimits};
 ghost use Rattle.rw_journal.specs.Journal.{Segments};
-ghost use Rattle.rw_journal.specs.Logs.{IsWhole};
-ghost use Rattle.rw_wal_append.specs.Additions.{samples_in};
+ghost use Rattle.rw_journal.specs.Logs.{IsWholeText};
+ghost use Rattle.rw_wal_append.specs.Additions.{samples_of_labels};
 ghost use Rattle.rw_kept_head.specs.Admitted.{MayHold, IsAdmitted};
 ghost use Rattle.rw_kept_head.specs.Opening.{HasSameEntries};
 ghost use Rattle.rw_kept_head.specs.Kept.{SaysWhat, LiesBetween, IsLeft, HasNoChance};
@@ -22,7 +22,7 @@ use rw_journal::laws::segments_add_up;
 /// Law: as a log goes on, the samples of each label set go on.
 pub fn samples_go_on()
     ensures { (es fs : List Entry) (l : Labels) → Begins es fs
-        → Begins (samples_in es l) (samples_in fs l) }
+        → Begins (samples_of_labels es l) (samples_of_labels fs l) }
 {}
 
 /// Law: what a crash leaves while a request is answered is between what was held and what was about
@@ -30,7 +30,7 @@ pub fn samples_go_on()
 /// ones. The premise is that no checksum is right by chance in what this crash left.
 pub fn what_is_left_lies_between<J: Journal>()
     ensures { (old new : Store) (segments left : Segments)
-        → SaysWhat segments old → AllByRecursion (IsWhole page_size) segments
+        → SaysWhat segments old → AllByRecursion (IsWholeText page_size) segments
         → ((l : Labels) → Begins (list_of old l) (list_of new l))
         → (x : IsLeft J.tears new segments left) → HasNoChance J.tears new x.base left x.is
         → LiesBetween old new left }

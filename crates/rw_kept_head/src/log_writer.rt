@@ -7,7 +7,7 @@ ghost use Rattle.rw_journal.specs.declared.journal.JournalError.TheVariants.{Fai
 ghost use Rattle.rw_wal_format.specs.Laws.{sample_entry};
 ghost use Rattle.rw_wal_format.specs.Pieces.{page_size};
 ghost use Rattle.rw_wal_append.specs.Additions.{definition_entry};
-ghost use Rattle.rw_journal.specs.Logs.{entries_of, IsWhole};
+ghost use Rattle.rw_journal.specs.Logs.{entries_of, IsWholeText};
 ghost use Rattle.rw_wal_append.specs.Ends.{EndsAt};
 ghost use Rattle.rw_kept_head.specs.Kept.{SaysWhat, IsLeft};
 ghost use Rattle.rw_kept_head.specs.inner.Inner.{IsWritable, GoesOn, Keeps};
@@ -137,7 +137,7 @@ impl<J: Journal> LogWriter<J> {
     pub(crate) fn fault(&self) -> Option<JournalError>
         ensures fault { result ≡ self.now.fault }
         ensures whole { result ≡ None
-            → AllByRecursion (IsWhole page_size) (J.seen self.now.journal) }
+            → AllByRecursion (IsWholeText page_size) (J.seen self.now.journal) }
         ensures synced { result ≡ None
             → Only (J.seen self.now.journal) (J.may_leave self.now.journal) }
     {

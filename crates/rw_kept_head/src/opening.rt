@@ -8,7 +8,7 @@ ghost use Rattle.rw_reopen.specs.declared.error.ReopenError.TheVariants.{Failed}
 ghost use Rattle.rw_kept_head.specs.Kept.{SaysWhat, KeepsStore};
 ghost use Rattle.rw_head.specs.Store.{list_of};
 ghost use Rattle.rw_kept_head.specs.Admitted.{MayHold, label_limits};
-ghost use Rattle.rw_kept_head.specs.Opening.{HasCause, HasSameEntries, IsRefusedRightly};
+ghost use Rattle.rw_kept_head.specs.Opening.{HasOpeningCause, HasSameEntries, IsRefusedRightly};
 ghost use Rattle.rw_kept_head.specs.declared.open_error.OpenError.TheVariants.{Log};
 
 use crate::kept_head::KeptHead;
@@ -48,7 +48,7 @@ fn open_log<J: Journal>(
     ensures any_moment { LeavesOnly J.moment J.left_since journal.old journal.new
         (HasSameEntries (J.seen journal.old)) }
     ensures refused { IfErr result (IsRefusedRightly (J.seen journal.old) (J.seen journal.new)) }
-    ensures cause { IfErr result (HasCause (label_limits limits.now) (J.seen journal.old)) }
+    ensures cause { IfErr result (HasOpeningCause (label_limits limits.now) (J.seen journal.old)) }
     ensures failed { IsErrOf result (Log Failed) → J.faults journal.old < J.faults journal.new }
 {
     an_empty_segment_ends_at_0();
@@ -132,7 +132,7 @@ impl<J: Journal> KeptHead<J> {
         ensures refused { IfErr result
             (λ e. IsRefusedRightly (J.seen journal) (J.seen e.1) e.0) }
         ensures cause { IfErr result
-            (λ e. HasCause (label_limits limits.now) (J.seen journal) e.0) }
+            (λ e. HasOpeningCause (label_limits limits.now) (J.seen journal) e.0) }
         ensures failed { IfErr result
             (λ e. e.0 ≡ Log Failed → J.faults journal < J.faults e.1) }
     {

@@ -4,7 +4,7 @@ ghost use Rattle.std.specs.Prelude.{◌≡◌, ◌≢◌, ◌∷◌, ◌++◌, [
 ghost use Rattle.std.specs.HashMap.{get};
 ghost use Rattle.rw_types.specs.Labels.{Labels, text_label};
 ghost use Rattle.rw_types.specs.declared.entry.Entry.{Entry};
-ghost use Rattle.rw_wal_append.specs.Additions.{samples_in};
+ghost use Rattle.rw_wal_append.specs.Additions.{samples_of_labels};
 ghost use Rattle.rw_head.specs.declared.verdict.Verdict.TheVariants.{Stored};
 ghost use Rattle.rw_head.specs.Store.{list_of};
 ghost use Rattle.rw_kept_head.specs.Admitted.{MayHold, label_limits};
@@ -256,10 +256,11 @@ impl Restoring {
     pub(crate) fn into_head(self) -> Option<Head>
         requires whole { self.failed ≡ false }
         ensures says { IfSome result (λ h. (l : Labels)
-            → list_of h.store l ≡ samples_in self.taken l) }
+            → list_of h.store l ≡ samples_of_labels self.taken l) }
         ensures holds { IfSome result (λ h. MayHold h.limits (list_of h.store)) }
         ensures same { IfSome result (λ h. h ≡ self.head) }
-        ensures refused { result ≡ None → MayHold self.head.limits (samples_in self.taken) → ⊥ }
+        ensures refused { result ≡ None → MayHold self.head.limits (samples_of_labels self.taken)
+            → ⊥ }
     {
         let Restoring {
             alloc: _,

@@ -4,7 +4,7 @@ ghost use Rattle.std.specs.Prelude.{◌≡◌, ◌++◌, [], if◌then◌else◌
 ghost use Rattle.rw_types.specs.Labels.{Labels};
 ghost use Rattle.rw_types.specs.LabelOrder.{labels_eq};
 ghost use Rattle.rw_head.specs.Added.{AddsUp, samples_added};
-ghost use Rattle.rw_wal_append.specs.References.{AreOf, points_of, only_defined};
+ghost use Rattle.rw_wal_append.specs.References.{AreReferenced, points_of, only_defined};
 
 use rw_head::{AddedSeries, StagedHead};
 use rw_types::Word;
@@ -18,8 +18,8 @@ fn put_series(
     points: &mut Vec<(i64, Word)>,
     series: &AddedSeries<'_>,
 ) -> Result<(), AllocError>
-    requires { AreOf references.old samples.old.items }
-    ensures of { OnOk result (AreOf references.new samples.new.items) }
+    requires { AreReferenced references.old samples.old.items }
+    ensures of { OnOk result (AreReferenced references.new samples.new.items) }
     ensures points { OnOk result ((l : Labels) → points_of references.new l samples.new.items
         ≡ points_of references.old l samples.old.items
         ++ (if labels_eq series.now.labels l then series.now.samples else [])) }
@@ -37,7 +37,7 @@ pub(crate) fn collect(
     references: &mut References,
     staged: &StagedHead,
 ) -> Result<Vec<(u64, i64, Word)>, AllocError>
-    ensures of { IfOk result (λ v. AreOf references.new v.items) }
+    ensures of { IfOk result (λ v. AreReferenced references.new v.items) }
     ensures points { IfOk result (λ v. (l : Labels) → points_of references.new l v.items
         ≡ samples_added l staged.now.added) }
     ensures adds { AddsUp staged.now.before.store staged.now.after.store staged.now.added }

@@ -18,10 +18,10 @@ abbrev pub no_sums : Sums
 no_sums = record { entries = 0; series = 0; samples = 0; earliest = None; latest = None }
 
 -- one more entry
-abbrev pub with_entry : Sums → Entry → Sums
-with_entry s (Def reference labels) = record s { entries = s.entries + 1; series = s.series + 1 }
-with_entry s (Sample reference t word) = record s { entries = s.entries + 1; samples = s.samples + 1; earliest = sooner s.earliest t; latest = later s.latest t }
+abbrev pub sums_with_entry : Sums → Entry → Sums
+sums_with_entry s (Def reference labels) = record s { entries = s.entries + 1; series = s.series + 1 }
+sums_with_entry s (Sample reference t word) = record s { entries = s.entries + 1; samples = s.samples + 1; earliest = sooner s.earliest t; latest = later s.latest t }
 
 -- the totals of entries
 unfoldable pub sums_of : List Entry → Sums
-sums_of entries = fold with_entry no_sums entries
+sums_of entries = fold sums_with_entry no_sums entries

@@ -1,7 +1,7 @@
 //! The totals of entries.
 
 ghost use Rattle.std.specs.Prelude.{◌≡◌, ◌+◌, IfOk};
-ghost use Rattle.rw_log_read.specs.Sums.{later, no_sums, sooner, with_entry};
+ghost use Rattle.rw_log_read.specs.Sums.{later, no_sums, sooner, sums_with_entry};
 
 use rw_types::Entry;
 use std::alloc::AllocError;
@@ -60,7 +60,7 @@ impl Sums {
 
     /// Returns these totals with one more entry.
     pub fn with(&self, entry: &Entry) -> Result<Sums, AllocError>
-        ensures { IfOk result (λ sums. sums ≡ with_entry self.now entry.now) }
+        ensures { IfOk result (λ sums. sums ≡ sums_with_entry self.now entry.now) }
     {
         let entries = one_more(self.entries)?;
         match entry {

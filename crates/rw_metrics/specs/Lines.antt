@@ -91,9 +91,9 @@ log_text n =
     ++ word_and_count (codes "failed") n.failed
 
 -- the same, if it has such a log
-unfoldable pub kept_text : Option KeptNumbers → List ℕ
-kept_text None = []
-kept_text (Some n) = log_text n
+unfoldable pub kept_log_text : Option KeptNumbers → List ℕ
+kept_log_text None = []
+kept_log_text (Some n) = log_text n
 
 -- of a receiver
 abbrev pub receive_line : ReceiveNumbers → List ℕ
@@ -102,7 +102,7 @@ receive_line n =
     ++ word_and_count (codes "accepted") n.accepted
     ++ word_and_count (codes "samples") n.samples
     ++ status_counts_text n.statuses.items
-    ++ kept_text n.kept
+    ++ kept_log_text n.kept
 
 -- how many samples a sender has dropped, by reason
 abbrev pub drops_line : Drops → List ℕ

@@ -1,7 +1,7 @@
 //! Lines of progress.
 
 ghost use Rattle.std.specs.Prelude.{◌≡◌, ◌++◌, ◌<◌, IfOk, OnOk};
-ghost use Rattle.rw_metrics.specs.Lines.{cause_text, drops_line, kept_text, lag, lag_text, last_failure_text, log_text, lost_count_text, other_count_text, percent, percent_text, reading_line, receive_line, samples_line, send_line, skipped_line, status_count_text, status_counts_text, word_and_count, word_and_count_if_any, work_line};
+ghost use Rattle.rw_metrics.specs.Lines.{cause_text, drops_line, kept_log_text, lag, lag_text, last_failure_text, log_text, lost_count_text, other_count_text, percent, percent_text, reading_line, receive_line, samples_line, send_line, skipped_line, status_count_text, status_counts_text, word_and_count, word_and_count_if_any, work_line};
 
 use crate::cause::Cause;
 use crate::exposition::push_text;
@@ -184,9 +184,9 @@ fn push_log(out: &mut Vec<u8>, n: &KeptNumbers) -> Result<(), AllocError>
 }
 
 /// Adds what was written to the log of a folder, if the receiver has one.
-#[tactic(auto, unfolding(crate::specs::Lines::kept_text))]
+#[tactic(auto, unfolding(crate::specs::Lines::kept_log_text))]
 fn push_kept(out: &mut Vec<u8>, kept: &Option<KeptNumbers>) -> Result<(), AllocError>
-    ensures { OnOk result (out.new.items ≡ out.old.items ++ kept_text kept.now) }
+    ensures { OnOk result (out.new.items ≡ out.old.items ++ kept_log_text kept.now) }
 {
     match kept {
         None => Ok(()),

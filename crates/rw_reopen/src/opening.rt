@@ -4,7 +4,7 @@ ghost use Rattle.std.specs.Prelude.{◌≡◌, ◌<◌, ◌≤◌, ◌++◌, [],
 ghost use Rattle.std.specs.List.{AllByRecursion};
 ghost use Rattle.rw_journal.specs.Journal.{on_last, Only, LeavesOnly};
 ghost use Rattle.rw_wal_format.specs.Pieces.{page_size};
-ghost use Rattle.rw_journal.specs.Logs.{entries_of, IsWhole};
+ghost use Rattle.rw_journal.specs.Logs.{entries_of, IsWholeText};
 ghost use Rattle.rw_journal.specs.TornLogs.{last_of, AllBefore};
 ghost use Rattle.rw_reopen.specs.Reading.{greatest_after};
 ghost use Rattle.rw_reopen.specs.Reopening.{HasDamage, IsDamaged, IsEnd, IsOnlyRead};
@@ -57,7 +57,7 @@ fn read_earlier<J: Journal, S: EntrySink>(
     ensures greatest { OnOk result (greatest.new
         ≡ greatest_after greatest.old (entries_of page_size (take count (J.seen journal.old)))) }
     ensures whole { OnOk result
-        (AllByRecursion (IsWhole page_size) (take count (J.seen journal.old))) }
+        (AllByRecursion (IsWholeText page_size) (take count (J.seen journal.old))) }
     ensures fixed { OnOk result (S.fixed sink.new ≡ S.fixed sink.old) }
     ensures journal { IsOnlyRead J.seen J.may_leave J.moment J.left_since J.faults journal.old
         journal.new }
@@ -119,7 +119,7 @@ pub fn read_log<J: Journal, S: EntrySink>(
     ensures entries { OnOk result (S.taken sink.new
         ≡ S.taken sink.old ++ entries_of page_size (J.seen journal.old)) }
     ensures end { IfOk result (IsEnd (J.seen journal.old)) }
-    ensures whole { OnOk result (AllBefore (IsWhole page_size) (J.seen journal.old)) }
+    ensures whole { OnOk result (AllBefore (IsWholeText page_size) (J.seen journal.old)) }
     ensures fixed { OnOk result (S.fixed sink.new ≡ S.fixed sink.old) }
 
     // Nothing is changed, at any moment.
@@ -167,7 +167,7 @@ pub fn reopen<J: Journal, S: EntrySink>(
         ≡ on_last (take end.whole) (J.seen journal.old) ++ [] ∷ []) }
     ensures entries { OnOk result
         (entries_of page_size (J.seen journal.new) ≡ entries_of page_size (J.seen journal.old)) }
-    ensures whole { OnOk result (AllBefore (IsWhole page_size) (J.seen journal.new)) }
+    ensures whole { OnOk result (AllBefore (IsWholeText page_size) (J.seen journal.new)) }
     ensures synced { OnOk result (Only (J.seen journal.new) (J.may_leave journal.new)) }
 
     // A crash at any moment leaves a log with the same entries.

@@ -58,8 +58,8 @@ FeedsOrders p orders offset q =
     (events : List Event) × (map order_of_event events ≡ orders) × (q ≡ record (in_world p (world_after p events)) { offset = offset })
 
 -- the line's event happened
-abbrev pub Happens : Played → Order → Played → Type 0
-Happens p o q = (e : Event) × (order_of_event e ≡ o) × (q ≡ in_world p (happens p.machine.setup p.machine.world e))
+abbrev pub PlaysOrder : Played → Order → Played → Type 0
+PlaysOrder p o q = (e : Event) × (order_of_event e ≡ o) × (q ≡ in_world p (happens p.machine.setup p.machine.world e))
 
 -- the world after this many rounds of an orderly shutdown
 abbrev pub settled_after : Played → ℕ → World
@@ -75,7 +75,7 @@ PlaysSettle p o q = (o ≡ order_of command.Settle)
 -- shutdown
 abbrev pub Plays : Played → Order → Played → Type 0
 Plays p (logged rec) q = FeedsOrders p (feeds p.offset rec) (written_end p.offset rec) q
-Plays p o q = Happens p o q ⊎ PlaysSettle p o q
+Plays p o q = PlaysOrder p o q ⊎ PlaysSettle p o q
 
 -- lines were carried out, one after the other
 abbrev pub Follows : Played → List Order → Played → Type 0

@@ -16,7 +16,7 @@ use Rattle.rw_head.proofs.shared.StoreLemmas.{list_of-empty, list_of-with_list}
 use Rattle.rw_restarts.specs.Parts.{points_in, AreWithinLimits}
 use Rattle.rw_restarts.specs.Runs.{SentMessage, SenderRun, IsSentBy, IsRunOver, AreRunsOver, acknowledged_in}
 use Rattle.rw_restarts.specs.Receivers.{ReceiverEvent, Answers, RestartsDuring, Brings, Happens, IsAnsweredAmong, IsReceiverOf}
-use Rattle.rw_restarts.specs.Examples.{series, first, second, whole, message_of, sent_with, killed_run, second_run, runs, limits, events, with_first, with_both, states}
+use Rattle.rw_restarts.specs.Examples.{example_series, first, second, whole, message_of, sent_with, killed_run, second_run, runs, limits, events, with_first, with_both, states}
 
 nothing_at : {X : Type 0} (x : X) (n : ℕ) → (let none : List X = [] in slice_get none n ≡ Some x) → ⊥
 nothing_at x n e = cc (e)
@@ -43,17 +43,17 @@ each_run P a b zero run at = subst P (same_Some killed_run run at) a
 each_run P a b (suc zero) run at = subst P (same_Some second_run run at) b
 each_run P a b (suc (suc i)) run at = absurd (nothing_at run i at)
 
-itself : labels_eq series series ≡ true
-itself = equal_if_same series series refl
+itself : labels_eq example_series example_series ≡ true
+itself = equal_if_same example_series example_series refl
 
-pub points-of-first : points_in series (message_of first) ≡ first ∷ []
+pub points-of-first : points_in example_series (message_of first) ≡ first ∷ []
 points-of-first = ap (λ b. cond b (first ∷ []) [] ++ []) itself
 
-pub acknowledged-once : acknowledged_in series (sent_with first (Some Again) ∷ sent_with first (Some Done) ∷ []) ≡ first ∷ []
+pub acknowledged-once : acknowledged_in example_series (sent_with first (Some Again) ∷ sent_with first (Some Done) ∷ []) ≡ first ∷ []
 acknowledged-once = ap (λ ys. ys ++ []) points-of-first
 
 -- ---- the runs
-both_in_order : (l : Labels) (b : Bool) → labels_eq l series ≡ b → Begins (cond b (first ∷ []) [] ++ []) (cond b (first ∷ second ∷ []) [])
+both_in_order : (l : Labels) (b : Bool) → labels_eq l example_series ≡ b → Begins (cond b (first ∷ []) [] ++ []) (cond b (first ∷ second ∷ []) [])
 both_in_order l true e = (second ∷ [], refl)
 both_in_order l false e = ([], refl)
 
@@ -65,35 +65,35 @@ in_order : (run : SenderRun) (answer : Option Judgement) → run ≡ record { ea
 in_order run answer same = subst (IsRunOver whole) (sym same) over
   where
     over : IsRunOver whole (record { earlier = λ l. []; sent = sent_with first (Some Done) ∷ sent_with second answer ∷ [] })
-    over zero x l is fine = subst (λ (y : SentMessage). Begins (points_in l y.message) (whole l)) (same_Some (sent_with first (Some Done)) x is) (both_in_order l (labels_eq l series) refl)
-    over (suc zero) x l is fine = subst (λ (y : SentMessage). Begins (((points_in l (message_of first)) ++ []) ++ points_in l y.message) (whole l)) (same_Some (sent_with second answer) x is) (second_in_order (labels_eq l series))
+    over zero x l is fine = subst (λ (y : SentMessage). Begins (points_in l y.message) (whole l)) (same_Some (sent_with first (Some Done)) x is) (both_in_order l (labels_eq l example_series) refl)
+    over (suc zero) x l is fine = subst (λ (y : SentMessage). Begins (((points_in l (message_of first)) ++ []) ++ points_in l y.message) (whole l)) (same_Some (sent_with second answer) x is) (second_in_order (labels_eq l example_series))
     over (suc (suc n)) x l is fine = absurd (nothing_at x n is)
 
 pub runs-are-over : AreRunsOver whole runs
 runs-are-over = each_run (IsRunOver whole) (in_order killed_run None refl) (in_order second_run (Some Done) refl)
 
 -- ---- what the receiver does
-list_is : (xs : List Point) (store : Store) → list_of (with_list series xs store) series ≡ xs
-list_is xs store = list_of-with_list series xs store series ∙ ap (λ b. cond b xs (list_of store series)) itself
+list_is : (xs : List Point) (store : Store) → list_of (with_list example_series xs store) example_series ≡ xs
+list_is xs store = list_of-with_list example_series xs store example_series ∙ ap (λ b. cond b xs (list_of store example_series)) itself
 
 -- the label set is not refused
-taken_series : refusal limits series ≡ None
+taken_series : refusal limits example_series ≡ None
 taken_series = refl
 
-takes : (p : Point) (store : Store) (xs ys : List Point) → list_of store series ≡ xs → accept (Some xs) (p ∷ []) ≡ Some ys → taken_all limits (Ok store) (message_of p) ≡ Ok (with_list series ys store)
+takes : (p : Point) (store : Store) (xs ys : List Point) → list_of store example_series ≡ xs → accept (Some xs) (p ∷ []) ≡ Some ys → taken_all limits (Ok store) (message_of p) ≡ Ok (with_list example_series ys store)
 takes p store xs ys has gives =
-    ap (λ o. taken_unless o store (record { labels = series; samples = (p.1, p.0) ∷ [] })) taken_series
-    ∙ ap (λ zs. accepted series store (accept (Some zs) (p ∷ []))) has ∙ ap (accepted series store) gives
+    ap (λ o. taken_unless o store (record { labels = example_series; samples = (p.1, p.0) ∷ [] })) taken_series
+    ∙ ap (λ zs. accepted example_series store (accept (Some zs) (p ∷ []))) has ∙ ap (accepted example_series store) gives
 
-grows : (store : Store) (l : Labels) → Begins (list_of (with_list series (first ∷ []) store) l) (list_of (with_both (with_list series (first ∷ []) store)) l)
+grows : (store : Store) (l : Labels) → Begins (list_of (with_list example_series (first ∷ []) store) l) (list_of (with_both (with_list example_series (first ∷ []) store)) l)
 grows store l =
-    subst (λ ys. Begins ys (list_of (with_both (with_list series (first ∷ []) store)) l)) (sym (list_of-with_list series (first ∷ []) store l))
-    (subst (Begins (cond (labels_eq l series) (first ∷ []) (list_of store l))) (sym (list_of-with_list series (first ∷ second ∷ []) (with_list series (first ∷ []) store) l))
-    (by_label (labels_eq l series) refl))
+    subst (λ ys. Begins ys (list_of (with_both (with_list example_series (first ∷ []) store)) l)) (sym (list_of-with_list example_series (first ∷ []) store l))
+    (subst (Begins (cond (labels_eq l example_series) (first ∷ []) (list_of store l))) (sym (list_of-with_list example_series (first ∷ second ∷ []) (with_list example_series (first ∷ []) store) l))
+    (by_label (labels_eq l example_series) refl))
   where
-    by_label : (b : Bool) → labels_eq l series ≡ b → Begins (cond b (first ∷ []) (list_of store l)) (cond b (first ∷ second ∷ []) (list_of (with_list series (first ∷ []) store) l))
+    by_label : (b : Bool) → labels_eq l example_series ≡ b → Begins (cond b (first ∷ []) (list_of store l)) (cond b (first ∷ second ∷ []) (list_of (with_list example_series (first ∷ []) store) l))
     by_label true e = (second ∷ [], refl)
-    by_label false e = subst (Begins (list_of store l)) (sym (list_of-with_list series (first ∷ []) store l ∙ ap (λ b. cond b (first ∷ []) (list_of store l)) e)) (begins_itself (list_of store l))
+    by_label false e = subst (Begins (list_of store l)) (sym (list_of-with_list example_series (first ∷ []) store l ∙ ap (λ b. cond b (first ∷ []) (list_of store l)) e)) (begins_itself (list_of store l))
 
 sent_at : (i n : ℕ) (run : SenderRun) (x : SentMessage) → slice_get runs i ≡ Some run → slice_get run.sent n ≡ Some x → IsSentBy runs i n run x
 sent_at i n run x at is = record { exists = at; is = is }
@@ -101,7 +101,7 @@ sent_at i n run x at is = record { exists = at; is = is }
 happens : (at : ℕ) (event : ReceiverEvent) → slice_get events at ≡ Some event → Happens limits runs event (states at) (states (suc at))
 happens zero event e =
     subst (λ (v : ReceiverEvent). Happens limits runs v (states 0) (states 1)) (same_Some (Answers 0 0 Done) event e)
-    (record { run = killed_run; x = sent_with first (Some Done); is = sent_at 0 0 killed_run (sent_with first (Some Done)) refl refl; judged = (takes first empty [] (first ∷ []) (list_of-empty series) refl, refl) })
+    (record { run = killed_run; x = sent_with first (Some Done); is = sent_at 0 0 killed_run (sent_with first (Some Done)) refl refl; judged = (takes first empty [] (first ∷ []) (list_of-empty example_series) refl, refl) })
 happens (suc zero) event e =
     subst (λ (v : ReceiverEvent). Happens limits runs v (states 1) (states 2)) (same_Some (RestartsDuring 0 1) event e)
     (record {

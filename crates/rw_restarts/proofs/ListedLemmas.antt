@@ -47,7 +47,7 @@ use Rattle.rw_simulation.proofs.shared.Pasts.{get-first, get_map, map_get}
 use Rattle.rw_head.specs.Order.{Point, holds}
 use Rattle.rw_head.proofs.shared.OrderRule.{holds_append, holds_right}
 use Rattle.rw_restarts.specs.Runs.{SentMessage, acknowledged_in}
-use Rattle.rw_restarts.specs.Workers.{AreMessagesOfWorker, HasName, IsAcknowledged, IsSettled, WorkerSendsSamples}
+use Rattle.rw_restarts.specs.Workers.{AreMessagesOfWorker, HasName, IsAcknowledged, IsSettledSample, WorkerSendsSamples}
 use Rattle.rw_restarts.specs.Shards.{AreMessagesOfEpochs, AreMessagesOfShards}
 use Rattle.rw_restarts.specs.Stopped.{IsUnlisted, first_of_epoch, steps_at, steps_reported}
 use Rattle.rw_restarts.proofs.shared.Elements.{get_within}
@@ -318,7 +318,7 @@ module _ {T : Type 0} (tells : T → Type 0) (seen : T → List Exchange) (is_fo
 
         -- so an answer acknowledged it, since else the worker's part of the report would list it
         own_acknowledged : (own : List SentMessage) → AreMessagesOfWorker put.j.worker.value w.is.report.steps own → IsAcknowledged own put.y
-        own_acknowledged own by = elim (AllByRecursion-get (IsSettled own (after (start_of put.j.worker.value) w.is.report.steps).ledger.names) resolved put.i put.y by.resolved among_resolved) [
+        own_acknowledged own by = elim (AllByRecursion-get (IsSettledSample own (after (start_of put.j.worker.value) w.is.report.steps).ledger.names) resolved put.i put.y by.resolved among_resolved) [
           | inl acknowledged ↦ acknowledged
           | inr name ↦ (
               let has : HasName put.j.part.names p = subst (λ (names : FinMap nat_cmp Reason). HasName names p) (sym w.is.report.names) (subst (HasName (after (start_of put.j.worker.value) w.is.report.steps).ledger.names) pos_is name) in

@@ -16,7 +16,7 @@ use Rattle.rw_head.specs.Order.{Point, points, accept, holds}
 use Rattle.rw_head.specs.Store.{Store, list_of, with_list}
 use Rattle.rw_head.specs.Verdicts.{LabelLimits, refusal, accepted, taken, taken_unless, taken_all}
 use Rattle.rw_head.proofs.shared.StoreLemmas.{list_of-with_list}
-use Rattle.rw_restarts.specs.Parts.{points_in, IsNextPart, AreWithinLimits, IsLonger, TakesAll, NextPartIsAccepted}
+use Rattle.rw_restarts.specs.Parts.{points_in, IsNextPart, AreWithinLimits, IsLonger, TakesAllPoints, NextPartIsAccepted}
 use Rattle.rw_head.proofs.shared.OrderRule.{accept_repeats, accept_later, accept-append, hold_all}
 
 -- of two prefixes of one list one is a prefix of the other
@@ -166,7 +166,7 @@ module _ (limits : LabelLimits) (whole : Labels → List Point) (up : (l : Label
     rest_at : (l : Labels) → Rest l
     rest_at l = by_label l (labels_eq l s.labels) refl
 
-    then : TakesAll limits whole mid ss (λ l. (rest_at l).comes) → TakesAll limits whole store (s ∷ ss) next
+    then : TakesAllPoints limits whole mid ss (λ l. (rest_at l).comes) → TakesAllPoints limits whole store (s ∷ ss) next
     then rest = record {
       after = rest.after;
       taken = ap (λ r. taken_all limits r ss) step ∙ rest.taken;
@@ -178,7 +178,7 @@ module _ (limits : LabelLimits) (whole : Labels → List Point) (up : (l : Label
     }
 
   -- ---- a message
-  pub fits : (m : WriteRequest) (store : Store) → ((l : Labels) → Begins (list_of store l) (whole l)) → AreWithinLimits limits m → (next : FitsEach whole store m) → TakesAll limits whole store m next
+  pub fits : (m : WriteRequest) (store : Store) → ((l : Labels) → Begins (list_of store l) (whole l)) → AreWithinLimits limits m → (next : FitsEach whole store m) → TakesAllPoints limits whole store m next
   fits [] store h fit next = record { after = store; taken = refl; longer = λ l. nothing_more l whole store (next l) (h l) }
   fits (s ∷ ss) store h fit next =
       then s ss store h fit.0 next (fits ss (with_list s.labels (its_list s ss store h fit.0 next).next store) (λ l. (rest_at s ss store h fit.0 next l).within) fit.1 (λ l. (rest_at s ss store h fit.0 next l).comes))

@@ -14,7 +14,7 @@ use Rattle.rw_relabel.specs.declared.choice.Choice.{Choice}
 use Rattle.rw_series_cache.specs.Points.{is_kept, kept_points}
 use Rattle.rw_journal.specs.Journal.{Segments}
 use Rattle.rw_journal.specs.Logs.{entries_of}
-use Rattle.rw_wal_append.specs.Additions.{samples_in}
+use Rattle.rw_wal_append.specs.Additions.{samples_of_labels}
 use Rattle.rw_head.specs.Growth.{EachRises}
 use Rattle.rw_head.specs.Lists.{IsEarlier}
 use Rattle.rw_head.specs.Order.{Point}
@@ -56,8 +56,8 @@ no_samples (x ∷ xs) b = absurd (no_cons b.1)
     no_cons e = cc (e)
 
 -- ---- what entries owe whose samples rise
-owed-kept : RisesAsItIs → (choice : Choice) (es : List Entry) (l : Labels) → is_kept choice l ≡ true → Rises IsEarlier (samples_in es l) → owed_of choice es l ≡ samples_in es l
-owed-kept as_it_is choice es l keep up = ap (λ b. rising (pairs_of (cond b (samples_after l [] es) []))) keep ∙ as_it_is (samples_in es l) up
+owed-kept : RisesAsItIs → (choice : Choice) (es : List Entry) (l : Labels) → is_kept choice l ≡ true → Rises IsEarlier (samples_of_labels es l) → owed_of choice es l ≡ samples_of_labels es l
+owed-kept as_it_is choice es l keep up = ap (λ b. rising (pairs_of (cond b (samples_after l [] es) []))) keep ∙ as_it_is (samples_of_labels es l) up
 
 owed-dropped : (choice : Choice) (es : List Entry) (l : Labels) → is_kept choice l ≡ false → owed_of choice es l ≡ []
 owed-dropped choice es l drop = ap (λ b. rising (pairs_of (cond b (samples_after l [] es) []))) drop
@@ -66,20 +66,20 @@ module _ (as_it_is : RisesAsItIs) (choice : Choice) (first : Store) (segments : 
   abbrev log : List Entry
   log = entries_of page_size segments
 
-  log_rises : (l : Labels) → Rises IsEarlier (samples_in log l)
+  log_rises : (l : Labels) → Rises IsEarlier (samples_of_labels log l)
   log_rises l = subst (Rises IsEarlier) (says l) (up l)
 
   owed_first : (l : Labels) → is_kept choice l ≡ true → owed_of choice log l ≡ list_of first l
   owed_first l keep = owed-kept as_it_is choice log l keep (log_rises l) ∙ sym (says l)
 
   -- a prefix of the samples owes a prefix
-  owed_prefix : (es : List Entry) (l : Labels) → Begins (samples_in es l) (samples_in log l) → Begins (owed_of choice es l) (owed_of choice log l)
+  owed_prefix : (es : List Entry) (l : Labels) → Begins (samples_of_labels es l) (samples_of_labels log l) → Begins (owed_of choice es l) (owed_of choice log l)
   owed_prefix es l b = by_kept (is_kept choice l) refl
     where
       by_kept : (k : Bool) → is_kept choice l ≡ k → Begins (owed_of choice es l) (owed_of choice log l)
       by_kept true keep =
-          subst (λ ys. Begins ys (owed_of choice log l)) (sym (owed-kept as_it_is choice es l keep (Rises-prefix (samples_in es l) (samples_in log l) b (log_rises l))))
-          (subst (Begins (samples_in es l)) (sym (owed-kept as_it_is choice log l keep (log_rises l))) b)
+          subst (λ ys. Begins ys (owed_of choice log l)) (sym (owed-kept as_it_is choice es l keep (Rises-prefix (samples_of_labels es l) (samples_of_labels log l) b (log_rises l))))
+          (subst (Begins (samples_of_labels es l)) (sym (owed-kept as_it_is choice log l keep (log_rises l))) b)
       by_kept false drop =
           subst (λ ys. Begins ys (owed_of choice log l)) (sym (owed-dropped choice es l drop)) (owed_of choice log l, refl)
 
@@ -103,10 +103,10 @@ module _ (as_it_is : RisesAsItIs) (choice : Choice) (first : Store) (segments : 
 
     -- what was acknowledged in a run is held
     entries_held : (i : ℕ) (run : SenderRun) (es : List Entry) (l : Labels) → slice_get runs i ≡ Some run → is_kept choice l ≡ true
-        → Begins (samples_in es l) (samples_in log l) → acknowledged_in l run.sent ≡ owed_of choice es l → Begins (samples_in es l) (list_of held.store l)
+        → Begins (samples_of_labels es l) (samples_of_labels log l) → acknowledged_in l run.sent ≡ owed_of choice es l → Begins (samples_of_labels es l) (list_of held.store l)
     entries_held i run es l is keep b all =
         let none : run.earlier l ≡ [] = (read i run is).whole l in
-        let owes : owed_of choice es l ≡ samples_in es l = owed-kept as_it_is choice es l keep (Rises-prefix (samples_in es l) (samples_in log l) b (log_rises l)) in
+        let owes : owed_of choice es l ≡ samples_of_labels es l = owed-kept as_it_is choice es l keep (Rises-prefix (samples_of_labels es l) (samples_of_labels log l) b (log_rises l)) in
         let base : Begins (run.earlier l) (list_of held.acknowledged l) = subst (λ ys. Begins ys (list_of held.acknowledged l)) (sym none) (list_of held.acknowledged l, refl) in
         subst (λ ys. Begins ys (list_of held.store l)) (ap (λ ys. ys ++ owed_of choice es l) none ∙ owes) (h.complete i run es l is base all)
 
@@ -117,7 +117,7 @@ module _ (as_it_is : RisesAsItIs) (choice : Choice) (first : Store) (segments : 
       complete = entries_held;
       whole = λ i run l is keep all.
           Begins-both (list_of first l) (list_of held.store l)
-          (subst (λ ys. Begins ys (list_of held.store l)) (sym (says l)) (entries_held i run log l is keep (begins_itself (samples_in log l)) all)) (in_first l);
+          (subst (λ ys. Begins ys (list_of held.store l)) (sym (says l)) (entries_held i run log l is keep (begins_itself (samples_of_labels log l)) all)) (in_first l);
     }
 
 -- ---- the law
@@ -133,11 +133,11 @@ relay-holds as_it_is holds_log limits choice first segments runs events states u
 
 -- ---- a log that goes on
 pub read-of-more : (choice : Choice) (segments later : Segments) (run : SenderRun)
-    → ((l : Labels) → Begins (samples_in (entries_of page_size segments) l) (samples_in (entries_of page_size later) l))
+    → ((l : Labels) → Begins (samples_of_labels (entries_of page_size segments) l) (samples_of_labels (entries_of page_size later) l))
     → ReadsSegments choice segments run → ReadsSegments choice later run
 read-of-more choice segments later run more r = record {
   read = r.read;
-  prefix = λ l. begins_twice (samples_in r.read l) (samples_in (entries_of page_size segments) l) (samples_in (entries_of page_size later) l) (r.prefix l) (more l);
+  prefix = λ l. begins_twice (samples_of_labels r.read l) (samples_of_labels (entries_of page_size segments) l) (samples_of_labels (entries_of page_size later) l) (r.prefix l) (more l);
   whole = r.whole;
   sends = r.sends;
 }
@@ -145,19 +145,19 @@ read-of-more choice segments later run more r = record {
 pub read-when-grown : (choice : Choice) (old new : Store) (segments later : Segments) (run : SenderRun) → SaysWhat segments old → SaysWhat later new
     → ((l : Labels) → Begins (list_of old l) (list_of new l)) → ReadsSegments choice segments run → ReadsSegments choice later run
 read-when-grown choice old new segments later run says says_more more =
-    read-of-more choice segments later run (λ l. subst (Begins (samples_in (entries_of page_size segments) l)) (says_more l) (subst (λ ys. Begins ys (list_of new l)) (says l) (more l)))
+    read-of-more choice segments later run (λ l. subst (Begins (samples_of_labels (entries_of page_size segments) l)) (says_more l) (subst (λ ys. Begins ys (list_of new l)) (says l) (more l)))
 
 pub read-after-crash : (choice : Choice) (old new : Store) (segments left : Segments) (run : SenderRun) → SaysWhat segments old → LiesBetween old new left
     → ReadsSegments choice segments run → ReadsSegments choice left run
 read-after-crash choice old new segments left run says between =
-    read-of-more choice segments left run (λ l. subst (λ ys. Begins ys (samples_in (entries_of page_size left) l)) (says l) (between l).0)
+    read-of-more choice segments left run (λ l. subst (λ ys. Begins ys (samples_of_labels (entries_of page_size left) l)) (says l) (between l).0)
 
 -- ---- one run that reports what it lacks
 pub relayed-less : (choice : Choice) (names : FinMap nat_cmp Reason) (read : List Entry) (first second : Store) (segments : Segments) (l : Labels) → SaysWhat segments first
-    → Begins (samples_in read l) (samples_in (entries_of page_size segments) l) → is_kept choice l ≡ true → list_of second l ≡ map pair_of (owed names (kept_points choice read l))
+    → Begins (samples_of_labels read l) (samples_of_labels (entries_of page_size segments) l) → is_kept choice l ≡ true → list_of second l ≡ map pair_of (owed names (kept_points choice read l))
     → IsRelayedLess names read first second l
 relayed-less choice names read first second segments l says b keep holds = record {
-  prefix = subst (Begins (samples_in read l)) (sym (says l)) b;
+  prefix = subst (Begins (samples_of_labels read l)) (sym (says l)) b;
   less = record {
     logged = samples_after l [] read;
     first_is = refl;

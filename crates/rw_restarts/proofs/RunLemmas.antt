@@ -14,7 +14,7 @@ use Rattle.rw_head.specs.Order.{Point}
 use Rattle.rw_head.specs.Store.{Store, list_of}
 use Rattle.rw_head.specs.Verdicts.{LabelLimits, taken_all}
 use Rattle.rw_head.proofs.shared.StoreLemmas.{list_of-empty}
-use Rattle.rw_restarts.specs.Parts.{EachListRises, points_in, IsNextPart, TakesAll}
+use Rattle.rw_restarts.specs.Parts.{EachListRises, points_in, IsNextPart, TakesAllPoints}
 use Rattle.rw_restarts.specs.Runs.{SentMessage, SenderRun, acknowledged_by, acknowledged_in, acknowledged_before, NoneRefused, AreRunsOver, IsSentBy}
 use Rattle.rw_restarts.specs.Receivers.{ReceiverEvent, Answers, Restarts, RestartsDuring, ReceiverState, IsRestarted, Brings, IsAnsweredAmong, IsReceiverOf, HoldsPrefixes}
 use Rattle.rw_restarts.proofs.PartLemmas.{next-part-accepted}
@@ -140,7 +140,7 @@ module _ (limits : LabelLimits) (whole : Labels → List Point) (runs : List Sen
           at = λ _. refl;
         })
 
-    takes : TakesAll limits whole (states t).store x.message (λ l. (comes l).next)
+    takes : TakesAllPoints limits whole (states t).store x.message (λ l. (comes l).next)
     takes = next-part-accepted limits whole (states t).store x.message up inv.holds (r.within i n run x sent) (λ l. (comes l).next)
 
   -- ---- one event

@@ -36,7 +36,7 @@ use Rattle.rw_head.specs.Order.{Point, holds}
 use Rattle.rw_head.proofs.shared.OrderRule.{holds_append, holds_own, holds_right}
 use Rattle.rw_restarts.specs.Parts.{points_in}
 use Rattle.rw_restarts.specs.Runs.{SentMessage, acknowledged_by, acknowledged_in}
-use Rattle.rw_restarts.specs.Workers.{samples_in_batch, judgement_by, AreExchangesOfMessages, HasName, IsSettled, SendsSamples, NeverRefused, WorkerSendsSamples}
+use Rattle.rw_restarts.specs.Workers.{samples_in_batch, judgement_by, AreExchangesOfMessages, HasName, IsSettledSample, SendsSamples, NeverRefused, WorkerSendsSamples}
 use Rattle.rw_restarts.proofs.TurnLemmas.{to_come, after_answer, frozen, waits, answers, same_id_own, nothing-pending}
 use Rattle.rw_restarts.proofs.TurnLemmas as turn
 use Rattle.rw_restarts.proofs.LogLemmas.{Begins-after}
@@ -135,7 +135,7 @@ record Goes (target : Target) (coming resolved : List Placed) (names : Names) (e
   done : pending end.core ≡ [] → (l : Labels) → NeverRefused l sent → acknowledged_in l sent ≡ samples_in_batch l coming
   more : List Placed
   more_is : end.core.resolved ≡ resolved ++ more
-  settled : AllByRecursion (IsSettled sent end.ledger.names) more
+  settled : AllByRecursion (IsSettledSample sent end.ledger.names) more
   named : (p : ℕ) → HasName names p → HasName end.ledger.names p
 
 sends-next : (batch more rest : List Placed) (answer : Result Reply Lost) (later : List SentMessage) → rest ≡ batch ++ more → SendsSamples (cond (is_again answer) rest more) later
@@ -148,10 +148,10 @@ sends-next batch more rest answer later is sends (suc k) x l at fine =
     (sends k x l at (λ j y lt. fine (suc j) y (omega (arith, lt))))
 
 -- a message before the others
-later_settled : (first : SentMessage) (sent : List SentMessage) (names : Names) (xs : List Placed) → AllByRecursion (IsSettled sent names) xs → AllByRecursion (IsSettled (first ∷ sent) names) xs
-later_settled first sent names xs all = AllByRecursion-weaker (IsSettled sent names) (IsSettled (first ∷ sent) names) further xs all
+later_settled : (first : SentMessage) (sent : List SentMessage) (names : Names) (xs : List Placed) → AllByRecursion (IsSettledSample sent names) xs → AllByRecursion (IsSettledSample (first ∷ sent) names) xs
+later_settled first sent names xs all = AllByRecursion-weaker (IsSettledSample sent names) (IsSettledSample (first ∷ sent) names) further xs all
   where
-    further : (x : Placed) → IsSettled sent names x → IsSettled (first ∷ sent) names x
+    further : (x : Placed) → IsSettledSample sent names x → IsSettledSample (first ∷ sent) names x
     further x (inl h) = inl (holds_right (x.t, x.word) (acknowledged_by x.labels first.message first.judgement) (acknowledged_in x.labels sent) h)
     further x (inr h) = inr h
 
@@ -216,18 +216,18 @@ module _ (c : Core) (names : Names) (ss : List Step) (es : List Exchange) (end :
 
   -- these are acknowledged, or named
   settled_by : (j : Judgement) (status : ℕ) (f : Further (is_again_by j) (names_after j (record { samples = c.batch; status = status }) names))
-      → AllByRecursion (IsSettled (record { message = message (map labelled c.batch); judgement = Some j } ∷ f.sent) end.ledger.names) (resolved_by (is_again_by j))
+      → AllByRecursion (IsSettledSample (record { message = message (map labelled c.batch); judgement = Some j } ∷ f.sent) end.ledger.names) (resolved_by (is_again_by j))
   settled_by Done status f =
-      AllByRecursion-weaker (λ (x : Placed). holds (x.t, x.word) (samples_in_batch x.labels c.batch) ≡ true) (IsSettled (record { message = message (map labelled c.batch); judgement = Some Done } ∷ f.sent) end.ledger.names)
+      AllByRecursion-weaker (λ (x : Placed). holds (x.t, x.word) (samples_in_batch x.labels c.batch) ≡ true) (IsSettledSample (record { message = message (map labelled c.batch); judgement = Some Done } ∷ f.sent) end.ledger.names)
       (λ x h. inl (holds_append (x.t, x.word) (points_in x.labels (message (map labelled c.batch))) (acknowledged_in x.labels f.sent) (ap (holds (x.t, x.word)) (batch-samples c.batch x.labels) ∙ h))) c.batch (each_sample c.batch)
   settled_by Again status f = tt
   settled_by Refused status f =
-      AllByRecursion-weaker (λ (x : Placed). HasName (name_all status (positions c.batch) names) x.place.pos) (IsSettled (record { message = message (map labelled c.batch); judgement = Some Refused } ∷ f.sent) end.ledger.names)
+      AllByRecursion-weaker (λ (x : Placed). HasName (name_all status (positions c.batch) names) x.place.pos) (IsSettledSample (record { message = message (map labelled c.batch); judgement = Some Refused } ∷ f.sent) end.ledger.names)
       (λ x h. inr (f.named x.place.pos h)) c.batch (all_named status c.batch names)
 
   -- the exchange and those after it
   module _ (e : Exchange) (request : e.request ≡ batch_request c.target c.batch) (reads : IsReadAgain c.batch) (b : Bool) (ns : Names) (again : b ≡ is_again e.answer) (f : Further b ns)
-      (settled_now : AllByRecursion (IsSettled (own_message e.answer ∷ f.sent) end.ledger.names) (resolved_by b)) (kept : (p : ℕ) → HasName names p → HasName end.ledger.names p) where
+      (settled_now : AllByRecursion (IsSettledSample (own_message e.answer ∷ f.sent) end.ledger.names) (resolved_by b)) (kept : (p : ℕ) → HasName names p → HasName end.ledger.names p) where
     joined : Goes c.target (to_come c ss) c.resolved names (e ∷ es) end
     joined = record {
       sent = own_message e.answer ∷ f.sent;
@@ -238,14 +238,14 @@ module _ (c : Core) (names : Names) (ss : List Step) (es : List Exchange) (end :
           (done_by b ns f none l fine.1 ∙ ap (λ q. samples_in_batch l (cond q (to_come c ss) unsent)) again);
       more = resolved_by b ++ f.more;
       more_is = more_by b ns f;
-      settled = AllByRecursion-append (IsSettled (own_message e.answer ∷ f.sent) end.ledger.names) (resolved_by b) f.more settled_now (later_settled (own_message e.answer) f.sent end.ledger.names f.more f.settled);
+      settled = AllByRecursion-append (IsSettledSample (own_message e.answer ∷ f.sent) end.ledger.names) (resolved_by b) f.more settled_now (later_settled (own_message e.answer) f.sent end.ledger.names f.more f.settled);
       named = kept;
     }
 
   attempted : (e : Exchange) → e.request ≡ batch_request c.target c.batch → IsReadAgain c.batch → (answer : Result Reply Lost) → e.answer ≡ answer → Further (is_again answer) (names_by answer c.batch names) → Goes c.target (to_come c ss) c.resolved names (e ∷ es) end
   attempted e request reads (Ok r) is f =
       joined e request reads (is_again_by (judgement_of r.status)) (names_after (judgement_of r.status) (record { samples = c.batch; status = r.status }) names) (ap is_again (sym is)) f
-      (subst (λ a. AllByRecursion (IsSettled (own_message a ∷ f.sent) end.ledger.names) (resolved_by (is_again_by (judgement_of r.status)))) (sym is) (settled_by (judgement_of r.status) r.status f))
+      (subst (λ a. AllByRecursion (IsSettledSample (own_message a ∷ f.sent) end.ledger.names) (resolved_by (is_again_by (judgement_of r.status)))) (sym is) (settled_by (judgement_of r.status) r.status f))
       (kept_by (judgement_of r.status) r.status f)
   attempted e request reads (Err lost) is f = joined e request reads true names (ap is_again (sym is)) f tt f.named
 
@@ -292,7 +292,7 @@ sends-its-samples setup steps h =
     let all = goes (start_of setup) steps h in
     record {
       sent = all.sent;
-      messages = record { exchanges = all.exchanges; resolved = subst (AllByRecursion (IsSettled all.sent (after (start_of setup) steps).ledger.names)) (sym all.more_is) all.settled };
+      messages = record { exchanges = all.exchanges; resolved = subst (AllByRecursion (IsSettledSample all.sent (after (start_of setup) steps).ledger.names)) (sym all.more_is) all.settled };
       sends = all.sends;
       done = λ resolved. all.done (nothing-pending setup steps h resolved);
     }

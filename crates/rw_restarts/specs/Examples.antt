@@ -16,8 +16,8 @@ use Rattle.rw_restarts.specs.Runs.{SentMessage, SenderRun}
 use Rattle.rw_restarts.specs.Receivers.{ReceiverEvent, Answers, RestartsDuring, ReceiverState, empty_receiver, state_of}
 
 -- the label set without labels, and its samples in the log
-abbrev pub series : Labels
-series = []
+abbrev pub example_series : Labels
+example_series = []
 
 abbrev pub first : Point
 first = (pos 10, 1)
@@ -26,12 +26,12 @@ abbrev pub second : Point
 second = (pos 20, 2)
 
 abbrev pub whole : Labels → List Point
-whole l = if labels_eq l series then first ∷ second ∷ [] else []
+whole l = if labels_eq l example_series then first ∷ second ∷ [] else []
 
 -- ---- the sender
 -- the message of one sample
 abbrev pub message_of : Point → WriteRequest
-message_of p = record { labels = series; samples = (p.1, p.0) ∷ [] } ∷ []
+message_of p = record { labels = example_series; samples = (p.1, p.0) ∷ [] } ∷ []
 
 abbrev pub sent_with : Point → Option Judgement → SentMessage
 sent_with p judgement = record { message = message_of p; judgement = judgement }
@@ -59,10 +59,10 @@ abbrev pub events : List ReceiverEvent
 events = Answers 0 0 Done ∷ RestartsDuring 0 1 ∷ Answers 1 0 Done ∷ Answers 1 1 Done ∷ []
 
 abbrev pub with_first : Store
-with_first = with_list series (first ∷ []) empty
+with_first = with_list example_series (first ∷ []) empty
 
 abbrev pub with_both : Store → Store
-with_both store = with_list series (first ∷ second ∷ []) store
+with_both store = with_list example_series (first ∷ second ∷ []) store
 
 -- its state before each event, and at the end
 abbrev pub states : ℕ → ReceiverState

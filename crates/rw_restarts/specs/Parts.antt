@@ -39,7 +39,7 @@ pub record IsLonger (held reached next whole : List Point) : Type 0 where
   pub within : Begins next whole
 
 -- the head takes the message, and each of its lists is then such a longer one
-pub record TakesAll (limits : LabelLimits) (whole : Labels → List Point) (store : Store)
+pub record TakesAllPoints (limits : LabelLimits) (whole : Labels → List Point) (store : Store)
     (m : WriteRequest) (next : (l : Labels) → IsNextPart (whole l) (list_of store l) (points_in l m))
     : Type 0 where
   pub after : Store
@@ -53,4 +53,4 @@ NextPartIsAccepted limits whole store m =
     EachListRises whole → ((l : Labels) → Begins (list_of store l) (whole l))
     → AreWithinLimits limits m
     → (next : (l : Labels) → IsNextPart (whole l) (list_of store l) (points_in l m))
-    → TakesAll limits whole store m next
+    → TakesAllPoints limits whole store m next

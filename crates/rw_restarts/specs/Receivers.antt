@@ -48,7 +48,7 @@ pub record IsRestarted (old : ReceiverState) (most : Store) (new : ReceiverState
   pub at_most : (l : Labels) → Begins (list_of new.store l) (list_of most l)
 
 -- it answered the n-th message of the i-th run
-pub record HasAnswered (limits : LabelLimits) (runs : List SenderRun) (i n : ℕ)
+pub record HasAnsweredMessage (limits : LabelLimits) (runs : List SenderRun) (i n : ℕ)
     (judgement : Judgement) (old new : ReceiverState) : Type 0 where
   pub run : SenderRun
   pub x : SentMessage
@@ -68,7 +68,7 @@ pub record HasRestartedDuring (limits : LabelLimits) (runs : List SenderRun) (i 
 -- the event leads from one state of the receiver to the next one
 abbrev pub Happens : LabelLimits → List SenderRun → ReceiverEvent → ReceiverState → ReceiverState
     → Type 0
-Happens limits runs (Answers i n judgement) old new = HasAnswered limits runs i n judgement old new
+Happens limits runs (Answers i n judgement) old new = HasAnsweredMessage limits runs i n judgement old new
 Happens limits runs Restarts old new = IsRestarted old old.store new
 Happens limits runs (RestartsDuring i n) old new = HasRestartedDuring limits runs i n old new
 

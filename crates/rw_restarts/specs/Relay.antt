@@ -10,7 +10,7 @@ use Rattle.rw_relabel.specs.declared.choice.Choice.{Choice}
 use Rattle.rw_series_cache.specs.Points.{is_kept}
 use Rattle.rw_journal.specs.Journal.{Segments}
 use Rattle.rw_journal.specs.Logs.{entries_of}
-use Rattle.rw_wal_append.specs.Additions.{samples_in}
+use Rattle.rw_wal_append.specs.Additions.{samples_of_labels}
 use Rattle.rw_ledger.specs.declared.ledger.Reason.{Reason}
 use Rattle.rw_head.specs.Order.{Point}
 use Rattle.rw_head.specs.Store.{Store, list_of}
@@ -24,7 +24,7 @@ use Rattle.rw_restarts.specs.Logs.{SendsOwed}
 pub record ReadsSegments (choice : Choice) (segments : Segments) (run : SenderRun) : Type 0 where
   pub read : List Entry
   pub prefix : (l : Labels)
-      → Begins (samples_in read l) (samples_in (entries_of page_size segments) l)
+      → Begins (samples_of_labels read l) (samples_of_labels (entries_of page_size segments) l)
   pub whole : (l : Labels) → run.earlier l ≡ []
   pub sends : SendsOwed choice read run.sent
 
@@ -42,9 +42,9 @@ pub record IsRelayed (choice : Choice) (segments : Segments) (runs : List Sender
   pub dropped : (l : Labels) → is_kept choice l ≡ false → list_of second l ≡ []
   pub complete : (i : ℕ) (run : SenderRun) (entries : List Entry) (l : Labels)
       → slice_get runs i ≡ Some run → is_kept choice l ≡ true
-      → Begins (samples_in entries l) (samples_in (entries_of page_size segments) l)
+      → Begins (samples_of_labels entries l) (samples_of_labels (entries_of page_size segments) l)
       → acknowledged_in l run.sent ≡ owed_of choice entries l
-      → Begins (samples_in entries l) (list_of second l)
+      → Begins (samples_of_labels entries l) (list_of second l)
   pub whole : (i : ℕ) (run : SenderRun) (l : Labels) → slice_get runs i ≡ Some run
       → is_kept choice l ≡ true
       → acknowledged_in l run.sent ≡ owed_of choice (entries_of page_size segments) l
@@ -62,5 +62,5 @@ pub record IsLessNamed (names : FinMap nat_cmp Reason) (first second : List Poin
 -- those that the report names.
 pub record IsRelayedLess (names : FinMap nat_cmp Reason) (read : List Entry) (first second : Store)
     (l : Labels) : Type 0 where
-  pub prefix : Begins (samples_in read l) (list_of first l)
-  pub less : IsLessNamed names (samples_in read l) (list_of second l)
+  pub prefix : Begins (samples_of_labels read l) (list_of first l)
+  pub less : IsLessNamed names (samples_of_labels read l) (list_of second l)

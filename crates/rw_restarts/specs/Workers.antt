@@ -75,15 +75,15 @@ abbrev pub HasName : FinMap nat_cmp Reason → ℕ → Type 0
 HasName names p = (reason : Reason) × (get names p ≡ Some reason)
 
 -- the sample was acknowledged, or is named
-abbrev pub IsSettled : List SentMessage → FinMap nat_cmp Reason → Placed → Type 0
-IsSettled sent names x = IsAcknowledged sent x ⊎ HasName names x.place.pos
+abbrev pub IsSettledSample : List SentMessage → FinMap nat_cmp Reason → Placed → Type 0
+IsSettledSample sent names x = IsAcknowledged sent x ⊎ HasName names x.place.pos
 
 -- Messages that a worker sent by these steps: they are those of its exchanges. Each sample that is
 -- resolved was acknowledged, or the worker's part of the ledger names it.
 pub record AreMessagesOfWorker (setup : WorkerSetup) (steps : List Step) (sent : List SentMessage)
     : Type 0 where
   pub exchanges : AreExchangesOfMessages setup.target (exchanges_of steps) sent
-  pub resolved : AllByRecursion (IsSettled sent (after (start_of setup) steps).ledger.names)
+  pub resolved : AllByRecursion (IsSettledSample sent (after (start_of setup) steps).ledger.names)
       (after (start_of setup) steps).core.resolved
 
 -- each message has of each label set what comes next of these samples after those that were

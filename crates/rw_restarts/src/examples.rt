@@ -17,9 +17,9 @@ ghost use Rattle.rw_restarts.specs.Examples as examples;
 pub fn a_small_history_is_allowed()
     ensures rising { rising ((pos 10, 1) ∷ (pos 5, 2) ∷ (pos 20, 3) ∷ [])
         ≡ (pos 10, 1) ∷ (pos 20, 3) ∷ [] }
-    ensures points { points_in examples.series (examples.message_of examples.first)
+    ensures points { points_in examples.example_series (examples.message_of examples.first)
         ≡ examples.first ∷ [] }
-    ensures acknowledged { acknowledged_in examples.series
+    ensures acknowledged { acknowledged_in examples.example_series
         (examples.sent_with examples.first (Some Again)
         ∷ examples.sent_with examples.first (Some Done) ∷ []) ≡ examples.first ∷ [] }
     ensures runs { AreRunsOver examples.whole examples.runs }

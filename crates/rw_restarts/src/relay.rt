@@ -13,7 +13,7 @@ ghost use Rattle.rw_series_cache.specs.Points.{is_kept, kept_points};
 ghost use Rattle.rw_ledger.specs.declared.ledger.Reason.{Reason};
 ghost use Rattle.rw_journal.specs.Journal.{Segments};
 ghost use Rattle.rw_journal.specs.Logs.{entries_of};
-ghost use Rattle.rw_wal_append.specs.Additions.{samples_in};
+ghost use Rattle.rw_wal_append.specs.Additions.{samples_of_labels};
 ghost use Rattle.rw_head.specs.Growth.{EachRises};
 ghost use Rattle.rw_head.specs.Store.{Store, list_of};
 ghost use Rattle.rw_head.specs.Verdicts.{LabelLimits};
@@ -62,7 +62,7 @@ pub fn what_was_read_stays_in_the_log()
 pub fn a_report_names_what_a_relay_lacks()
     ensures { (choice : Choice) (names : FinMap nat_cmp Reason) (read : List Entry)
         (first second : Store) (segments : Segments) (l : Labels) → SaysWhat segments first
-        → Begins (samples_in read l) (samples_in (entries_of page_size segments) l)
+        → Begins (samples_of_labels read l) (samples_of_labels (entries_of page_size segments) l)
         → is_kept choice l ≡ true
         → list_of second l ≡ map pair_of (owed names (kept_points choice read l))
         → IsRelayedLess names read first second l }

@@ -15,10 +15,10 @@ use Rattle.rw_worker.specs.declared.transport.Lost.{Lost}
 use Rattle.rw_worker.specs.Steps.{Working, working, Step, Takes, Freezes, Sends, Waits, MayStep, AreSteps, after, after_step, after_attempt, items_of}
 use Rattle.rw_machine.specs.Shards.{Shard, Queued, is_drained, samples_waiting}
 use Rattle.rw_machine.proofs.shared.Others.{no_batch}
-use Rattle.rw_simulation.specs.WorkerRuns.{queued, AreOf, IsShardNumbered, CanEnd}
+use Rattle.rw_simulation.specs.WorkerRuns.{queued, AreOfShard, IsShardNumbered, CanEnd}
 use Rattle.rw_simulation.proofs.WorkerSteps.{sent-is, sent_core, sent_awaits, sent_answers, send_parts}
 
-of-append : (epoch i : ℕ) (xs ys : List Placed) → AreOf epoch i xs → AreOf epoch i ys → AreOf epoch i (xs ++ ys)
+of-append : (epoch i : ℕ) (xs ys : List Placed) → AreOfShard epoch i xs → AreOfShard epoch i ys → AreOfShard epoch i (xs ++ ys)
 of-append epoch i [] ys h k = k
 of-append epoch i (x ∷ xs) ys h k = (h.0, h.1, of-append epoch i xs ys h.2 k)
 

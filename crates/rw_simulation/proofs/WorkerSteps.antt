@@ -20,7 +20,7 @@ use Rattle.rw_machine.specs.Worlds as worlds
 use Rattle.rw_machine.specs.Steps.{change, happens, unless_over, names_after_reply, request_by, send_batch, take_reply, reply_to, turned_away}
 use Rattle.rw_machine.specs.declared.event.Event.TheVariants as event
 use Rattle.rw_simulation.specs.Freely.{Answered, run_freely, happens_freely}
-use Rattle.rw_simulation.specs.WorkerRuns.{queued, step_happenings, answer_happenings, IsAfter, IsIdOf, IsShardNumbered, AreOf, answer_names, step_names, steps_names}
+use Rattle.rw_simulation.specs.WorkerRuns.{queued, step_happenings, answer_happenings, IsAfter, IsIdOf, IsShardNumbered, AreOfShard, answer_names, step_names, steps_names}
 use Rattle.rw_simulation.proofs.Changes.{change-is, change-get, change-twice, get-last, Goes, not-over}
 use Rattle.rw_shard_core.proofs.shared.NamingLemmas.{settle_names-room}
 use Rattle.rw_shard_core.proofs.shared.StepGuards.{same_id-self}
@@ -107,7 +107,7 @@ pub ledger-all : (w : Working) (ss : List Step) → AreSteps w ss → (after w s
 ledger-all w [] h = refl
 ledger-all w (s ∷ ss) h = ledger-all (after_step s w) ss h.1 ∙ ap (steps_names ss (after_step s w)) (ledger-step s w h.0)
 
-batch_ids : (epoch i : ℕ) (xs : List Placed) → is_empty xs ≡ false → AreOf epoch i xs → ((batch_id xs).epoch ≡ epoch) × ((batch_id xs).shard ≡ i)
+batch_ids : (epoch i : ℕ) (xs : List Placed) → is_empty xs ≡ false → AreOfShard epoch i xs → ((batch_id xs).epoch ≡ epoch) × ((batch_id xs).shard ≡ i)
 batch_ids epoch i [] some h = absurd (cc)
 batch_ids epoch i (x ∷ xs) some h = (h.0, h.1)
 

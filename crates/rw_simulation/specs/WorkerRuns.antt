@@ -60,14 +60,14 @@ steps_names [] w names = names
 steps_names (s ∷ ss) w names = steps_names ss (after_step s w) (step_names s w.core names)
 
 -- the samples of the open batch and of the builder are of this shard of its epoch
-abbrev pub AreOf : ℕ → ℕ → List Placed → Type 0
-AreOf epoch i [] = Unit {0}
-AreOf epoch i (x ∷ xs) = (x.place.epoch ≡ epoch) × (x.place.shard ≡ i) × AreOf epoch i xs
+abbrev pub AreOfShard : ℕ → ℕ → List Placed → Type 0
+AreOfShard epoch i [] = Unit {0}
+AreOfShard epoch i (x ∷ xs) = (x.place.epoch ≡ epoch) × (x.place.shard ≡ i) × AreOfShard epoch i xs
 
 pub record IsShardNumbered (i : ℕ) (c : Core) : Type 0 where
   pub number : c.shard ≡ i
-  pub batch : AreOf c.epoch i c.batch
-  pub builder : AreOf c.epoch i c.builder
+  pub batch : AreOfShard c.epoch i c.batch
+  pub builder : AreOfShard c.epoch i c.builder
 
 abbrev pub sent_bytes : Request → List ℕ
 sent_bytes r = r.bytes

@@ -12,7 +12,7 @@ use Rattle.rw_types.specs.inner.LabelOrder.{same_if_equal}
 use Rattle.rw_wal_format.specs.Series.{has_labels}
 use Rattle.rw_wal_append.specs.Additions.{Point}
 use Rattle.rw_wal_append.proofs.ReferenceLemmas.{at_place}
-use Rattle.rw_wal_append.specs.References.{Named, Grows, labels_at, with_set, only_defined, numbered, AreOf, points_of}
+use Rattle.rw_wal_append.specs.References.{ReferenceTable, Grows, labels_at, with_set, only_defined, numbered, AreReferenced, points_of}
 use Rattle.rw_wal_append.specs.inner.References.{with_reference}
 
 -- ---- one more label set
@@ -27,23 +27,23 @@ get_more (x ∷ ls) m l zero e = e
 get_more (x ∷ ls) m l (suc k) e = get_more ls m l k e
 
 -- the label sets stay under their references
-abbrev pub Keeps : Named → Named → Type 0
+abbrev pub Keeps : ReferenceTable → ReferenceTable → Type 0
 Keeps n later = (r : ℕ) (l : Labels) → labels_at n r ≡ Some l → labels_at later r ≡ Some l
 
-pub keeps_more : (n : Named) (m : Labels) → Keeps n (with_set m n)
+pub keeps_more : (n : ReferenceTable) (m : Labels) → Keeps n (with_set m n)
 keeps_more n m r l e = at_same (ltb r n.first) (slice_get n.sets (r - n.first)) (slice_get (n.sets ++ m ∷ []) (r - n.first)) l (get_more n.sets m l (r - n.first)) e
 
-pub keeps_grown : (n later : Named) (m : Labels) → Grows m n later → Keeps n later
-keeps_grown n later m (inl same) r l e = ap (λ (k : Named). labels_at k r) same ∙ e
-keeps_grown n later m (inr more) r l e = ap (λ (k : Named). labels_at k r) more ∙ keeps_more n m r l e
+pub keeps_grown : (n later : ReferenceTable) (m : Labels) → Grows m n later → Keeps n later
+keeps_grown n later m (inl same) r l e = ap (λ (k : ReferenceTable). labels_at k r) same ∙ e
+keeps_grown n later m (inr more) r l e = ap (λ (k : ReferenceTable). labels_at k r) more ∙ keeps_more n m r l e
 
-of_both : (n later : Named) (m : Labels) (r : ℕ) (old : List (ℕ × ℤ × ℕ)) (new : List Point) → Keeps n later → labels_at later r ≡ Some m → AreOf n old
-    → AreOf later (old ++ with_reference r new)
+of_both : (n later : ReferenceTable) (m : Labels) (r : ℕ) (old : List (ℕ × ℤ × ℕ)) (new : List Point) → Keeps n later → labels_at later r ≡ Some m → AreReferenced n old
+    → AreReferenced later (old ++ with_reference r new)
 of_both n later m r [] [] keeps at of = tt
 of_both n later m r [] (p ∷ new) keeps at of = ((m, at), of_both n later m r [] new keeps at tt)
 of_both n later m r (s ∷ old) new keeps at of = ((of.0.0, keeps s.0 of.0.0 of.0.1), of_both n later m r old new keeps at of.1)
 
-points_new : (later : Named) (m : Labels) (r : ℕ) (new : List Point) (l : Labels) → labels_at later r ≡ Some m → points_of later l (with_reference r new) ≡ cond (labels_eq m l) new []
+points_new : (later : ReferenceTable) (m : Labels) (r : ℕ) (new : List Point) (l : Labels) → labels_at later r ≡ Some m → points_of later l (with_reference r new) ≡ cond (labels_eq m l) new []
 points_new later m r [] l at = none (labels_eq m l)
   where
     none : (b : Bool) → ◌≡◌ {A = List Point} [] (cond b [] [])
@@ -61,7 +61,7 @@ keep_or_not : (b : Bool) (p : Point) (now more earlier : List Point) → now ≡
 keep_or_not true p now more earlier e = ap (λ (qs : List Point). p ∷ qs) e
 keep_or_not false p now more earlier e = e
 
-pub points_both : (n later : Named) (m : Labels) (r : ℕ) (old : List (ℕ × ℤ × ℕ)) (new : List Point) (l : Labels) → Keeps n later → labels_at later r ≡ Some m → AreOf n old
+pub points_both : (n later : ReferenceTable) (m : Labels) (r : ℕ) (old : List (ℕ × ℤ × ℕ)) (new : List Point) (l : Labels) → Keeps n later → labels_at later r ≡ Some m → AreReferenced n old
     → points_of later l (old ++ with_reference r new) ≡ points_of n l old ++ cond (labels_eq m l) new []
 points_both n later m r [] new l keeps at of = points_new later m r new l at
 points_both n later m r (s ∷ old) new l keeps at of =
@@ -71,18 +71,18 @@ points_both n later m r (s ∷ old) new l keeps at of =
     (points_both n later m r old new l keeps at of.1)
 
 -- what a call that adds samples leaves
-pub added_of : (n later : Named) (m : Labels) (r : ℕ) (old : List (ℕ × ℤ × ℕ)) (new : List Point) (samples : List (ℕ × ℤ × ℕ)) → Grows m n later
-    → labels_at later r ≡ Some m → AreOf n old → samples ≡ old ++ with_reference r new → AreOf later samples
-added_of n later m r old new samples grown at of e = subst (AreOf later) (sym e) (of_both n later m r old new (keeps_grown n later m grown) at of)
+pub added_of : (n later : ReferenceTable) (m : Labels) (r : ℕ) (old : List (ℕ × ℤ × ℕ)) (new : List Point) (samples : List (ℕ × ℤ × ℕ)) → Grows m n later
+    → labels_at later r ≡ Some m → AreReferenced n old → samples ≡ old ++ with_reference r new → AreReferenced later samples
+added_of n later m r old new samples grown at of e = subst (AreReferenced later) (sym e) (of_both n later m r old new (keeps_grown n later m grown) at of)
 
-pub added_points : (n later : Named) (m : Labels) (r : ℕ) (old : List (ℕ × ℤ × ℕ)) (new : List Point) (samples : List (ℕ × ℤ × ℕ)) → Grows m n later
-    → labels_at later r ≡ Some m → AreOf n old → samples ≡ old ++ with_reference r new → (l : Labels)
+pub added_points : (n later : ReferenceTable) (m : Labels) (r : ℕ) (old : List (ℕ × ℤ × ℕ)) (new : List Point) (samples : List (ℕ × ℤ × ℕ)) → Grows m n later
+    → labels_at later r ≡ Some m → AreReferenced n old → samples ≡ old ++ with_reference r new → (l : Labels)
     → points_of later l samples ≡ points_of n l old ++ cond (labels_eq m l) new []
 added_points n later m r old new samples grown at of e l = ap (points_of later l) e ∙ points_both n later m r old new l (keeps_grown n later m grown) at of
 
 -- ---- places in the set
 
-at_first : (n : Named) (k : ℕ) (l : Labels) → slice_get n.sets k ≡ Some l → labels_at n (n.first + k) ≡ Some l
+at_first : (n : ReferenceTable) (k : ℕ) (l : Labels) → slice_get n.sets k ≡ Some l → labels_at n (n.first + k) ≡ Some l
 at_first n k l e =
     rw (le-ltb (n.first + k) n.first (omega arith)) (ap (slice_get n.sets) (omega arith) ∙ e)
 
@@ -113,7 +113,7 @@ pub place_found : (l : Labels) (sets : List Labels) (i : ℕ) → Some i ≡ pos
 place_found l sets i e = found_in (ltb (position_or_len (labels_eq l) sets) (length sets)) l sets i refl e
 
 -- and the reference there
-pub at_place_of : (n : Named) (k r : ℕ) (l : Labels) → slice_get n.sets k ≡ Some l → r ≡ n.first + k → labels_at n r ≡ Some l
+pub at_place_of : (n : ReferenceTable) (k r : ℕ) (l : Labels) → slice_get n.sets k ≡ Some l → r ≡ n.first + k → labels_at n r ≡ Some l
 at_place_of n k r l e f = ap (labels_at n) f ∙ at_first n k l e
 
 -- a label set that is at a place is found
@@ -131,29 +131,29 @@ any_at l (x ∷ sets) (suc k) e = later (labels_eq l x) (any_at l sets k e)
     later false t = t
 
 -- a label set that has no reference
-pub none_at : (n : Named) (l : Labels) (k : ℕ) → list_any (labels_eq l) n.sets ≡ false → labels_at n k ≡ Some l → ⊥
+pub none_at : (n : ReferenceTable) (l : Labels) (k : ℕ) → list_any (labels_eq l) n.sets ≡ false → labels_at n k ≡ Some l → ⊥
 none_at n l k none e = let there = any_at l n.sets (k - n.first) (at_place n k l e).1 in absurd (cc)
 
-pub none_found : (n : Named) (l : Labels) (k : ℕ) → false ≡ list_any (labels_eq l) n.sets → labels_at n k ≡ Some l → ⊥
+pub none_found : (n : ReferenceTable) (l : Labels) (k : ℕ) → false ≡ list_any (labels_eq l) n.sets → labels_at n k ≡ Some l → ⊥
 none_found n l k none e = none_at n l k (sym none) e
 
 -- the definitions in the log stay
-undone_more : (n : Named) (l : Labels) → n.defined ≤ length n.sets → only_defined (with_set l n) ≡ only_defined n
+undone_more : (n : ReferenceTable) (l : Labels) → n.defined ≤ length n.sets → only_defined (with_set l n) ≡ only_defined n
 undone_more n l le = ap (λ (sets : List Labels). record n { sets = sets }) (take-append-le n.defined n.sets (l ∷ []) le)
 
-pub undone_grown : (n later : Named) (l : Labels) → n.defined ≤ length n.sets → Grows l n later → only_defined later ≡ only_defined n
+pub undone_grown : (n later : ReferenceTable) (l : Labels) → n.defined ≤ length n.sets → Grows l n later → only_defined later ≡ only_defined n
 undone_grown n later l le (inl same) = ap only_defined same
 undone_grown n later l le (inr more) = ap only_defined more ∙ undone_more n l le
 
 -- a label set that was inserted
-pub inserted : (n : Named) (l k : Labels) (sets : List Labels) → k ≡ l → sets ≡ insert_key labels_eq n.sets k → Grows l n (record n { sets = sets })
+pub inserted : (n : ReferenceTable) (l k : Labels) (sets : List Labels) → k ≡ l → sets ≡ insert_key labels_eq n.sets k → Grows l n (record n { sets = sets })
 inserted n l k sets same e = by_test (list_any (labels_eq k) n.sets) e
   where
     by_test : (b : Bool) → sets ≡ cond b n.sets (n.sets ++ k ∷ []) → Grows l n (record n { sets = sets })
     by_test true e = inl (ap (λ (ks : List Labels). record n { sets = ks }) e)
     by_test false e = inr (ap (λ (ks : List Labels). record n { sets = ks }) (e ∙ ap (λ (x : Labels). n.sets ++ x ∷ []) same))
 
-pub stored_at : (n : Named) (l k x : Labels) (i r : ℕ) → k ≡ l → slice_get n.sets i ≡ Some x → labels_eq k x ≡ true → r ≡ n.first + i → labels_at n r ≡ Some l
+pub stored_at : (n : ReferenceTable) (l k x : Labels) (i r : ℕ) → k ≡ l → slice_get n.sets i ≡ Some x → labels_eq k x ≡ true → r ≡ n.first + i → labels_at n r ≡ Some l
 stored_at n l k x i r same at eq place =
     at_place_of n i r l (at ∙ ap Some (sym (same_if_equal k x eq) ∙ same)) place
 

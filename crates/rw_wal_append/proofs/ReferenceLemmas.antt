@@ -10,9 +10,9 @@ use Rattle.rw_types.specs.declared.entry.Entry.TheVariants.{Def, Sample}
 use Rattle.rw_wal_format.specs.Laws.{sample_entry}
 use Rattle.rw_wal_format.specs.Series.{defines, has_labels, labels_of, samples_after}
 use Rattle.rw_wal_format.proofs.shared.SeriesRows.{labels_of-push}
-use Rattle.rw_wal_append.specs.Additions.{Point, without_position, samples_in, definition_entry}
+use Rattle.rw_wal_append.specs.Additions.{Point, without_position, samples_of_labels, definition_entry}
 use Rattle.rw_wal_append.proofs.shared.AdditionLemmas.{samples_in-append}
-use Rattle.rw_wal_append.specs.References.{Named, labels_at, numbered, undefined, StandFor, AreDefined, AreOf, points_of}
+use Rattle.rw_wal_append.specs.References.{ReferenceTable, labels_at, numbered, undefined, StandFor, AreDefined, AreReferenced, points_of}
 
 -- ---- what references stand for, as the log goes on
 
@@ -68,10 +68,10 @@ found_at : (b : Bool) (r first : ℕ) (x : Option Labels) (l : Labels) → ltb r
 found_at true r first x l t e = absurd (cc)
 found_at false r first x l t e = (ltb-false r first t, e)
 
-pub at_place : (n : Named) (r : ℕ) (l : Labels) → labels_at n r ≡ Some l → (n.first ≤ r) × (slice_get n.sets (r - n.first) ≡ Some l)
+pub at_place : (n : ReferenceTable) (r : ℕ) (l : Labels) → labels_at n r ≡ Some l → (n.first ≤ r) × (slice_get n.sets (r - n.first) ≡ Some l)
 at_place n r l e = found_at (ltb r n.first) r n.first (slice_get n.sets (r - n.first)) l refl e
 
-stands : (es : List Entry) (n : Named) (r : ℕ) (l : Labels) → StandFor es n.first n.sets → labels_at n r ≡ Some l → labels_of es r (length es) ≡ Some l
+stands : (es : List Entry) (n : ReferenceTable) (r : ℕ) (l : Labels) → StandFor es n.first n.sets → labels_at n r ≡ Some l → labels_of es r (length es) ≡ Some l
 stands es n r l h e =
     let at = at_place n r l e in
     ap (λ (m : ℕ). labels_of es m (length es)) (omega (arith, at.0)) ∙ stand_at es n.first (r - n.first) n.sets l h at.1
@@ -87,7 +87,7 @@ take_it : (b : Bool) (p : ℕ × ℤ × ℕ) (later : List (ℕ × ℤ × ℕ)) 
 take_it true p later ps e = ap (λ (qs : List Point). (p.1, p.2) ∷ qs) e
 take_it false p later ps e = e
 
-points_read : (n : Named) (l : Labels) (es : List Entry) (ss : List (ℕ × ℤ × ℕ)) → StandFor es n.first n.sets → AreOf n ss
+points_read : (n : ReferenceTable) (l : Labels) (es : List Entry) (ss : List (ℕ × ℤ × ℕ)) → StandFor es n.first n.sets → AreReferenced n ss
     → map without_position (samples_after l es (map sample_entry ss)) ≡ points_of n l ss
 points_read n l es [] h of = refl
 points_read n l es (s ∷ ss) h of =
@@ -98,7 +98,7 @@ points_read n l es (s ∷ ss) h of =
     (points_read n l (es ++ sample_entry s ∷ []) ss (stand_sample es n.first s.0 s.1 s.2 n.sets h) of.1)
 
 -- all label sets, once those that were missing are defined
-all_defined : (es : List Entry) (n : Named) → AreDefined es n → StandFor (es ++ map definition_entry (undefined n)) n.first n.sets
+all_defined : (es : List Entry) (n : ReferenceTable) → AreDefined es n → StandFor (es ++ map definition_entry (undefined n)) n.first n.sets
 all_defined es n h = elim (cases_lt (length n.sets) n.defined) [
   | inl more ↦
       let none : drop n.defined n.sets ≡ [] = drop_of_length-le n.sets (omega (arith, more)) in
@@ -112,19 +112,19 @@ all_defined es n h = elim (cases_lt (length n.sets) n.defined) [
       (subst (λ (k : ℕ). StandFor (es ++ map definition_entry (numbered (n.first + k) (drop n.defined n.sets))) n.first (take n.defined n.sets ++ drop n.defined n.sets)) len made)
 ]
 
-pub defined_all : (es : List Entry) (n : Named) (ss : List (ℕ × ℤ × ℕ)) → AreDefined es n
+pub defined_all : (es : List Entry) (n : ReferenceTable) (ss : List (ℕ × ℤ × ℕ)) → AreDefined es n
     → AreDefined (es ++ map definition_entry (undefined n) ++ map sample_entry ss) (record n { defined = length n.sets })
 defined_all es n ss h =
     subst (StandFor ((es ++ map definition_entry (undefined n)) ++ map sample_entry ss) n.first) (sym (take-length n.sets))
     (stand_samples (es ++ map definition_entry (undefined n)) n.first n.sets ss (all_defined es n h))
 
-pub samples_read : (es : List Entry) (n : Named) (ss : List (ℕ × ℤ × ℕ)) (l : Labels) → AreDefined es n → AreOf n ss
-    → samples_in (es ++ map definition_entry (undefined n) ++ map sample_entry ss) l ≡ samples_in es l ++ points_of n l ss
+pub samples_read : (es : List Entry) (n : ReferenceTable) (ss : List (ℕ × ℤ × ℕ)) (l : Labels) → AreDefined es n → AreReferenced n ss
+    → samples_of_labels (es ++ map definition_entry (undefined n) ++ map sample_entry ss) l ≡ samples_of_labels es l ++ points_of n l ss
 samples_read es n ss l h of =
     let defs = map definition_entry (undefined n) in
     let none : samples_after l es (map definition_entry (undefined n)) ≡ [] = no_definitions l es (n.first + n.defined) (drop n.defined n.sets) in
-    let same : samples_in (es ++ map definition_entry (undefined n)) l ≡ samples_in es l =
-    samples_in-append l es defs ∙ ap (λ (x : List (ℕ × ℤ × ℕ)). samples_in es l ++ map without_position x) none ∙ append-nil (samples_in es l) in
+    let same : samples_of_labels (es ++ map definition_entry (undefined n)) l ≡ samples_of_labels es l =
+    samples_in-append l es defs ∙ ap (λ (x : List (ℕ × ℤ × ℕ)). samples_of_labels es l ++ map without_position x) none ∙ append-nil (samples_of_labels es l) in
     samples_in-append l (es ++ defs) (map sample_entry ss)
     ∙ ap (λ (x : List Point). x ++ map without_position (samples_after l (es ++ map definition_entry (undefined n)) (map sample_entry ss))) same
-    ∙ ap (λ (x : List Point). samples_in es l ++ x) (points_read n l (es ++ defs) ss (all_defined es n h) of)
+    ∙ ap (λ (x : List Point). samples_of_labels es l ++ x) (points_read n l (es ++ defs) ss (all_defined es n h) of)

@@ -15,8 +15,8 @@ abbrev pub without_position : ℕ × ℤ × ℕ → Point
 without_position s = (s.1, s.2)
 
 -- the samples of a label set among the entries of a log, in their order
-abbrev pub samples_in : List Entry → Labels → List Point
-samples_in es l = map without_position (samples_after l [] es)
+abbrev pub samples_of_labels : List Entry → Labels → List Point
+samples_of_labels es l = map without_position (samples_after l [] es)
 
 -- the entry of a definition: a reference and its labels
 abbrev pub definition_entry : ℕ × Labels → Entry
@@ -38,9 +38,9 @@ added_entries [] = []
 added_entries (a ∷ rest) = entries_with a.reference a.samples ++ added_entries rest
 
 -- the new samples of a label set
-abbrev pub samples_of : Labels → List Addition → List Point
-samples_of l [] = []
-samples_of l (a ∷ rest) = (if labels_eq a.labels l then a.samples else []) ++ samples_of l rest
+abbrev pub samples_of_additions : Labels → List Addition → List Point
+samples_of_additions l [] = []
+samples_of_additions l (a ∷ rest) = (if labels_eq a.labels l then a.samples else []) ++ samples_of_additions l rest
 
 -- after these entries, the reference of each addition stands for its label set
 abbrev pub AreNamed : List Entry → List Addition → Type 0

@@ -5,7 +5,7 @@ use Rattle.rw_types.specs.declared.entry.Entry.{Entry}
 use Rattle.rw_wal_format.specs.Laws.{AreRecords, log_all, entries_of_records}
 use Rattle.rw_wal_format.specs.Pieces.{page_size}
 use Rattle.rw_journal.specs.Journal.{Segments}
-use Rattle.rw_journal.specs.Logs.{IsWhole}
+use Rattle.rw_journal.specs.Logs.{IsWholeText}
 
 -- the most pages of a segment, and how many bytes of the last segment are written
 pub record End : Type 0 where
@@ -18,7 +18,7 @@ pub record EndsAt (segments : Segments) (offset : ℕ) : Type 0 where
   pub done : Segments
   pub records : List (List ℕ)
   pub entries : List Entry
-  pub whole : AllByRecursion (IsWhole page_size) done
+  pub whole : AllByRecursion (IsWholeText page_size) done
   pub are : AreRecords records
   pub read : entries_of_records records ≡ Some entries
   pub folder : segments ≡ done ++ log_all page_size 0 records ∷ []

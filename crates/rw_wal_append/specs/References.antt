@@ -7,25 +7,25 @@ use Rattle.rw_wal_append.specs.Additions.{Point}
 
 -- Label sets with the references that follow a first one, in order, and for how many of them the
 -- log has the definition.
-pub record Named : Type 0 where
+pub record ReferenceTable : Type 0 where
   pub first : ℕ
   pub sets : List (List (List ℕ × List ℕ))
   pub defined : ℕ
 
 -- the label set of a reference
-abbrev pub labels_at : Named → ℕ → Option Labels
+abbrev pub labels_at : ReferenceTable → ℕ → Option Labels
 labels_at n r = if nat_lt r n.first then None else slice_get n.sets (r - n.first)
 
 -- one more label set, which is not defined
-abbrev pub with_set : Labels → Named → Named
+abbrev pub with_set : Labels → ReferenceTable → ReferenceTable
 with_set l n = record n { sets = n.sets ++ l ∷ [] }
 
 -- this label set has come, or nothing has changed
-abbrev pub Grows : Labels → Named → Named → Type 0
+abbrev pub Grows : Labels → ReferenceTable → ReferenceTable → Type 0
 Grows l old new = (new ≡ old) ⊎ (new ≡ with_set l old)
 
 -- those without a definition are removed
-abbrev pub only_defined : Named → Named
+abbrev pub only_defined : ReferenceTable → ReferenceTable
 only_defined n = record n { sets = take n.defined n.sets }
 
 -- label sets with the references from one on
@@ -34,7 +34,7 @@ numbered r [] = []
 numbered r (l ∷ ls) = (r, l) ∷ numbered (suc r) ls
 
 -- the definitions that the log does not have
-abbrev pub undefined : Named → List (ℕ × Labels)
+abbrev pub undefined : ReferenceTable → List (ℕ × Labels)
 undefined n = numbered (n.first + n.defined) (drop n.defined n.sets)
 
 -- after these entries, the references from one on stand for these label sets
@@ -43,15 +43,15 @@ StandFor es r [] = Unit {0}
 StandFor es r (l ∷ ls) = (labels_of es r (length es) ≡ Some l) × StandFor es (suc r) ls
 
 -- the log has the definitions that it should have
-abbrev pub AreDefined : List Entry → Named → Type 0
+abbrev pub AreDefined : List Entry → ReferenceTable → Type 0
 AreDefined es n = StandFor es n.first (take n.defined n.sets)
 
 -- the reference of each sample is one of these
-abbrev pub AreOf : Named → List (ℕ × ℤ × ℕ) → Type 0
-AreOf n [] = Unit {0}
-AreOf n (s ∷ ss) = ((l : Labels) × (labels_at n s.0 ≡ Some l)) × AreOf n ss
+abbrev pub AreReferenced : ReferenceTable → List (ℕ × ℤ × ℕ) → Type 0
+AreReferenced n [] = Unit {0}
+AreReferenced n (s ∷ ss) = ((l : Labels) × (labels_at n s.0 ≡ Some l)) × AreReferenced n ss
 
 -- those of a label set
-abbrev pub points_of : Named → Labels → List (ℕ × ℤ × ℕ) → List Point
+abbrev pub points_of : ReferenceTable → Labels → List (ℕ × ℤ × ℕ) → List Point
 points_of n l [] = []
 points_of n l (s ∷ ss) = if has_labels l (labels_at n s.0) then (s.1, s.2) ∷ points_of n l ss else points_of n l ss

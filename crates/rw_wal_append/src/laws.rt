@@ -10,23 +10,24 @@ ghost use Rattle.rw_wal_format.specs.Laws.{sample_entry};
 ghost use Rattle.rw_wal_format.specs.Pieces.{page_size};
 ghost use Rattle.rw_wal_format.specs.Series.{labels_of};
 ghost use Rattle.rw_journal.specs.Journal.{Segments};
-ghost use Rattle.rw_journal.specs.Logs.{IsWhole};
+ghost use Rattle.rw_journal.specs.Logs.{IsWholeText};
 ghost use Rattle.rw_journal.specs.TornLogs.{AllBefore};
-ghost use Rattle.rw_wal_append.specs.Additions.{Addition, samples_in, added_entries, samples_of, AreNamed, definition_entry};
-ghost use Rattle.rw_wal_append.specs.References.{Named, AreDefined, AreOf, points_of, undefined};
+ghost use Rattle.rw_wal_append.specs.Additions.{Addition, samples_of_labels, added_entries, samples_of_additions, AreNamed, definition_entry};
+ghost use Rattle.rw_wal_append.specs.References.{ReferenceTable, AreDefined, AreReferenced, points_of, undefined};
 ghost use Rattle.rw_wal_append.specs.Ends.{EndsAt};
 
 /// Law: if the reference of each addition stands for its label set, the log with the added samples
 /// has of each label set the samples that it had, and then the added ones, in their order.
 pub fn what_is_written_is_said()
     ensures { (es : List Entry) (added : List Addition) (l : Labels) → AreNamed es added
-        → samples_in (es ++ added_entries added) l ≡ samples_in es l ++ samples_of l added }
+        → samples_of_labels (es ++ added_entries added) l ≡ samples_of_labels es l
+        ++ samples_of_additions l added }
 {}
 
 /// Law: a definition adds no sample, and from then on its reference stands for its label set.
 pub fn definitions_give_names()
     ensures none { (es : List Entry) (reference : ℕ) (labels l : Labels)
-        → samples_in (es ++ Def reference labels ∷ []) l ≡ samples_in es l }
+        → samples_of_labels (es ++ Def reference labels ∷ []) l ≡ samples_of_labels es l }
     ensures named { (es : List Entry) (reference : ℕ) (labels : Labels)
         → labels_of (es ++ Def reference labels ∷ []) reference
         (length (es ++ Def reference labels ∷ [])) ≡ Some labels }
@@ -35,26 +36,27 @@ pub fn definitions_give_names()
 /// Law: if a log gets the definitions that it does not have, and then samples of these references,
 /// it has all definitions, and of each label set the samples that it had, and then the new ones.
 pub fn new_samples_are_read()
-    ensures defined { (es : List Entry) (n : Named) (samples : List (ℕ × ℤ × ℕ)) → AreDefined es n
+    ensures defined { (es : List Entry) (n : ReferenceTable) (samples : List (ℕ × ℤ × ℕ))
+        → AreDefined es n
         → AreDefined (es ++ map definition_entry (undefined n) ++ map sample_entry samples)
         (record n { defined = length n.sets }) }
-    ensures samples { (es : List Entry) (n : Named) (samples : List (ℕ × ℤ × ℕ)) (l : Labels)
-        → AreDefined es n → AreOf n samples
-        → samples_in (es ++ map definition_entry (undefined n) ++ map sample_entry samples) l
-        ≡ samples_in es l ++ points_of n l samples }
+    ensures samples { (es : List Entry) (n : ReferenceTable) (samples : List (ℕ × ℤ × ℕ)) (l : Labels)
+        → AreDefined es n → AreReferenced n samples
+        → samples_of_labels (es ++ map definition_entry (undefined n) ++ map sample_entry samples) l
+        ≡ samples_of_labels es l ++ points_of n l samples }
 {}
 
 /// Law: a log with an empty last segment ends at 0, if each segment before it ends between two
 /// records.
 pub fn an_empty_segment_ends_at_0()
-    ensures { (done : Segments) → AllBefore (IsWhole page_size) (done ++ [] ∷ [])
+    ensures { (done : Segments) → AllBefore (IsWholeText page_size) (done ++ [] ∷ [])
         → EndsAt (done ++ [] ∷ []) 0 }
 {}
 
 /// Law: a log that ends between two records also does so with a next segment.
 pub fn a_next_segment_may_begin()
     ensures whole { (segments : Segments) (offset : ℕ) → EndsAt segments offset
-        → AllBefore (IsWhole page_size) segments }
+        → AllBefore (IsWholeText page_size) segments }
     ensures next { (segments : Segments) (offset : ℕ) → EndsAt segments offset
         → EndsAt (segments ++ [] ∷ []) 0 }
 {}

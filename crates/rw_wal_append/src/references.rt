@@ -3,7 +3,7 @@
 ghost use Rattle.std.specs.Prelude.{◌≡◌, ℕ, ◌+◌, ◌≤◌, ◌<◌, ◌^◌, ◌++◌, [], length, Some, None, IfSome, IfOk, OnOk, OnErr, if◌then◌else◌};
 ghost use Rattle.rw_types.specs.Labels.{Labels};
 ghost use Rattle.rw_types.specs.LabelOrder.{labels_eq};
-ghost use Rattle.rw_wal_append.specs.References.{Grows, labels_at, only_defined, undefined, AreOf, points_of};
+ghost use Rattle.rw_wal_append.specs.References.{Grows, labels_at, only_defined, undefined, AreReferenced, points_of};
 ghost use Rattle.rw_wal_append.specs.inner.References.{with_reference};
 
 use indexmap::IndexSet;
@@ -62,9 +62,9 @@ pub struct References {
 
 impl Model for References {
     ghost use Rattle.std.specs.Prelude.{◌≤◌, ◌^◌, length};
-    ghost use Rattle.rw_wal_append.specs.References.{Named};
+    ghost use Rattle.rw_wal_append.specs.References.{ReferenceTable};
 
-    ghost Value = { Named };
+    ghost Value = { ReferenceTable };
 
     ghost view = { λ r. record { first = r.first; sets = r.sets.keys; defined = r.defined } };
 
@@ -148,8 +148,8 @@ impl References {
         labels: &LabelSet,
         new: &[(i64, Word)],
     ) -> Result<(), AllocError>
-        requires { AreOf self.old samples.old.items }
-        ensures of { OnOk result (AreOf self.new samples.new.items) }
+        requires { AreReferenced self.old samples.old.items }
+        ensures of { OnOk result (AreReferenced self.new samples.new.items) }
         ensures points { OnOk result ((l : Labels) → points_of self.new l samples.new.items
             ≡ points_of self.old l samples.old.items
             ++ (if labels_eq labels.now l then new.now else [])) }

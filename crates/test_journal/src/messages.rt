@@ -1,7 +1,7 @@
 //! Messages that are appended to a log, one after the other, and the references that they get.
 
 ghost use Rattle.std.specs.Prelude.{OnOk};
-ghost use Rattle.rw_wal_append.specs.References.{AreOf};
+ghost use Rattle.rw_wal_append.specs.References.{AreReferenced};
 
 use rw_types::{LabelSet, Names, RawLabels, Word};
 use rw_wal_append::{AppendError, LogEnd, References};
@@ -138,8 +138,8 @@ fn add(
     samples: &mut Vec<(u64, i64, Word)>,
     part: &Part,
 ) -> Result<(), AppendError>
-    requires { AreOf references.old samples.old.items }
-    ensures { OnOk result (AreOf references.new samples.new.items) }
+    requires { AreReferenced references.old samples.old.items }
+    ensures { OnOk result (AreReferenced references.new samples.new.items) }
 {
     let set = named(alloc, part.metric)?;
     let points = points_at(alloc, part.times)?;

@@ -176,7 +176,7 @@ const FOUND: &str = "4 \"1 series 3 {\"9\"=\"a\"}
 0 0 series 1 {__name__=\"up\"}
 8 \"1 sample 4 1500 0 {__name__=\"up\"}
 3 \"1 sample 2 -500 0 noseries
-9 is not there
+9 has no entry
 5 \"1 sample 3 1 0 {\"9\"=\"a\"}
 ";
 

@@ -7,7 +7,7 @@ use Rattle.rw_wal_format.specs.Segments.{Stop, between, Reading, segment, item_a
 use Rattle.rw_wal_format.specs.Pieces.{reading, reading_after, then_after}
 use Rattle.rw_wal_format.proofs.shared.Growing.{segment_grows}
 use Rattle.rw_journal.specs.Journal.{Segments, on_last, IsCutEnd, IsBegun}
-use Rattle.rw_journal.specs.Logs.{log_of, entries_of, IsWhole, IsCleanCut}
+use Rattle.rw_journal.specs.Logs.{log_of, entries_of, IsWholeText, IsCleanCut}
 use Rattle.rw_journal.specs.TornLogs.{last_of, AllBefore}
 use Rattle.rw_journal.proofs.LogLemmas.{then_between}
 
@@ -33,15 +33,15 @@ cut_between page text at k p clean le =
     ap (λ (t : List ℕ). (segment page t).entries) (sym (take-append-drop k text)) ∙ high.entries in
     both_ways (segment page text).entries (segment page (take k text)).entries low.more high.more low' high'
 
-pub front_of : (page : ℕ) (s t : List ℕ) (ss : Segments) → IsWhole page s → entries_of page (s ∷ t ∷ ss) ≡ (segment page s).entries ++ entries_of page (t ∷ ss)
+pub front_of : (page : ℕ) (s t : List ℕ) (ss : Segments) → IsWholeText page s → entries_of page (s ∷ t ∷ ss) ≡ (segment page s).entries ++ entries_of page (t ∷ ss)
 unfolding reading
 front_of page s t ss whole = then_between (segment page s).stop (segment page s) (reading_after page [] (log_of (t ∷ ss))) whole
 
-front_on : (page : ℕ) (f : List ℕ → List ℕ) (s t : List ℕ) (ss : Segments) → IsWhole page s → entries_of page (s ∷ on_last f (t ∷ ss)) ≡ (segment page s).entries ++ entries_of page (on_last f (t ∷ ss))
+front_on : (page : ℕ) (f : List ℕ → List ℕ) (s t : List ℕ) (ss : Segments) → IsWholeText page s → entries_of page (s ∷ on_last f (t ∷ ss)) ≡ (segment page s).entries ++ entries_of page (on_last f (t ∷ ss))
 front_on page f s t [] whole = front_of page s (f t) [] whole
 front_on page f s t (u ∷ ss) whole = front_of page s t (on_last f (u ∷ ss)) whole
 
-same_on : (page : ℕ) (f : List ℕ → List ℕ) (ss : Segments) → AllBefore (IsWhole page) ss → (segment page (f (last_of ss))).entries ≡ (segment page (last_of ss)).entries
+same_on : (page : ℕ) (f : List ℕ → List ℕ) (ss : Segments) → AllBefore (IsWholeText page) ss → (segment page (f (last_of ss))).entries ≡ (segment page (last_of ss)).entries
     → entries_of page (on_last f ss) ≡ entries_of page ss
 unfolding reading
 same_on page f [] all e = refl
@@ -50,7 +50,7 @@ same_on page f (s ∷ t ∷ ss) all e =
     front_on page f s t ss all.0 ∙ ap (λ (es : List Entry). (segment page s).entries ++ es) (same_on page f (t ∷ ss) all.1 e) ∙ sym (front_of page s t ss all.0)
 
 -- a crash while the last segment is being cut
-pub cutting : (page : ℕ) (ss : Segments) (at : ℕ) (c : Segments) → 0 < page → AllBefore (IsWhole page) ss → IsCleanCut page (last_of ss) at → IsCutEnd at ss c
+pub cutting : (page : ℕ) (ss : Segments) (at : ℕ) (c : Segments) → 0 < page → AllBefore (IsWholeText page) ss → IsCleanCut page (last_of ss) at → IsCutEnd at ss c
     → entries_of page c ≡ entries_of page ss
 cutting page ss at c p all clean cut =
     ap (entries_of page) cut.folder ∙ same_on page (take cut.at) ss all (cut_between page (last_of ss) at cut.at p clean cut.no_shorter)
@@ -60,7 +60,7 @@ unfolding segment item_at
 nothing_read page = refl
 
 -- an empty segment after whole ones
-empty_after : (page : ℕ) (ss : Segments) → AllBefore (IsWhole page) ss → IsWhole page (last_of ss) → entries_of page (ss ++ [] ∷ []) ≡ entries_of page ss
+empty_after : (page : ℕ) (ss : Segments) → AllBefore (IsWholeText page) ss → IsWholeText page (last_of ss) → entries_of page (ss ++ [] ∷ []) ≡ entries_of page ss
 unfolding reading
 empty_after page [] all whole = refl
 empty_after page (s ∷ []) all whole = front_of page s [] [] whole ∙ ap (λ (es : List Entry). (segment page s).entries ++ es) (nothing_read page) ∙ append-nil (segment page s).entries
@@ -85,9 +85,9 @@ before_push P [] all here = tt
 before_push P (s ∷ []) all here = (here, tt)
 before_push P (s ∷ t ∷ ss) all here = (all.0, before_push P (t ∷ ss) all.1 here)
 
-module _ (page : ℕ) (ss : Segments) (at : ℕ) (p : 0 < page) (all : AllBefore (IsWhole page) ss) (clean : IsCleanCut page (last_of ss) at) where
-  whole_last : IsWhole page (last_of (on_last (take at) ss))
-  whole_last = subst (IsWhole page) (sym (last_on at ss)) clean.whole
+module _ (page : ℕ) (ss : Segments) (at : ℕ) (p : 0 < page) (all : AllBefore (IsWholeText page) ss) (clean : IsCleanCut page (last_of ss) at) where
+  whole_last : IsWholeText page (last_of (on_last (take at) ss))
+  whole_last = subst (IsWholeText page) (sym (last_on at ss)) clean.whole
 
   cut_entries : entries_of page (on_last (take at) ss) ≡ entries_of page ss
   cut_entries = same_on page (take at) ss all clean.keeps
@@ -96,10 +96,10 @@ module _ (page : ℕ) (ss : Segments) (at : ℕ) (p : 0 < page) (all : AllBefore
   pub beginning : (cut c : Segments) → cut ≡ on_last (take at) ss → IsBegun cut c → entries_of page c ≡ entries_of page ss
   beginning cut c is (inl same) = ap (entries_of page) (same ∙ is) ∙ cut_entries
   beginning cut c is (inr more) =
-      ap (entries_of page) (more ∙ ap (λ (s : Segments). s ++ [] ∷ []) is) ∙ empty_after page (on_last (take at) ss) (before_on (IsWhole page) (take at) ss all) whole_last ∙ cut_entries
+      ap (entries_of page) (more ∙ ap (λ (s : Segments). s ++ [] ∷ []) is) ∙ empty_after page (on_last (take at) ss) (before_on (IsWholeText page) (take at) ss all) whole_last ∙ cut_entries
 
-  pub begun : (new : Segments) → new ≡ on_last (take at) ss ++ [] ∷ [] → (entries_of page new ≡ entries_of page ss) × AllBefore (IsWhole page) new
+  pub begun : (new : Segments) → new ≡ on_last (take at) ss ++ [] ∷ [] → (entries_of page new ≡ entries_of page ss) × AllBefore (IsWholeText page) new
   begun new is = (
-    ap (entries_of page) is ∙ empty_after page (on_last (take at) ss) (before_on (IsWhole page) (take at) ss all) whole_last ∙ cut_entries,
-    subst (AllBefore (IsWhole page)) (sym is) (before_push (IsWhole page) (on_last (take at) ss) (before_on (IsWhole page) (take at) ss all) whole_last),
+    ap (entries_of page) is ∙ empty_after page (on_last (take at) ss) (before_on (IsWholeText page) (take at) ss all) whole_last ∙ cut_entries,
+    subst (AllBefore (IsWholeText page)) (sym is) (before_push (IsWholeText page) (on_last (take at) ss) (before_on (IsWholeText page) (take at) ss all) whole_last),
   )

@@ -8,7 +8,7 @@ use Rattle.rw_wal_format.specs.Records.{◌then◌, record_entries}
 use Rattle.rw_wal_format.specs.Segments.{segment}
 use Rattle.rw_wal_format.proofs.shared.Written.{entries_read}
 use Rattle.rw_journal.specs.Journal.{Segments}
-use Rattle.rw_journal.specs.Logs.{entries_of, IsWhole}
+use Rattle.rw_journal.specs.Logs.{entries_of, IsWholeText}
 use Rattle.rw_journal.proofs.LogLemmas.{each_of, add_up}
 
 front_records : (ds more : List (List ℕ)) → AreRecords (ds ++ more) → AreRecords ds
@@ -35,7 +35,7 @@ segment_entries : (ds : List (List ℕ)) (es : List Entry) → AreRecords ds →
 unfolding reading
 segment_entries ds es all e = (entries_read ds es all e).0
 
-pub records_added : (done : Segments) (ds more : List (List ℕ)) (es fs : List Entry) → AllByRecursion (IsWhole page_size) done → AreRecords (ds ++ more)
+pub records_added : (done : Segments) (ds more : List (List ℕ)) (es fs : List Entry) → AllByRecursion (IsWholeText page_size) done → AreRecords (ds ++ more)
     → entries_of_records ds ≡ Some es → entries_of_records more ≡ Some fs
     → entries_of page_size (done ++ log_all page_size 0 (ds ++ more) ∷ []) ≡ entries_of page_size (done ++ log_all page_size 0 ds ∷ []) ++ fs
 records_added done ds more es fs whole all e f =

@@ -10,7 +10,7 @@ use Rattle.rw_wal_format.specs.Pieces.{reading, reading_after}
 use Rattle.rw_wal_format.proofs.shared.Growing.{segment_grows}
 use Rattle.rw_journal.specs.Journal.{Segments, with_more}
 use Rattle.rw_journal.specs.Torn.{IsTorn, IsTornFrom, IsTornLog}
-use Rattle.rw_journal.specs.Logs.{log_of, entries_of, IsWhole}
+use Rattle.rw_journal.specs.Logs.{log_of, entries_of, IsWholeText}
 use Rattle.rw_journal.specs.TornLogs.{NoChance, last_of, AllBefore}
 use Rattle.rw_journal.proofs.LogLemmas.{then_between}
 use Rattle.rw_journal.proofs.TornLemmas.{torn_begins}
@@ -42,7 +42,7 @@ one_torn tears page text written more p none t = (
   torn_begins page (length text + t.synced) (text ++ written) (text ++ more) p (torn_whole tears page text written more t) none,
 )
 
-front_more : (page : ℕ) (s t : List ℕ) (ss : Segments) (more : List ℕ) → IsWhole page s → entries_of page (s ∷ with_more (t ∷ ss) more) ≡ (segment page s).entries ++ entries_of page (with_more (t ∷ ss) more)
+front_more : (page : ℕ) (s t : List ℕ) (ss : Segments) (more : List ℕ) → IsWholeText page s → entries_of page (s ∷ with_more (t ∷ ss) more) ≡ (segment page s).entries ++ entries_of page (with_more (t ∷ ss) more)
 front_more page s t [] more whole = front_of page s (t ++ more) [] whole
 front_more page s t (u ∷ ss) more whole = front_of page s t (with_more (u ∷ ss) more) whole
 
@@ -56,7 +56,7 @@ begin_after front a b x y ex ey h = (h.0, ey ∙ ap (λ (l : List Entry). front 
 Between : ℕ → Segments → List ℕ → List ℕ → Type 0
 Between page old more written = Begins (entries_of page old) (entries_of page (with_more old more)) × Begins (entries_of page (with_more old more)) (entries_of page (with_more old written))
 
-all_torn : (tears : List ℕ → List ℕ → Type 0) (page : ℕ) (old : Segments) (written more : List ℕ) → 0 < page → NoChance page (last_of (with_more old written)) (last_of (with_more old more)) → AllBefore (IsWhole page) old
+all_torn : (tears : List ℕ → List ℕ → Type 0) (page : ℕ) (old : Segments) (written more : List ℕ) → 0 < page → NoChance page (last_of (with_more old written)) (last_of (with_more old more)) → AllBefore (IsWholeText page) old
     → IsTornFrom tears page (length (last_of old)) written more → Between page old more written
 unfolding Between reading
 all_torn tears page [] written more p none all t = (begins_itself (entries_of page []), begins_itself (entries_of page []))
@@ -72,7 +72,7 @@ all_torn tears page (s ∷ t ∷ ss) written more p none all torn =
       begin_after (segment page s).entries (entries_of page (with_more (t ∷ ss) more)) (entries_of page (with_more (t ∷ ss) written)) _ _ em ew rest.1,
     )
 
-pub left_between : (tears : List ℕ → List ℕ → Type 0) (page : ℕ) (old : Segments) (written : List ℕ) (left : Segments) → 0 < page → NoChance page (last_of (with_more old written)) (last_of left) → AllBefore (IsWhole page) old
+pub left_between : (tears : List ℕ → List ℕ → Type 0) (page : ℕ) (old : Segments) (written : List ℕ) (left : Segments) → 0 < page → NoChance page (last_of (with_more old written)) (last_of left) → AllBefore (IsWholeText page) old
     → IsTornLog tears page (length (last_of old)) old written left
     → Begins (entries_of page old) (entries_of page left) × Begins (entries_of page left) (entries_of page (with_more old written))
 unfolding Between

@@ -7,31 +7,31 @@ use Rattle.std.proofs.Math.Nat.{le_refl}
 use Rattle.rw_journal.specs.Journal.{Segments}
 use Rattle.rw_kept_folder.specs.declared.file_call.FileCall.{FileCall}
 use Rattle.rw_kept_folder.specs.declared.file_call.FileCall.TheVariants.{Append, SetLen, CreateNext, SyncData, SyncFolder}
-use Rattle.rw_kept_folder.specs.Noted.{Noted, State, changed, Leaves, LeftIn, step, after, LeftFrom, opened, seen_of, MayLeave, LeftSince}
+use Rattle.rw_kept_folder.specs.Noted.{Noted, FolderState, changed_by, Leaves, LeftIn, step, after_calls, LeftFrom, opened, seen_of, MayLeave, LeftSinceNoted}
 
 -- the bytes that were loaded and not yet returned, if there are any, are those of the segments
 -- from this number on
 abbrev pub AreUnread : Noted → ℕ → List (Vec ℕ Global) → Type 0
 AreUnread noted read unread = (unread ≡ []) ⊎ (map (λ v. v.items) unread ≡ drop read (seen_of noted))
 
-now_in : (s : State) (calls : List FileCall) (t : ℕ) (c : Segments) → LeftIn (after s calls) c → LeftFrom s calls t c
+now_in : (s : FolderState) (calls : List FileCall) (t : ℕ) (c : Segments) → LeftIn (after_calls s calls) c → LeftFrom s calls t c
 now_in s [] t c now = now
 now_in s (call ∷ calls) zero c now = inr (now_in (step call s) calls zero c now)
 now_in s (call ∷ calls) (suc t) c now = now_in (step call s) calls t c now
 
 -- the current moment is one of those since an earlier one
-pub counts_now : (noted : Noted) (t : ℕ) (c : Segments) → MayLeave noted c → LeftSince noted t c
+pub counts_now : (noted : Noted) (t : ℕ) (c : Segments) → MayLeave noted c → LeftSinceNoted noted t c
 counts_now noted t c now = now_in (opened noted) noted.calls t c now
 
-only_in : (s : State) (calls : List FileCall) (c : Segments) → LeftFrom s calls (length calls) c → LeftIn (after s calls) c
+only_in : (s : FolderState) (calls : List FileCall) (c : Segments) → LeftFrom s calls (length calls) c → LeftIn (after_calls s calls) c
 only_in s [] c left = left
 only_in s (call ∷ calls) c left = only_in (step call s) calls c left
 
 -- since the current moment there is no other one
-pub only_now : (noted : Noted) (c : Segments) → LeftSince noted (length noted.calls) c → MayLeave noted c
+pub only_now : (noted : Noted) (c : Segments) → LeftSinceNoted noted (length noted.calls) c → MayLeave noted c
 only_now noted c left = only_in (opened noted) noted.calls c left
 
-pub all_written : (u : Option FileCall) (segments : Segments) → Leaves u segments (changed u segments)
+pub all_written : (u : Option FileCall) (segments : Segments) → Leaves u segments (changed_by u segments)
 all_written None segments = refl
 all_written (Some (Append bytes)) segments = record { more = bytes; torn = tt; no_longer = le_refl (length bytes); folder = refl }
 all_written (Some (SetLen len)) segments = record { at = len; no_shorter = le_refl len; folder = refl }
@@ -41,4 +41,4 @@ all_written (Some SyncFolder) segments = refl
 
 -- a crash may leave all that was asked
 pub leaves_seen : (noted : Noted) → MayLeave noted (seen_of noted)
-leaves_seen noted = all_written (after (opened noted) noted.calls).under_way (after (opened noted) noted.calls).on_disk
+leaves_seen noted = all_written (after_calls (opened noted) noted.calls).under_way (after_calls (opened noted) noted.calls).on_disk

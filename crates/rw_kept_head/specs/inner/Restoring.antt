@@ -7,7 +7,7 @@ use Rattle.rw_types.specs.declared.entry.Entry.{Entry}
 use Rattle.rw_types.specs.declared.names.Names.{Names}
 use Rattle.rw_wal_format.specs.Series.{labels_of, has_labels}
 use Rattle.rw_write_request.specs.Message.{TimeSeries, WriteRequest}
-use Rattle.rw_wal_append.specs.Additions.{samples_in}
+use Rattle.rw_wal_append.specs.Additions.{samples_of_labels}
 use Rattle.rw_head.specs.Head.{State}
 use Rattle.rw_head.specs.Lists.{IsEarlier}
 use Rattle.rw_head.specs.Store.{Store, list_of}
@@ -38,7 +38,7 @@ StandsFor names (Some None) found = (l : Labels) × (found ≡ Some l) × (is_so
 -- the samples that they have
 pub record IsRestored (names : Names) (taken : List Entry) (lookup : ℕ → Option (Option TimeSeries)) (store : Store) : Type 0 where
   pub known : (r : ℕ) → StandsFor names (lookup r) (labels_of taken r (length taken))
-  pub says : (l : Labels) → list_of store l ≡ samples_in taken l
+  pub says : (l : Labels) → list_of store l ≡ samples_of_labels taken l
 
 -- a series of these labels without samples, or nothing if they are no label set
 abbrev pub IsSeriesOf : Names → Labels → Option TimeSeries → Type 0
@@ -83,11 +83,11 @@ TakesSample limits old new lookup later reference sample false =
 -- the store has what these entries say, or no head with these limits takes them
 abbrev pub IsRestoredOrRefused : LabelLimits → List Entry → (ℕ → Option (Option TimeSeries)) → Store → Bool → Type 0
 IsRestoredOrRefused limits taken lookup store true = IsRestored limits.names taken lookup store
-IsRestoredOrRefused limits taken lookup store false = MayHold limits (samples_in taken) → ⊥
+IsRestoredOrRefused limits taken lookup store false = MayHold limits (samples_of_labels taken) → ⊥
 
 -- the head has what the entries say, unless one of them was refused: then no head with these limits
 -- takes them
 pub record IsRestoring (taken : List Entry) (lookup : ℕ → Option (Option TimeSeries)) (head : State) (refused : Bool) : Type 0 where
   pub restored : refused ≡ false → IsRestored head.limits.names taken lookup head.store
-  pub refuses : refused ≡ true → MayHold head.limits (samples_in taken) → ⊥
+  pub refuses : refused ≡ true → MayHold head.limits (samples_of_labels taken) → ⊥
   pub holds : MayHold head.limits (list_of head.store)

@@ -9,7 +9,7 @@ use Rattle.rw_types.specs.declared.entry.Entry.{Entry}
 use Rattle.rw_journal.specs.Journal.{Segments}
 use Rattle.rw_wal_format.specs.Segments.{Stop, between, inside, at_fault, Reading, segment, item_at}
 use Rattle.rw_wal_format.specs.Pieces.{fault, fault_at, page_size, reading, reading_after, then_after}
-use Rattle.rw_journal.specs.Logs.{log_of, entries_of, IsWhole}
+use Rattle.rw_journal.specs.Logs.{log_of, entries_of, IsWholeText}
 use Rattle.rw_journal.specs.TornLogs.{last_of, AllBefore}
 use Rattle.rw_journal.proofs.shared.ClosingLemmas.{front_of, nothing_read}
 use Rattle.rw_journal.proofs.shared.CutLemmas.{no_fault}
@@ -22,17 +22,17 @@ use Rattle.rw_reopen.specs.declared.opening.LogEnd.{LogEnd}
 use Rattle.rw_reopen.specs.declared.reading.SegmentRead.{SegmentRead}
 
 -- a segment that ends without a fault is whole
-pub is_whole : (text : List ℕ) → fault (ended text) ≡ None → IsWhole page_size text
+pub is_whole : (text : List ℕ) → fault (ended text) ≡ None → IsWholeText page_size text
 unfolding reading
 is_whole text sound = no_fault (segment page_size text).stop (segment page_size text) (segment page_size []) refl sound
 
 -- a whole segment is cut at its end
-pub cut_at_end : (text : List ℕ) → IsWhole page_size text → IsSegmentCut text (length text)
+pub cut_at_end : (text : List ℕ) → IsWholeText page_size text → IsSegmentCut text (length text)
 cut_at_end text whole = record {
   clean = record {
     within = omega arith;
     keeps = ap (λ (t : List ℕ). (segment page_size t).entries) (take-length text);
-    whole = subst (IsWhole page_size) (sym (take-length text)) whole;
+    whole = subst (IsWholeText page_size) (sym (take-length text)) whole;
   };
   in_page = λ lt. absurd (omega (arith, lt));
 }
@@ -45,7 +45,7 @@ no_entries page = nothing_read page
 pub none_of : (ss : Segments) → ss ≡ [] → entries_of page_size ss ≡ []
 none_of ss empty = ap (entries_of page_size) empty ∙ no_entries page_size
 
-nothing_whole : IsWhole page_size []
+nothing_whole : IsWholeText page_size []
 unfolding segment item_at
 nothing_whole = refl
 
@@ -58,7 +58,7 @@ ends_nowhere ss end empty at torn greatest = record {
 }
 
 -- one more segment adds its entries
-pub one_more : (page : ℕ) (done : Segments) (t : List ℕ) → AllByRecursion (IsWhole page) done → entries_of page (done ++ t ∷ []) ≡ entries_of page done ++ (segment page t).entries
+pub one_more : (page : ℕ) (done : Segments) (t : List ℕ) → AllByRecursion (IsWholeText page) done → entries_of page (done ++ t ∷ []) ≡ entries_of page done ++ (segment page t).entries
 unfolding reading
 one_more page [] t all = sym (ap (λ (es : List Entry). es ++ (segment page t).entries) (no_entries page))
 one_more page (d ∷ []) t all = front_of page d t [] all.0
@@ -78,7 +78,7 @@ next_of ss n lt = ap (λ (k : ℕ). take k ss) (add-one n) ∙ take-suc ss n [] 
 pub record Going (ss : Segments) (n : ℕ) (before now : List Entry) (low high : ℕ) : Type 0 where
   pub taken : now ≡ before ++ entries_of page_size (take n ss)
   pub greatest : high ≡ greatest_after low (entries_of page_size (take n ss))
-  pub whole : AllByRecursion (IsWhole page_size) (take n ss)
+  pub whole : AllByRecursion (IsWholeText page_size) (take n ss)
 
 take_none : (ss : Segments) → take 0 ss ≡ []
 take_none [] = refl
@@ -90,7 +90,7 @@ going_none ss before low =
     record {
       taken = sym (ap (λ (es : List Entry). before ++ es) none ∙ append-nil before);
       greatest = sym (ap (greatest_after low) none);
-      whole = subst (AllByRecursion (IsWhole page_size)) (sym (take_none ss)) tt;
+      whole = subst (AllByRecursion (IsWholeText page_size)) (sym (take_none ss)) tt;
     }
 
 -- the segment after them was read, and it adds its entries
@@ -110,12 +110,12 @@ pub going_more : (ss : Segments) (n : ℕ) (text : List ℕ) (read : SegmentRead
     → ReadsSegment text read now after high higher → read.fault ≡ None → Going ss (n + 1) before after low higher
 going_more ss n text read before now after low high higher h lt is reads sound =
     let both = adds ss n text before now after low high higher h lt is reads.taken reads.greatest in
-    let whole : IsWhole page_size text = is_whole text (subst (IsFaultOf text) sound reads.is_read.fault_is) in
+    let whole : IsWholeText page_size text = is_whole text (subst (IsFaultOf text) sound reads.is_read.fault_is) in
     record {
       taken = both.0;
       greatest = both.1;
-      whole = subst (AllByRecursion (IsWhole page_size)) (sym (next_of ss n lt))
-          (AllByRecursion-append (IsWhole page_size) (take n ss) (get_or ss n [] ∷ []) h.whole (subst (IsWhole page_size) is whole, tt));
+      whole = subst (AllByRecursion (IsWholeText page_size)) (sym (next_of ss n lt))
+          (AllByRecursion-append (IsWholeText page_size) (take n ss) (get_or ss n [] ∷ []) h.whole (subst (IsWholeText page_size) is whole, tt));
     }
 
 -- all segments were read
@@ -124,7 +124,7 @@ pub record AllRead (ss : Segments) (at : ℕ) (torn : List ℕ) (before after : 
   pub torn_is : torn ≡ drop at (last_of ss)
   pub taken : after ≡ before ++ entries_of page_size ss
   pub greatest : high ≡ greatest_after low (entries_of page_size ss)
-  pub whole : AllBefore (IsWhole page_size) ss
+  pub whole : AllBefore (IsWholeText page_size) ss
 
 pub all_read : (ss : Segments) (n at : ℕ) (torn : List ℕ) (before now after : List Entry) (low high higher : ℕ) → Going ss n before now low high → n + 1 ≡ length ss
     → IsLast (get_or ss n []) at torn now after high higher → AllRead ss at torn before after low higher
@@ -139,5 +139,5 @@ all_read ss n at torn before now after low high higher h len is =
       torn_is = is.torn_is ∙ ap (drop at) (sym last);
       taken = both.0 ∙ ap (λ (s : Segments). before ++ entries_of page_size s) full;
       greatest = both.1 ∙ ap (λ (s : Segments). greatest_after low (entries_of page_size s)) full;
-      whole = subst (AllBefore (IsWhole page_size)) (sym all) (before_of (IsWhole page_size) (take n ss) (get_or ss n []) h.whole);
+      whole = subst (AllBefore (IsWholeText page_size)) (sym all) (before_of (IsWholeText page_size) (take n ss) (get_or ss n []) h.whole);
     }

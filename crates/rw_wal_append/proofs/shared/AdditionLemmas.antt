@@ -10,7 +10,7 @@ use Rattle.rw_types.specs.declared.entry.Entry.{Entry}
 use Rattle.rw_types.specs.declared.entry.Entry.TheVariants.{Def, Sample}
 use Rattle.rw_wal_format.specs.Series.{defines, labels_of, has_labels, samples_after}
 use Rattle.rw_wal_format.proofs.shared.SeriesRows.{labels_of-all, labels_of-push}
-use Rattle.rw_wal_append.specs.Additions.{Point, without_position, samples_in, Addition, entries_with, added_entries, samples_of, AreNamed}
+use Rattle.rw_wal_append.specs.Additions.{Point, without_position, samples_of_labels, Addition, entries_with, added_entries, samples_of_additions, AreNamed}
 
 abbrev Placed : Type 0
 Placed = List (ℕ × ℤ × ℕ)
@@ -30,7 +30,7 @@ samples_after-append l before (Sample r t w ∷ es) more =
     (samples_after-append l (before ++ Sample r t w ∷ []) es more
     ∙ ap (λ (b : List Entry). samples_after l (before ++ Sample r t w ∷ []) es ++ samples_after l b more) (append_assoc before (Sample r t w ∷ []) es))
 
-pub samples_in-append : (l : Labels) (es more : List Entry) → samples_in (es ++ more) l ≡ samples_in es l ++ map without_position (samples_after l es more)
+pub samples_in-append : (l : Labels) (es more : List Entry) → samples_of_labels (es ++ more) l ≡ samples_of_labels es l ++ map without_position (samples_after l es more)
 samples_in-append l es more = ap (map without_position) (samples_after-append l [] es more) ∙ map-append without_position (samples_after l [] es) (samples_after l es more)
 
 -- ---- what a reference stands for
@@ -67,7 +67,7 @@ one_added l m before reference (p ∷ ps) named =
     ∙ taken_or_not (labels_eq m l) (length before) p (samples_after l (before ++ Sample reference p.0 p.1 ∷ []) (entries_with reference ps)) ps
     (one_added l m (before ++ Sample reference p.0 p.1 ∷ []) reference ps (labels_of-push before (Sample reference p.0 p.1) reference ∙ named))
 
-all_added : (l : Labels) (before : List Entry) (rest : List Addition) → AreNamed before rest → map without_position (samples_after l before (added_entries rest)) ≡ samples_of l rest
+all_added : (l : Labels) (before : List Entry) (rest : List Addition) → AreNamed before rest → map without_position (samples_after l before (added_entries rest)) ≡ samples_of_additions l rest
 all_added l before [] all = refl
 all_added l before (a ∷ rest) all =
     ap (map without_position) (samples_after-append l before (entries_with a.reference a.samples) (added_entries rest))
@@ -75,11 +75,11 @@ all_added l before (a ∷ rest) all =
     ∙ ap (λ (ps : List Point). ps ++ map without_position (samples_after l (before ++ entries_with a.reference a.samples) (added_entries rest))) (one_added l a.labels before a.reference a.samples all.0)
     ∙ ap (λ (ps : List Point). cond (labels_eq a.labels l) a.samples [] ++ ps) (all_added l (before ++ entries_with a.reference a.samples) rest (all_named before a.reference a.samples rest all.1))
 
-pub written_said : (es : List Entry) (added : List Addition) (l : Labels) → AreNamed es added → samples_in (es ++ added_entries added) l ≡ samples_in es l ++ samples_of l added
-written_said es added l all = samples_in-append l es (added_entries added) ∙ ap (λ (ps : List Point). samples_in es l ++ ps) (all_added l es added all)
+pub written_said : (es : List Entry) (added : List Addition) (l : Labels) → AreNamed es added → samples_of_labels (es ++ added_entries added) l ≡ samples_of_labels es l ++ samples_of_additions l added
+written_said es added l all = samples_in-append l es (added_entries added) ∙ ap (λ (ps : List Point). samples_of_labels es l ++ ps) (all_added l es added all)
 
-pub no_sample : (es : List Entry) (reference : ℕ) (labels l : Labels) → samples_in (es ++ Def reference labels ∷ []) l ≡ samples_in es l
-no_sample es reference labels l = samples_in-append l es (Def reference labels ∷ []) ∙ append-nil (samples_in es l)
+pub no_sample : (es : List Entry) (reference : ℕ) (labels l : Labels) → samples_of_labels (es ++ Def reference labels ∷ []) l ≡ samples_of_labels es l
+no_sample es reference labels l = samples_in-append l es (Def reference labels ∷ []) ∙ append-nil (samples_of_labels es l)
 
 pub named_there : (es : List Entry) (reference : ℕ) (labels : Labels) → labels_of (es ++ Def reference labels ∷ []) reference (length (es ++ Def reference labels ∷ [])) ≡ Some labels
 named_there es reference labels =

@@ -15,7 +15,7 @@ use Rattle.rw_wal_format.specs.Writing.{log_bytes}
 use Rattle.rw_wal_format.proofs.shared.Appended.{log_all-append}
 use Rattle.rw_wal_write.specs.Segment.{Segment}
 use Rattle.rw_journal.specs.Journal.{Segments, with_more}
-use Rattle.rw_journal.specs.Logs.{entries_of, IsWhole}
+use Rattle.rw_journal.specs.Logs.{entries_of, IsWholeText}
 use Rattle.rw_journal.specs.TornLogs.{AllBefore}
 use Rattle.rw_journal.proofs.shared.RecordLemmas.{entries-append}
 use Rattle.rw_journal.proofs.shared.OpeningLemmas.{before_of}
@@ -159,7 +159,7 @@ stops (d ∷ ds) es e =
     let parts = read_first (record_entries d) (entries_of_records ds) es e in
     ap (λ (o : Option (List Entry)). (with_entries d o (reading_of_records ds)).stop) parts.2 ∙ stops ds parts.1 parts.3
 
-whole_text : (ds : List (List ℕ)) (es : List Entry) → AreRecords ds → entries_of_records ds ≡ Some es → IsWhole page_size (log_all page_size 0 ds)
+whole_text : (ds : List (List ℕ)) (es : List Entry) → AreRecords ds → entries_of_records ds ≡ Some es → IsWholeText page_size (log_all page_size 0 ds)
 whole_text ds es are e = ap (λ (r : Reading). r.stop) (segment_read page_size ds (lit< tt) (lit< tt) are) ∙ stops ds es e
 
 pub before_all : (P : List ℕ → Type 0) (done : Segments) (text : List ℕ) → AllBefore P (done ++ text ∷ []) → AllByRecursion P done
@@ -171,7 +171,7 @@ push_all : (P : List ℕ → Type 0) (done : Segments) (text : List ℕ) → All
 push_all P [] text all here = (here, tt)
 push_all P (s ∷ done) text all here = (all.0, push_all P done text all.1 here)
 
-ends_empty : (done : Segments) → AllByRecursion (IsWhole page_size) done → EndsAt (done ++ [] ∷ []) 0
+ends_empty : (done : Segments) → AllByRecursion (IsWholeText page_size) done → EndsAt (done ++ [] ∷ []) 0
 ends_empty done all = record {
   done = done;
   records = [];
@@ -183,17 +183,17 @@ ends_empty done all = record {
   len = refl;
 }
 
-pub ends_at_0 : (done : Segments) → AllBefore (IsWhole page_size) (done ++ [] ∷ []) → EndsAt (done ++ [] ∷ []) 0
-ends_at_0 done all = ends_empty done (before_all (IsWhole page_size) done [] all)
+pub ends_at_0 : (done : Segments) → AllBefore (IsWholeText page_size) (done ++ [] ∷ []) → EndsAt (done ++ [] ∷ []) 0
+ends_at_0 done all = ends_empty done (before_all (IsWholeText page_size) done [] all)
 
-pub before_last : (segments : Segments) (offset : ℕ) → EndsAt segments offset → AllBefore (IsWhole page_size) segments
+pub before_last : (segments : Segments) (offset : ℕ) → EndsAt segments offset → AllBefore (IsWholeText page_size) segments
 before_last segments offset e =
-    subst (AllBefore (IsWhole page_size)) (sym e.folder) (before_of (IsWhole page_size) e.done (log_all page_size 0 e.records) e.whole)
+    subst (AllBefore (IsWholeText page_size)) (sym e.folder) (before_of (IsWholeText page_size) e.done (log_all page_size 0 e.records) e.whole)
 
 pub next_begins : (segments : Segments) (offset : ℕ) → EndsAt segments offset → EndsAt (segments ++ [] ∷ []) 0
 next_begins segments offset e =
     subst (λ (ss : Segments). EndsAt (ss ++ [] ∷ []) 0) (sym e.folder)
-    (ends_empty (e.done ++ log_all page_size 0 e.records ∷ []) (push_all (IsWhole page_size) e.done (log_all page_size 0 e.records) e.whole (whole_text e.records e.entries e.are e.read)))
+    (ends_empty (e.done ++ log_all page_size 0 e.records ∷ []) (push_all (IsWholeText page_size) e.done (log_all page_size 0 e.records) e.whole (whole_text e.records e.entries e.are e.read)))
 
 -- ---- the end of a log
 
@@ -205,7 +205,7 @@ more_last (s ∷ t ∷ done) text more = ap (λ (ss : Segments). s ∷ ss) (more
 -- what `records_add_entries` says
 abbrev pub AddsEntries : Type 0
 AddsEntries =
-    (done : Segments) (ds more : List (List ℕ)) (es fs : List Entry) → AllByRecursion (IsWhole page_size) done → AreRecords (ds ++ more)
+    (done : Segments) (ds more : List (List ℕ)) (es fs : List Entry) → AllByRecursion (IsWholeText page_size) done → AreRecords (ds ++ more)
     → entries_of_records ds ≡ Some es → entries_of_records more ≡ Some fs
     → entries_of page_size (done ++ log_all page_size 0 (ds ++ more) ∷ []) ≡ entries_of page_size (done ++ log_all page_size 0 ds ∷ []) ++ fs
 

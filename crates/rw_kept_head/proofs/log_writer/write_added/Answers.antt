@@ -5,7 +5,7 @@ use Rattle.rw_journal.specs.Torn.{IsTornLog}
 use Rattle.rw_journal.proofs.shared.Moments.{started}
 use Rattle.rw_wal_format.specs.Laws.{sample_entry}
 use Rattle.rw_wal_format.specs.Pieces.{page_size}
-use Rattle.rw_wal_append.specs.Additions.{definition_entry, samples_in}
+use Rattle.rw_wal_append.specs.Additions.{definition_entry, samples_of_labels}
 use Rattle.rw_wal_append.specs.References.{undefined}
 use Rattle.rw_journal.specs.Logs.{entries_of}
 use Rattle.rw_kept_head.specs.inner.Inner.{GoesOn}
@@ -44,7 +44,7 @@ returns-in_err-write_in_pages-clause-any_moment g c =
     let entries = c.in_ok-bytes.ensures.entries
     ∙ ap (λ ds. entries_of page_size base ++ map definition_entry ds ++ map sample_entry c.deref-2.result.now) (c.deref.ensures.value ∙ c.in_ok-definitions.ensures)
     ∙ ap (λ ss. entries_of page_size base ++ map definition_entry (undefined c.collect.new.references) ++ map sample_entry ss) c.deref-2.ensures.value in
-    let says : SaysWhat base old = λ l. c.requires.says l ∙ ap (λ (es : List Entry). samples_in es l) (sym on.entries) in
+    let says : SaysWhat base old = λ l. c.requires.says l ∙ ap (λ (es : List Entry). samples_of_labels es l) (sym on.entries) in
     let defined = still_defined (entries_of page_size seen) (entries_of page_size base) c.args.references.now c.collect.new.references on.entries c.collect.ensures.undone c.requires.writable.defined in
     let said = says_more c.new_samples_are_read.ensures.samples old new base c.in_ok-bytes.bytes.items c.collect.new.references c.in_ok-samples.samples.items c.args.staged.now.added says c.collect.ensures.adds defined
     c.in_ok-samples.ensures.of c.in_ok-samples.ensures.points entries in
@@ -65,7 +65,7 @@ returns-clause-any_moment g c =
     let entries = c.in_ok-bytes.ensures.entries
     ∙ ap (λ ds. entries_of page_size base ++ map definition_entry ds ++ map sample_entry c.deref-2.result.now) (c.deref.ensures.value ∙ c.in_ok-definitions.ensures)
     ∙ ap (λ ss. entries_of page_size base ++ map definition_entry (undefined c.collect.new.references) ++ map sample_entry ss) c.deref-2.ensures.value in
-    let says : SaysWhat base old = λ l. c.requires.says l ∙ ap (λ (es : List Entry). samples_in es l) (sym on.entries) in
+    let says : SaysWhat base old = λ l. c.requires.says l ∙ ap (λ (es : List Entry). samples_of_labels es l) (sym on.entries) in
     let defined = still_defined (entries_of page_size seen) (entries_of page_size base) c.args.references.now c.collect.new.references on.entries c.collect.ensures.undone c.requires.writable.defined in
     let said = says_more c.new_samples_are_read.ensures.samples old new base c.in_ok-bytes.bytes.items c.collect.new.references c.in_ok-samples.samples.items c.args.staged.now.added says c.collect.ensures.adds defined
     c.in_ok-samples.ensures.of c.in_ok-samples.ensures.points entries in
