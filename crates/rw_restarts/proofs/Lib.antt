@@ -15,4 +15,3 @@ mod ShardLemmas
 mod StoppedLemmas
 mod TurnLemmas
 mod WorkerLemmas
-pub mod shared

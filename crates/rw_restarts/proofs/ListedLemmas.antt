@@ -43,14 +43,13 @@ use Rattle.rw_sender.proofs.shared.ListingLemmas.{resolved_left}
 use Rattle.rw_sender.proofs.shared.SpreadLemmas.{none_below, placed_spread}
 use Rattle.rw_simulation.specs.Received.{is_left}
 use Rattle.rw_simulation.specs.StoppedRuns.{IsNamedIn}
-use Rattle.rw_simulation.proofs.shared.Pasts.{get-first, get_map, map_get}
+use Rattle.rw_simulation.proofs.shared.Pasts.{get-first, get-within, get_map, map_get}
 use Rattle.rw_head.specs.Order.{Point, holds}
 use Rattle.rw_head.proofs.shared.OrderRule.{holds_append, holds_right}
 use Rattle.rw_restarts.specs.Runs.{SentMessage, acknowledged_in}
 use Rattle.rw_restarts.specs.Workers.{AreMessagesOfWorker, HasName, IsAcknowledged, IsSettledSample, WorkerSendsSamples}
 use Rattle.rw_restarts.specs.Shards.{AreMessagesOfEpochs, AreMessagesOfShards}
 use Rattle.rw_restarts.specs.Stopped.{IsUnlisted, first_of_epoch, steps_at, steps_reported}
-use Rattle.rw_restarts.proofs.shared.Elements.{get_within}
 use Rattle.rw_restarts.proofs.ShardLemmas.{acknowledged_in-append}
 use Rattle.rw_restarts.proofs.TurnLemmas.{resolved-first}
 use Rattle.rw_restarts.proofs.WorkerLemmas.{name_own, name_stays}
@@ -313,7 +312,7 @@ module _ {T : Type 0} (tells : T → Type 0) (seen : T → List Exchange) (is_fo
 
         among_resolved : slice_get resolved put.i ≡ Some put.y
         among_resolved =
-            get_within resolved unresolved put.i put.y (sym (ap (λ ys. slice_get ys put.i) put_is) ∙ put.here)
+            get-within resolved unresolved put.i put.y (sym (ap (λ ys. slice_get ys put.i) put_is) ∙ put.here)
             (let lt = resolved_at in let same : put.j.finished.resolved ≡ length resolved = w.is.report.counted in omega (arith, lt, same))
 
         -- so an answer acknowledged it, since else the worker's part of the report would list it

@@ -27,13 +27,13 @@ use Rattle.rw_sender.specs.Shipping.{Shipping, HasEndedAs}
 use Rattle.rw_sender.specs.declared.report.Report.{Report}
 use Rattle.rw_simulation.specs.Received.{is_left}
 use Rattle.rw_send.specs.Sending.{IsReportOf}
+use Rattle.rw_simulation.proofs.shared.Pasts.{get-within}
 use Rattle.rw_restarts.specs.Parts.{points_in}
 use Rattle.rw_restarts.specs.Runs.{SenderRun, SentMessage, acknowledged_in}
 use Rattle.rw_restarts.specs.Receivers.{Answers, IsReceiverOf, ReceiverEvent, ReceiverState}
 use Rattle.rw_restarts.specs.Logs.{AreRunsOverLog, HoldsLog, IsRunOverPart}
 use Rattle.rw_restarts.specs.Workers.{NeverRefused}
 use Rattle.rw_restarts.specs.Stopped.{AbandonsAsSender, AddsOverWire, AddsToReceiver, HasAdded, IsStoppedRun, IsUnlisted, run_from_start}
-use Rattle.rw_restarts.proofs.shared.Elements.{get_within}
 use Rattle.rw_sent_held.specs.Held.{machine_of}
 use Rattle.rw_sent_held.specs.Restarts.{AddsFed, HasAddedFed, IsFedUnlisted, IsRunOverFed, IsSettledBy}
 use Rattle.rw_sent_held.proofs.HeldLemmas.{all_from, placed_from}
@@ -114,7 +114,7 @@ module _ {T : Type 0} (tells : T → Type 0) (seen : T → List Exchange) (is_fo
   unlisted : (p : ℕ) (x : Point) (l : Labels) → IsFedUnlisted c ps r p x l → IsUnlisted s r p x l
   unlisted p x l u =
       let settled_is = settled p (Sample u.reference x.0 x.1) r.outcome u.fed refl u.settled in
-      let placed : slice_get s.log.placed p ≡ Some (Sample u.reference x.0 x.1) = get_within s.log.placed placed_begins.0 p (Sample u.reference x.0 x.1) (sym (ap (λ es. slice_get es p) placed_begins.1) ∙ u.fed) settled_is.below in
+      let placed : slice_get s.log.placed p ≡ Some (Sample u.reference x.0 x.1) = get-within s.log.placed placed_begins.0 p (Sample u.reference x.0 x.1) (sym (ap (λ es. slice_get es p) placed_begins.1) ∙ u.fed) settled_is.below in
       record {
         reference = u.reference;
         placed = placed;

@@ -2,7 +2,7 @@
 use Rattle.std.proofs.Common.{◌≡◌, ◌⊎◌, inl, inr, ℕ, zero, suc, ◌+◌, ◌-◌, ◌<◌, ◌≤◌, nat_lt, Bool, cond, List, [], ◌∷◌, ◌++◌, length, Some, slice_get, refl, sym, ap, ◌∙◌, subst, append_assoc, append-nil, arith}
 use Rattle.std.proofs.lemmas.Bool.{lt-ltb, le-ltb}
 use Rattle.std.proofs.lemmas.Option.{same_Some, none-some, slice_get_within}
-use Rattle.rw_simulation.proofs.shared.Pasts.{get-first}
+use Rattle.rw_simulation.proofs.shared.Pasts.{get-first, get-within}
 
 -- for which element the j-th one was made, by the lengths of the parts
 abbrev pub number_of : List ℕ → ℕ → ℕ
@@ -16,15 +16,10 @@ AreMade Made [] (n ∷ ns) ys = ⊥
 AreMade Made (x ∷ xs) [] ys = ⊥
 AreMade {X} {Y} Made (x ∷ xs) (n ∷ ns) ys = (mine : List Y) × (rest : List Y) × (length mine ≡ n) × (ys ≡ mine ++ rest) × Made x mine × AreMade Made xs ns rest
 
--- where the j-th element of two lists is
-in_first : {Y : Type 0} (xs ys : List Y) (j : ℕ) (y : Y) → slice_get (xs ++ ys) j ≡ Some y → j < length xs → slice_get xs j ≡ Some y
-in_first [] ys j y e lt = absurd (omega arith)
-in_first (x ∷ xs) ys zero y e lt = e
-in_first (x ∷ xs) ys (suc j) y e lt = in_first xs ys j y e (omega arith)
-
 moved : {Y : Type 0} (ys : List Y) (i j : ℕ) (y : Y) → i ≡ j → slice_get ys i ≡ Some y → slice_get ys j ≡ Some y
 moved ys i j y e at = subst (λ k. slice_get ys k ≡ Some y) e at
 
+-- where the j-th element of two lists is, if the first one has no place j
 in_second : {Y : Type 0} (xs ys : List Y) (j : ℕ) (y : Y) → slice_get (xs ++ ys) j ≡ Some y → length xs ≤ j → slice_get ys (j - length xs) ≡ Some y
 in_second [] ys j y e le = moved ys j (j - 0) y (omega arith) e
 in_second (x ∷ xs) ys zero y e le = absurd (omega arith)
@@ -95,7 +90,7 @@ module _ {X Y : Type 0} (Made : X → List Y → Type 0) where
         at = ap (λ (b : Bool). slice_get (x ∷ xs) (cond b 0 (suc (number_of ns (j - n))))) (lt-ltb j n lt);
         made = e.4;
         k = j;
-        among = in_first e.0 e.1 j y there (subst (λ m. j < m) (sym e.2) lt);
+        among = get-within e.0 e.1 j y there (subst (λ m. j < m) (sym e.2) lt);
       }
       by_order (inr le) go = let h = go le in record {
         x = h.x;

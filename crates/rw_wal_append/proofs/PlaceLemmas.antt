@@ -2,7 +2,7 @@
 use Rattle.std.proofs.Common.{◌≡◌, inl, inr, ℕ, zero, suc, ◌+◌, ◌-◌, ◌<◌, ◌≤◌, ℤ, List, [], ◌∷◌, ◌++◌, length, take, get_or, Bool, true, false, cond, not, ◌||◌, Option, Some, None, refl, sym, ap, ◌∙◌, subst, arith, append_assoc, length-take, ltb}
 use Rattle.std.proofs.lemmas.Bool.{le-ltb, ltb-true}
 use Rattle.std.proofs.lemmas.List.{take-append-le, take_more}
-use Rattle.std.proofs.Math.Seq.{take-suc}
+use Rattle.std.proofs.lemmas.Option.{slice_get_read}
 use Rattle.rw_types.proofs.shared.OrderLemmas.{equal_if_same}
 use Rattle.std.specs.List.{list_any, position, position_or_len, slice_get}
 use Rattle.indexmap.specs.IndexSet.{insert_key}
@@ -111,6 +111,10 @@ found_in false l sets i t e = absurd (cc)
 
 pub place_found : (l : Labels) (sets : List Labels) (i : ℕ) → Some i ≡ position (labels_eq l) sets → slice_get sets i ≡ Some l
 place_found l sets i e = found_in (ltb (position_or_len (labels_eq l) sets) (length sets)) l sets i refl e
+
+-- a label set that is equal to the one at a place
+pub equal_at : (l x : Labels) (sets : List Labels) (k : ℕ) → k < length sets → x ≡ get_or sets k x → labels_eq x l ≡ true → slice_get sets k ≡ Some l
+equal_at l x sets k lt is eq = slice_get_read sets (length sets) k x refl lt is ∙ ap Some (same_if_equal x l eq)
 
 -- and the reference there
 pub at_place_of : (n : ReferenceTable) (k r : ℕ) (l : Labels) → slice_get n.sets k ≡ Some l → r ≡ n.first + k → labels_at n r ≡ Some l

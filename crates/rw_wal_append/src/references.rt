@@ -1,6 +1,6 @@
 //! The references that stand for label sets in a log that is being written.
 
-ghost use Rattle.std.specs.Prelude.{◌≡◌, ℕ, ◌+◌, ◌≤◌, ◌<◌, ◌^◌, ◌++◌, [], length, Some, None, IfSome, IfOk, OnOk, OnErr, if◌then◌else◌};
+ghost use Rattle.std.specs.Prelude.{◌≡◌, ℕ, ◌+◌, ◌≤◌, ◌<◌, ◌^◌, ◌++◌, [], length, slice_get, Some, None, IfSome, IfOk, OnOk, OnErr, if◌then◌else◌};
 ghost use Rattle.rw_types.specs.Labels.{Labels};
 ghost use Rattle.rw_types.specs.LabelOrder.{labels_eq};
 ghost use Rattle.rw_wal_append.specs.References.{Grows, labels_at, only_defined, undefined, AreReferenced, points_of};
@@ -58,6 +58,10 @@ pub struct References {
     first: u64,
     sets: IndexSet<LabelSet>,
     defined: usize,
+
+    /// The place after the label set that was found last: a target's next scrape has the same
+    /// series in the same order, so the next label set is often there.
+    likely: usize,
 }
 
 impl Model for References {
@@ -82,6 +86,7 @@ impl References {
             first,
             sets: IndexSet::new(alloc),
             defined: 0,
+            likely: 0,
         }
     }
 
@@ -98,15 +103,27 @@ impl References {
         }
     }
 
-    /// Returns the reference of a label set, if it has one.
-    fn find(&self, labels: &LabelSet) -> Option<u64>
-        ensures some { IfSome result (λ r. labels_at self.now r ≡ Some labels.now) }
+    /// Returns the place of a label set, if it is there.
+    fn place(&self, labels: &LabelSet) -> Option<usize>
+        ensures some { IfSome result (λ k. slice_get self.now.sets k ≡ Some labels.now) }
         ensures none { result ≡ None → (k : ℕ) → labels_at self.now k ≡ Some labels.now → ⊥ }
     {
-        match self.sets.get_index_of(labels) {
-            Some(place) => Some(self.at(place)),
-            None => None,
+        let sets = self.sets.as_slice();
+        if self.likely < sets.len() && sets[self.likely] == *labels {
+            return Some(self.likely);
         }
+        self.sets.get_index_of(labels)
+    }
+
+    /// Returns the reference of a label set, if it has one.
+    fn find(&mut self, labels: &LabelSet) -> Option<u64>
+        ensures some { IfSome result (λ r. labels_at self.new r ≡ Some labels.now) }
+        ensures none { result ≡ None → (k : ℕ) → labels_at self.new k ≡ Some labels.now → ⊥ }
+        ensures same { self.new ≡ self.old }
+    {
+        let place = self.place(labels)?;
+        self.likely = place.saturating_add(1);
+        Some(self.at(place))
     }
 
     /// Gives a label set the next reference, if it has none.

@@ -30,6 +30,11 @@ get-first [] ys i x e = absurd (none-some x e)
 get-first (z ∷ zs) ys zero x e = e
 get-first (z ∷ zs) ys (suc i) x e = get-first zs ys i x e
 
+pub get-within : {X : Type 0} (xs ys : List X) (i : ℕ) (x : X) → slice_get (xs ++ ys) i ≡ Some x → i < length xs → slice_get xs i ≡ Some x
+get-within [] ys i x e lt = absurd (omega arith)
+get-within (z ∷ zs) ys zero x e lt = e
+get-within (z ∷ zs) ys (suc i) x e lt = get-within zs ys i x e (omega arith)
+
 pub get-second : {X : Type 0} (xs ys : List X) (i : ℕ) (y : X) → slice_get ys i ≡ Some y → (k : ℕ) × (slice_get (xs ++ ys) k ≡ Some y)
 get-second [] ys i y e = (i, e)
 get-second (x ∷ xs) ys i y e = let h = get-second xs ys i y e in (suc h.0, h.1)

@@ -1,15 +1,12 @@
 -- Samples that are added, entry by entry.
-use Rattle.std.proofs.Common.{◌≡◌, ℕ, ℤ, List, [], ◌∷◌, ◌++◌, length, map, Bool, true, false, cond, Option, Some, None, refl, sym, ap, ◌∙◌, append_assoc, append-nil, eq-eqb}
+use Rattle.std.proofs.Common.{◌≡◌, ℕ, ℤ, List, [], ◌∷◌, ◌++◌, length, map, Bool, true, false, cond, Some, refl, sym, ap, ◌∙◌, append_assoc, append-nil, eq-eqb}
 use Rattle.std.proofs.lemmas.List.{map-append}
-use Rattle.std.proofs.lemmas.List.Sums.{fold-append}
-use Rattle.std.proofs.Math.Seq.{take-length}
-use Rattle.std.specs.List.{fold}
 use Rattle.rw_types.specs.Labels.{Labels}
 use Rattle.rw_types.specs.LabelOrder.{labels_eq}
 use Rattle.rw_types.specs.declared.entry.Entry.{Entry}
 use Rattle.rw_types.specs.declared.entry.Entry.TheVariants.{Def, Sample}
-use Rattle.rw_wal_format.specs.Series.{defines, labels_of, has_labels, samples_after}
-use Rattle.rw_wal_format.proofs.shared.SeriesRows.{labels_of-all, labels_of-push}
+use Rattle.rw_wal_format.specs.Series.{labels_of, has_labels, samples_after}
+use Rattle.rw_wal_format.proofs.shared.SeriesRows.{labels_of-push}
 use Rattle.rw_wal_append.specs.Additions.{Point, without_position, samples_of_labels, Addition, entries_with, added_entries, samples_of_additions, AreNamed}
 
 abbrev Placed : Type 0
