@@ -26,7 +26,7 @@ use std::alloc::Global;
 use std::marker::Model;
 
 /// Returns the bytes that add definitions and samples to a log, and where it ends after them.
-/// Begins a next segment if the last one has no room for them.
+/// Begins a next segment if the last one has no room for them and is not empty.
 fn spell<J: Journal>(
     alloc: Global,
     journal: &mut J,
@@ -59,7 +59,7 @@ fn spell<J: Journal>(
     segments_add_up();
     match end.append(alloc, definitions, samples) {
         Ok(spelled) => return Ok(spelled),
-        Err(AppendError::SegmentFull) => {}
+        Err(AppendError::SegmentFull) if end.offset() > 0 => {}
         Err(_) => return Err(KeepError::Unspelled),
     }
     journal.begin()?;

@@ -22,7 +22,7 @@ struct Case {
     segments: usize,
 }
 
-static CASES: [Case; 6] = [
+static CASES: [Case; 7] = [
     Case {
         name: "samples in several pages",
         pages: 4096,
@@ -65,6 +65,21 @@ static CASES: [Case; 6] = [
         max_samples: u64::MAX,
         rows: &[
             (1, Admission::Answered(204)),
+            (5, Admission::Answered(503)),
+            (1, Admission::Answered(204)),
+        ],
+        segments: 3,
+    },
+    Case {
+        name: "a message that has no room in any segment begins one, however often it comes",
+        pages: 1,
+        series: 10,
+        width: 8000,
+        max_samples: u64::MAX,
+        rows: &[
+            (1, Admission::Answered(204)),
+            (5, Admission::Answered(503)),
+            (5, Admission::Answered(503)),
             (5, Admission::Answered(503)),
             (1, Admission::Answered(204)),
         ],
