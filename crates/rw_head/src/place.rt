@@ -15,8 +15,8 @@ use std::marker::Model;
 const MOST_HEAD_BYTES: usize = 1024;
 
 /// A label set at its place, with the bytes with which a series of it began, before its samples,
-/// once they were seen, unless they are the fields that the label set keeps. Contracts see the label
-/// set.
+/// once they were seen, unless they are the fields that the label set keeps. Contracts see the
+/// label set.
 #[derive(Debug, Drop)]
 pub(crate) struct Place {
     name: Name,
