@@ -17,6 +17,7 @@ ghost use Rattle.rw_settings.specs.declared.fault.SettingsFault.TheVariants.{Not
 use crate::fault::SettingsFault;
 use crate::keys::{REGEX, document_keys, receive_keys, rule_keys, send_keys};
 use crate::notes::{SettingsNote, note_keys, note_table, push_note};
+use crate::order_text::order_text;
 use crate::read::text_in;
 use crate::sending::order_fault;
 use crate::values::{list_at, list_or_none, section, value_at};
@@ -24,7 +25,7 @@ use regex::Regex;
 use std::alloc::{AllocError, Global};
 use toml::{Table, Value};
 
-/// Adds a note where shards or backoff are not between their bounds.
+/// Adds a note if shards or backoff are not between their bounds.
 #[tactic(auto, using(crate::proofs::NoteLemmas::lesser_of_none))]
 fn note_order(alloc: Global, notes: &mut Vec<SettingsNote>, send: &Table) -> Result<(), AllocError>
     ensures { OnOk result
@@ -35,10 +36,7 @@ fn note_order(alloc: Global, notes: &mut Vec<SettingsNote>, send: &Table) -> Res
         return Ok(());
     };
     let place = String::from_str(alloc, "send")?;
-    let text = String::from_str(
-        alloc,
-        "min_shards <= shards <= max_shards and min_backoff_ms <= max_backoff_ms must hold, also where a default is used",
-    )?;
+    let text = order_text(alloc, send)?;
     push_note(notes, fault, place, text)
 }
 
@@ -182,7 +180,7 @@ fn refusal(alloc: Global, pattern: &str) -> Result<Option<&'static str>, AllocEr
         Ok(_) => Ok(None),
         Err(regex::Error::OutOfMemory) => Err(AllocError),
         Err(regex::Error::Syntax(error)) => Ok(Some(error.kind.message())),
-        Err(_) => Ok(Some("it is too large when it is compiled")),
+        Err(_) => Ok(Some("it is too large to compile")),
     }
 }
 

@@ -1,5 +1,5 @@
 //! The table of settings: each key, what it takes and its default. The comments here are the help
-//! of docs/SETTINGS.md, whose tables `tools/settings-tables` writes.
+//! of docs/SETTINGS.md, whose tables `tools/settings_tables.py` writes.
 
 ghost use Rattle.std.specs.Prelude.{◌≡◌, map};
 ghost use Rattle.rw_settings.specs.Keys.{document_keys, send_keys, receive_keys, rule_keys};

@@ -6,6 +6,7 @@ mod fault;
 mod judging;
 mod keys;
 mod notes;
+mod order_text;
 mod print;
 mod printed_values;
 mod read;

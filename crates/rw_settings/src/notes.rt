@@ -42,18 +42,70 @@ pub(crate) fn push_note(
     Ok(())
 }
 
-/// Returns what is wrong with a value, which may be missing.
-fn wrong(alloc: Global, value: Option<&Value>, fault: SettingsFault) -> Result<String, AllocError> {
-    match (value, fault) {
-        (None, _) => String::from_str(alloc, "is missing"),
-        (Some(value), SettingsFault::WrongType) => {
+/// The most characters of a refused text that a note shows.
+const SHOWN: usize = 40;
+
+/// Returns the text in quotes, without what is after its first characters.
+fn shown(alloc: Global, text: &str) -> Result<String, AllocError> {
+    let mut front = String::new(alloc);
+    for (i, letter) in text.chars().enumerate() {
+        if i == SHOWN {
+            let front = front.as_str();
+            return format!(in alloc; "{front:?}..");
+        }
+        front.push(letter)?;
+    }
+    format!(in alloc; "{text:?}")
+}
+
+/// Returns which entry of a list is the first that is not a text, and its type.
+fn wrong_entry(alloc: Global, entries: &[Value]) -> Result<String, AllocError> {
+    for (i, entry) in entries.iter().enumerate() {
+        if !entry.is_str() {
+            let number = i + 1;
+            let found = entry.type_str();
+            return format!(in alloc; "entry {number} has type {found}");
+        }
+    }
+    String::from_str(alloc, "has a wrong entry")
+}
+
+/// Returns what is wrong with a value of another type than its key takes.
+fn wrong_type(alloc: Global, value: &Value, kind: &Kind) -> Result<String, AllocError> {
+    match (kind, value.as_array()) {
+        (Kind::Labels, Some(entries)) => wrong_entry(alloc, entries.as_slice()),
+        _ => {
             let found = value.type_str();
             format!(in alloc; "has type {found}")
         }
-        (Some(value), _) => match value.as_integer() {
-            Some(number) => format!(in alloc; "{number} is refused"),
-            None => String::from_str(alloc, "is refused"),
-        },
+    }
+}
+
+/// Returns that a value is refused, with the value. Of lists only an empty one is.
+fn refused(alloc: Global, value: &Value) -> Result<String, AllocError> {
+    if let Some(number) = value.as_integer() {
+        return format!(in alloc; "{number} is refused");
+    }
+    match value.as_str() {
+        Some(text) => {
+            let text = shown(alloc, text)?;
+            format!(in alloc; "{text} is refused")
+        }
+        None => String::from_str(alloc, "is empty"),
+    }
+}
+
+/// Returns what is wrong with a value at a key of this kind, which may be missing.
+fn wrong(
+    alloc: Global,
+    value: Option<&Value>,
+    kind: &Kind,
+    fault: SettingsFault,
+) -> Result<String, AllocError> {
+    match (value, fault) {
+        (None, _) => String::from_str(alloc, "is missing"),
+        (Some(value), SettingsFault::WrongType) => wrong_type(alloc, value, kind),
+        (Some(value), _) => refused(alloc, value),
     }
 }
 
@@ -68,7 +120,7 @@ fn push_takes(alloc: Global, text: &mut String, kind: &Kind) -> Result<(), Alloc
             return text.push_str(range.as_str());
         }
         Kind::Names => "'legacy' or 'utf8'",
-        Kind::Action => "keep or drop",
+        Kind::Action => "'keep' or 'drop'",
         Kind::Labels => "a list of strings, at least one",
         Kind::Text => "a string",
         Kind::Part => "a table",
@@ -92,23 +144,40 @@ fn note_value(
     };
     let name = key.0;
     let place = format!(in alloc; "{section}{name}")?;
-    let mut text = wrong(alloc, value_at(table, name), fault)?;
+    let mut text = wrong(alloc, value_at(table, name), &key.1, fault)?;
     push_takes(alloc, &mut text, &key.1)?;
     push_note(notes, fault, place, text)
 }
 
-/// The known key that is nearest to `key`, where one differs in at most two letters.
-fn nearest(alloc: Global, known: &[Key], key: &str) -> Result<Option<&'static str>, AllocError> {
+/// Returns the first known key that begins with `key`, or with which `key` begins.
+fn with_same_front(known: &[Key], key: &str) -> Option<&'static str> {
+    if key.len() < 3 {
+        return None;
+    }
+    for known in known {
+        if known.0.starts_with(key) || key.starts_with(known.0) {
+            return Some(known.0);
+        }
+    }
+    None
+}
+
+/// Returns the known key that is nearest to `key`, if one differs in at most two letters, or else
+/// one that is longer or shorter at its end.
+fn nearest(alloc: Global, all: &[Key], key: &str) -> Result<Option<&'static str>, AllocError> {
     let mut found = None;
     let mut least = 3;
-    for known in known {
+    for known in all {
         let distance = levenshtein(alloc, known.0, key)?;
         if distance < least {
             least = distance;
             found = Some(known.0);
         }
     }
-    Ok(found)
+    match found {
+        Some(name) => Ok(Some(name)),
+        None => Ok(with_same_front(all, key)),
+    }
 }
 
 /// Adds a note on a key that is not one of these.

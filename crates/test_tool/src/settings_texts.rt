@@ -1,7 +1,7 @@
 //! Settings as text, and the notes on their faults.
 
 use crate::rows::{holds, none_is_wrong};
-use Row::{Pattern, Printed, Told};
+use Row::{Noted, Pattern, Printed};
 use rw_settings::{SettingsNote, explain_settings, print_settings};
 use std::alloc::{AllocError, Global};
 
@@ -96,10 +96,10 @@ enum Row {
     /// A pattern as a file may have it, and the last line that is printed.
     Pattern(&'static str, &'static str),
     /// A text, and the notes on it.
-    Told(&'static str, &'static str),
+    Noted(&'static str, &'static str),
 }
 
-static ROWS: [Row; 25] = [
+static ROWS: [Row; 31] = [
     // settings in another spelling
     Printed("", DEFAULTS),
     Printed(DEFAULTS, DEFAULTS),
@@ -133,62 +133,93 @@ static ROWS: [Row; 25] = [
     Pattern("\"\\u0001\\t\"", "\nregex = \"\\u0001\\t\"\n"),
     Pattern("\"a\\nb\"", "\nregex = \"\"\"\na\nb\"\"\"\n"),
     Pattern("'\u{e9}\u{1f600}'", "\nregex = \"\u{e9}\u{1f600}\"\n"),
-    Told(
+    Noted(
         "[send]\nshard = 1",
         "send.shard: is not a known key; did you mean send.shards?\n",
     ),
-    Told(
+    Noted(
         "[send]\nshrads = 1",
         "send.shrads: is not a known key; did you mean send.shards?\n",
     ),
-    Told(
+    Noted(
         "[receive]\nshards = 1",
         "receive.shards: is not a known key\n",
     ),
-    Told("sned = 1", "sned: is not a known key; did you mean send?\n"),
-    Told(
+    Noted("sned = 1", "sned: is not a known key; did you mean send?\n"),
+    Noted(
         "[send]\nbatch = 0\nshards = '2'\nhost = 'a b'",
-        "send.host: is refused; it takes 1 to 255 bytes, each '!' to '~'
+        "send.host: \"a b\" is refused; it takes 1 to 255 bytes, each '!' to '~'
 send.shards: has type string; it takes a whole number from 1 to 1000
 send.batch: 0 is refused; it takes a whole number from 1 to 10000
 ",
     ),
-    Told(
+    Noted(
         "[send]\nnames = 'UTF8'\n[receive]\nnames = 8",
-        "send.names: is refused; it takes 'legacy' or 'utf8'
+        "send.names: \"UTF8\" is refused; it takes 'legacy' or 'utf8'
 receive.names: has type integer; it takes 'legacy' or 'utf8'
 ",
     ),
-    Told(
+    Noted(
         "[send]\nshards = 60",
-        "send: min_shards <= shards <= max_shards and min_backoff_ms <= max_backoff_ms must hold, also where a default is used\n",
+        "send: shards (60) must be at most max_shards (50, the default)\n",
     ),
-    Told(
+    Noted(
+        "[send]\nmin_shards = 8\nshards = 4",
+        "send: min_shards (8) must be at most shards (4)\n",
+    ),
+    Noted(
+        "[send]\nmin_shards = 8\nmin_backoff_ms = 300\nmax_backoff_ms = 299",
+        "send: min_shards (8) must be at most shards (1, the default); min_backoff_ms (300) must be at most max_backoff_ms (299)\n",
+    ),
+    Noted(
+        "[send]\ntimeout = 1\n[receive]\nmax_body = 1\nbusy_first_times = 1\nma = 1",
+        "send.timeout: is not a known key; did you mean send.timeout_ms?
+receive.busy_first_times: is not a known key; did you mean receive.busy_first?
+receive.ma: is not a known key
+receive.max_body: is not a known key; did you mean receive.max_body_bytes?
+",
+    ),
+    Noted(
+        "[send]\nnames = '123456789 123456789 123456789 123456789\u{e9}'",
+        "send.names: \"123456789 123456789 123456789 123456789\u{e9}\" is refused; it takes 'legacy' or 'utf8'\n",
+    ),
+    Noted(
+        "[send]\nnames = '123456789 123456789 123456789 123456789\u{e9}0'",
+        "send.names: \"123456789 123456789 123456789 123456789\u{e9}\".. is refused; it takes 'legacy' or 'utf8'\n",
+    ),
+    Noted(
+        "[[rule]]\naction = 'keep'\nsource_labels = ['a', 1]\n[[rule]]\naction = 'no'\nsource_labels = []",
+        "rule 1, source_labels: entry 2 has type integer; it takes a list of strings, at least one
+rule 2, action: \"no\" is refused; it takes 'keep' or 'drop'
+rule 2, source_labels: is empty; it takes a list of strings, at least one
+",
+    ),
+    Noted(
         "receive = 2\nrule = 3\n[[send]]",
         "send: has the wrong type; it takes a table, [send]
 receive: has the wrong type; it takes a table, [receive]
 rule: has the wrong type; it takes a list of tables, each [[rule]]
 ",
     ),
-    Told(
+    Noted(
         "rule = [1, { regex = 1, source_label = [] }]",
         "rule 1: is not a table
 rule 2, source_label: is not a known key; did you mean rule 2, source_labels?
-rule 2, action: is missing; it takes keep or drop
+rule 2, action: is missing; it takes 'keep' or 'drop'
 rule 2, source_labels: is missing; it takes a list of strings, at least one
 rule 2, regex: has type integer; it takes a string
 ",
     ),
-    Told(
+    Noted(
         "[[rule]]\naction = 'keep'\nsource_labels = ['a']\n[[rule]]\naction = 'drop'\nsource_labels = ['a']\nregex = 'a)(b'",
         "rule 2, regex: \"a)(b\" is not a valid regular expression: unopened group\n",
     ),
-    Told("[send", "line 1, column 6: unclosed table, expected `]`\n"),
-    Told(
+    Noted("[send", "line 1, column 6: unclosed table, expected `]`\n"),
+    Noted(
         "# \u{e9}\nsend = \u{e9}",
         "line 2, column 8: invalid value, expected a string, number, boolean, date-time, array or inline table\n",
     ),
-    Told(
+    Noted(
         "[send]\nbatch = 99999999999999999999",
         "line 2, column 9: number out of range\n",
     ),
@@ -241,7 +272,7 @@ fn put_notes(lines: &mut String, notes: &[SettingsNote]) -> Result<(), AllocErro
 }
 
 /// Returns whether these are the notes on a text.
-fn is_told(alloc: Global, text: &[u8], want: &str) -> bool {
+fn is_noted(alloc: Global, text: &[u8], want: &str) -> bool {
     let mut lines = String::new(alloc);
     match explain_settings(alloc, text) {
         Ok(notes) => put_notes(&mut lines, &notes).is_ok() && lines.as_str() == want,
@@ -253,7 +284,7 @@ fn is_so(alloc: Global, row: &Row) -> bool {
     match row {
         Printed(text, want) => is_printed(alloc, text.as_bytes(), want),
         Pattern(pattern, end) => is_pattern_printed(alloc, pattern, end),
-        Told(text, want) => is_told(alloc, text.as_bytes(), want),
+        Noted(text, want) => is_noted(alloc, text.as_bytes(), want),
     }
 }
 
@@ -265,7 +296,7 @@ fn rows() -> &'static [Row] {
 fn wrong_row(alloc: Global, rows: &[Row]) -> Option<&'static str> {
     for row in rows {
         if !is_so(alloc, row) {
-            let (Printed(text, _) | Pattern(text, _) | Told(text, _)) = row;
+            let (Printed(text, _) | Pattern(text, _) | Noted(text, _)) = row;
             return Some(text);
         }
     }
@@ -275,7 +306,7 @@ fn wrong_row(alloc: Global, rows: &[Row]) -> Option<&'static str> {
 #[test]
 fn tables_patterns_and_faults(rt: HostRuntime) {
     none_is_wrong(&rt, wrong_row(rt.alloc(), rows()));
-    holds(&rt, is_told(rt.alloc(), DEFAULTS.as_bytes(), ""));
+    holds(&rt, is_noted(rt.alloc(), DEFAULTS.as_bytes(), ""));
     let not_utf8 = "line 1, column 1: the text is not UTF-8\n";
-    holds(&rt, is_told(rt.alloc(), b"# \xff", not_utf8));
+    holds(&rt, is_noted(rt.alloc(), b"# \xff", not_utf8));
 }
