@@ -4,6 +4,9 @@ use rw_follow::{StopRequest, StopSignal, watch_file, watch_input};
 use rw_metrics::ReceiveCounters;
 use rw_send::StopFlag;
 use std::alloc::{AllocError, Global};
+use std::fs;
+use std::io::ErrorKind;
+use std::path::Path;
 use std::sync::Arc;
 use std::thread::{self, Threads};
 use std::time::Duration;
@@ -17,6 +20,28 @@ fn forward_abort(signal: &StopSignal, workers: &Option<StopFlag>) {
         if signal.request() == StopRequest::Abort {
             flag.set();
         }
+    }
+}
+
+/// Returns whether the folder of a stop file is missing.
+pub fn is_misplaced(rt: &HostRuntime, stop_file: &str) -> bool {
+    let folder = match Path::new(stop_file).parent() {
+        Some(folder) if !folder.as_str().is_empty() => folder,
+        Some(_) => Path::new("."),
+        None => Path::new("/"),
+    };
+    match fs::metadata(rt, folder) {
+        Ok(metadata) => !metadata.is_dir(),
+        Err(error) => matches!(error.kind(), ErrorKind::NotFound | ErrorKind::NotADirectory),
+    }
+}
+
+/// Says that a stop is requested from the start, if the stop file exists already.
+fn note_left_file(rt: &HostRuntime, stop_file: &str) {
+    if Path::new(stop_file).exists(rt) {
+        let _ = eprintln!(rt;
+            "rwship: the stop file {stop_file} exists already, so a stop is requested from the start; remove it before each start"
+        );
     }
 }
 
@@ -35,6 +60,7 @@ pub fn stop_signal<R: Threads>(
     let host = *rt;
     let watcher = match stop_file {
         Some(path) => {
+            note_left_file(rt, path);
             let path = String::from_str(alloc, path)?;
             thread::spawn(threads, move || {
                 watch_file(&host, &path, &theirs);
@@ -62,31 +88,56 @@ fn has_failed(alloc: Global, counters: &ReceiveCounters) -> bool {
     }
 }
 
-/// Looks five times a second whether a write to the log of a folder has failed, and then asks to
-/// finish.
-fn watch_writes(rt: &HostRuntime, counters: &ReceiveCounters, signal: &StopSignal) {
+/// Says that nothing more is taken after a failed write to the log of a folder.
+fn print_write_error(rt: &HostRuntime, dir: &str, ends: bool) {
+    let next = if ends {
+        "the receiver stops"
+    } else {
+        "stop the receiver, which then says why, and start it again"
+    };
+    let _ = eprintln!(rt;
+        "rwship: a write or sync of the log in {dir} has failed, and no request is taken any more; {next}"
+    );
+}
+
+/// Looks five times a second whether a write to the log of a folder has failed, then reports that,
+/// and asks to finish if that is wanted.
+fn watch_writes(
+    rt: &HostRuntime,
+    dir: &str,
+    counters: &ReceiveCounters,
+    signal: &StopSignal,
+    ends: bool,
+) {
     for _ in 0..u64::MAX {
         if has_failed(rt.alloc(), counters) {
-            signal.finish();
+            print_write_error(rt, dir, ends);
+            if ends {
+                signal.finish();
+            }
             return;
         }
         thread::sleep(rt, Duration::from_millis(LOOK_MS));
     }
 }
 
-/// Has the signal ask to finish once these counters count a failed write to the log of a folder.
-/// The thread that does so is never joined.
-pub fn finish_on_write_error<R: Threads>(
+/// Reports once that a write to the log of a folder has failed, as soon as these counters count
+/// that, and has the signal ask to finish if that is wanted. The thread that does so is never
+/// joined.
+pub fn report_write_error<R: Threads>(
     rt: &HostRuntime,
     threads: &R,
+    dir: &str,
     counters: &Arc<ReceiveCounters, Global>,
     signal: &Arc<StopSignal, Global>,
+    ends: bool,
 ) -> Result<(), AllocError> {
+    let dir = String::from_str(rt.alloc(), dir)?;
     let counters = Arc::try_clone(counters)?;
     let signal = Arc::try_clone(signal)?;
     let host = *rt;
     let watcher = thread::spawn(threads, move || {
-        watch_writes(&host, &counters, &signal);
+        watch_writes(&host, &dir, &counters, &signal, ends);
     })?;
     drop(watcher);
     Ok(())
