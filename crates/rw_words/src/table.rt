@@ -70,7 +70,7 @@ const EXPLAIN: Opt = Opt {
     name: "explain",
     takes: Takes::Nothing,
     bonds: &[],
-    help: "Explain faults of the settings and the input, and which file, host or address failed",
+    help: "Explain faults of the settings and the input, and\nwhich file, host or address failed",
 };
 
 const EXPLAIN_INPUT: Opt = Opt {
@@ -84,14 +84,14 @@ const SEGMENTS: Opt = Opt {
     name: "dir",
     takes: Takes::Path("DIR"),
     bonds: &[],
-    help: "Read the segments of this folder instead of one segment on standard input",
+    help: "Read the segments of this folder instead of one\nsegment on standard input",
 };
 
 const CHECKPOINT: Opt = Opt {
     name: "checkpoint",
     takes: Takes::Nothing,
     bonds: &[Bond::Needs("dir")],
-    help: "With --dir: read the newest checkpoint there first, and then the segments after it",
+    help: "With --dir: read the newest checkpoint there first,\nand then the segments after it",
 };
 
 const PROGRESS: Opt = Opt {
@@ -105,7 +105,7 @@ const METRICS: Opt = Opt {
     name: "metrics",
     takes: Takes::Text("HOST:PORT"),
     bonds: &[],
-    help: "Serve metrics on this address, at /metrics, in the text format of Prometheus",
+    help: "Serve metrics on this address, at /metrics, in the\ntext format of Prometheus",
 };
 
 static BODY: Words = Words {
@@ -158,7 +158,7 @@ static PLAN: Words = Words {
             name: "hex",
             takes: Takes::Nothing,
             bonds: &[Bond::Excludes("dir")],
-            help: "Read and write lower-case hexadecimal text instead of bytes",
+            help: "Read and write lower-case hexadecimal text instead of\nbytes",
         },
     ],
 };
@@ -190,7 +190,7 @@ static INSPECT: Words = Words {
             name: "at",
             takes: Takes::Numbers("POS"),
             bonds: &[Bond::Excludes("json"), Bond::Needs("dir")],
-            help: "With --dir: print only the entries at these positions, as 'send' reports them",
+            help: "With --dir: print only the entries at these positions, as\n'send' reports them",
         },
     ],
 };
@@ -219,7 +219,7 @@ static SETTINGS_COMMAND: Words = Words {
             name: "settings",
             takes: Takes::Place("FILE"),
             bonds: &[],
-            help: "Print the settings of this TOML file; without it, the defaults",
+            help: "Print the settings of this TOML file; without it, the\ndefaults",
         },
         EXPLAIN,
     ],
@@ -253,37 +253,37 @@ static SEND: Words = Words {
             name: "follow",
             takes: Takes::Nothing,
             bonds: &[],
-            help: "Keep reading what the server writes, until standard input ends",
+            help: "Keep reading what the server writes, until standard\ninput ends",
         },
         Opt {
             name: "stop-file",
             takes: Takes::Path("FILE"),
             bonds: &[Bond::Needs("follow")],
-            help: "With --follow: stop when this file exists, and do not read standard input",
+            help: "With --follow: stop when this file exists, and do\nnot read standard input",
         },
         Opt {
             name: "poll-ms",
             takes: Takes::NumberOr(10, 60_000, "200"),
             bonds: &[Bond::Needs("follow")],
-            help: "With --follow: look for new records every N milliseconds, 10 to 60000",
+            help: "With --follow: look for new records every N\nmilliseconds, 10 to 60000",
         },
         Opt {
             name: "flush-ms",
             takes: Takes::NumberOr(10, 3_600_000, "5000"),
             bonds: &[Bond::Needs("follow")],
-            help: "With --follow: send a batch that is not full after N milliseconds, 10 to 3600000",
+            help: "With --follow: send a batch that is not full after\nN milliseconds, 10 to 3600000",
         },
         Opt {
             name: "reshard-ms",
             takes: Takes::NumberOr(10, 3_600_000, "10000"),
             bonds: &[Bond::Needs("follow")],
-            help: "With --follow: recompute the number of shards every N milliseconds, 10 to 3600000",
+            help: "With --follow: recompute the number of shards every\nN milliseconds, 10 to 3600000",
         },
         Opt {
             name: "fail-on-drop",
             takes: Takes::Nothing,
             bonds: &[],
-            help: "End with status 1 if the report is complete but samples were dropped",
+            help: "End with status 1 if the report is complete but\nsamples were dropped",
         },
         Opt {
             name: "fail-on-empty",
@@ -295,13 +295,13 @@ static SEND: Words = Words {
             name: "fail-on-skip",
             takes: Takes::Nothing,
             bonds: &[],
-            help: "End with status 1 if records were skipped that may hold samples, such as histograms",
+            help: "End with status 1 if records were skipped that may\nhold samples, such as histograms",
         },
         Opt {
             name: "max-batch-bytes",
             takes: Takes::Number(1, 1_099_511_627_776),
             bonds: &[],
-            help: "Keep request bodies within N bytes, 1 to 1099511627776; a larger single sample is still sent",
+            help: "Keep request bodies within N bytes, 1 to\n1099511627776; a larger single sample is still sent",
         },
         PROGRESS,
         METRICS,
@@ -326,52 +326,52 @@ static RECEIVE: Words = Words {
             help: "Listen on this address",
         },
         Opt {
+            name: "until-eof",
+            takes: Takes::Nothing,
+            bonds: &[Bond::Excludes("connections")],
+            help: "Serve any number of connections, until standard\ninput ends",
+        },
+        Opt {
+            name: "stop-file",
+            takes: Takes::Path("FILE"),
+            bonds: &[Bond::Excludes("connections")],
+            help: "Stop when this file exists, and do not read\nstandard input",
+        },
+        Opt {
             name: "connections",
             takes: Takes::Number(1, 1000),
             bonds: &[Bond::RequiredWithout("until-eof")],
             help: "Serve this many connections, 1 to 1000",
         },
         Opt {
-            name: "until-eof",
-            takes: Takes::Nothing,
-            bonds: &[Bond::Excludes("connections")],
-            help: "Serve any number of connections, until standard input ends",
-        },
-        Opt {
-            name: "stop-file",
-            takes: Takes::Path("FILE"),
-            bonds: &[Bond::Excludes("connections")],
-            help: "Stop when this file exists, and do not read standard input",
-        },
-        Opt {
             name: "idle-ms",
             takes: Takes::NumberOr(10, 3_600_000, "60000"),
             bonds: &[],
-            help: "Close a connection that sends nothing for N milliseconds, 10 to 3600000",
+            help: "Close a connection that sends nothing for N\nmilliseconds, 10 to 3600000",
         },
         Opt {
             name: "request-ms",
             takes: Takes::NumberOr(10, 3_600_000, "60000"),
             bonds: &[],
-            help: "Close a connection whose request takes longer than N milliseconds plus 1 for each byte, 10 to 3600000",
+            help: "Close a connection whose request takes longer than\nN milliseconds plus 1 for each byte, 10 to\n3600000",
         },
         Opt {
             name: "max-samples",
             takes: Takes::Number(1, 1_099_511_627_776),
             bonds: &[],
-            help: "Hold at most N samples: answer 503 to a request that adds more, 1 to 1099511627776",
+            help: "Hold at most N samples: answer 503 to a request\nthat adds more, 1 to 1099511627776",
         },
         Opt {
             name: "max-series",
             takes: Takes::Number(1, 1_099_511_627_776),
             bonds: &[],
-            help: "Hold samples of at most N series: answer 503 to a request that adds more, 1 to 1099511627776",
+            help: "Hold samples of at most N series: answer 503 to a\nrequest that adds more, 1 to 1099511627776",
         },
         Opt {
             name: "dir",
             takes: Takes::Path("DIR"),
             bonds: &[],
-            help: "Keep what is taken as a log in this folder, and begin with what it holds",
+            help: "Keep what is taken as a log in this folder, and\nbegin with what it holds",
         },
         Opt {
             name: "quiet",
@@ -383,7 +383,7 @@ static RECEIVE: Words = Words {
             name: "end-on-write-error",
             takes: Takes::Nothing,
             bonds: &[Bond::Needs("dir"), Bond::Excludes("connections")],
-            help: "With --dir: stop once a write to DIR has failed, and end with status 4",
+            help: "With --dir: stop once a write to DIR has failed,\nand end with status 4",
         },
         PROGRESS,
         METRICS,
