@@ -18,6 +18,11 @@ pub enum FolderError {
     Twice(u64),
     /// The folder has a checkpoint: its log is not that of its segments alone.
     Checkpoint,
+    /// Another program holds the lock on the file `lock` in the folder above, as a running
+    /// Prometheus does.
+    ServerRuns,
+    /// It is not known whether a Prometheus runs there: that file cannot be opened or locked.
+    LockUnreadable(FaultCause),
     /// A segment cannot be opened, read or synced.
     Fault(FolderFault),
 }
@@ -52,6 +57,13 @@ impl fmt::Display for FolderError {
             FolderError::Missing(number) => write!(f, "segment {number} is missing"),
             FolderError::Twice(number) => write!(f, "two files are segment {number}"),
             FolderError::Checkpoint => f.write_str("the folder has a checkpoint"),
+            FolderError::ServerRuns => f.write_str(
+                "another program has locked the file 'lock' in the folder above it, as a running Prometheus does; stop that, or choose another folder",
+            ),
+            FolderError::LockUnreadable(cause) => write!(
+                f,
+                "cannot see whether a Prometheus writes there, by the file 'lock' in the folder above it: {cause}; permit reading it, or choose another folder"
+            ),
             FolderError::Fault(fault) => write!(f, "{fault}"),
         }
     }

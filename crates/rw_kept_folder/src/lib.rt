@@ -11,6 +11,7 @@ mod open_folder;
 mod opening;
 mod record;
 mod segment_files;
+mod server_lock;
 
 pub use fault::{FaultCause, FolderCall, FolderFault};
 pub use folder_error::FolderError;
@@ -19,3 +20,4 @@ pub use folder_monitor::FolderMonitor;
 pub use open_folder::OpenFolder;
 pub use opening::open_journal;
 pub use segment_files::SegmentFiles;
+pub use server_lock::refuse_running_server;

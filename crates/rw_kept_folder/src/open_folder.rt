@@ -22,6 +22,8 @@ use std::time::Clock;
 #[derive(Drop)]
 pub struct OpenFolder<R: Files> {
     handle: FolderHandle<R>,
+    /// The number of the first segment.
+    first: u64,
     /// The segments that were loaded and not yet taken.
     unread: VecDeque<Vec<u8>>,
     /// How many were taken.
@@ -56,9 +58,10 @@ fn fail(noted: &mut Record, fault: FolderFault) -> JournalError
 
 impl<R: Files + Clock + AllocGlobal + Copy> OpenFolder<R> {
     /// Returns the files of a folder whose segments have these texts, which the record says were
-    /// loaded.
+    /// loaded, and whose first segment has this number.
     pub(crate) fn new(
         handle: FolderHandle<R>,
+        first: u64,
         texts: VecDeque<Vec<u8>>,
         noted: Record,
     ) -> OpenFolder<R>
@@ -69,11 +72,17 @@ impl<R: Files + Clock + AllocGlobal + Copy> OpenFolder<R> {
     {
         OpenFolder {
             handle,
+            first,
             count: texts.len(),
             unread: texts,
             read: 0,
             record: noted,
         }
+    }
+
+    /// Returns the number in the name of a segment. Segments are counted from 0.
+    pub fn number_of(&self, segment: u64) -> u64 {
+        self.first.saturating_add(segment)
     }
 
     /// Returns the fault after which each call fails, if there was one.

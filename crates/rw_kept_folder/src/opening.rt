@@ -136,6 +136,14 @@ fn open_last<R: Files + AllocGlobal + Copy>(
     }
 }
 
+/// Returns the number of the first segment: 0 if there is none, since the first one gets that.
+fn first_number(names: &[SegmentName]) -> u64 {
+    match names.first() {
+        Some(first) => first.number,
+        None => 0,
+    }
+}
+
 /// Opens the journal in a folder, which has to exist: reads its segments into memory, and syncs
 /// them. Segments are the files whose names are one to eight digits; other files are skipped.
 ///
@@ -154,6 +162,7 @@ pub fn open_journal<R: Files + Clock + AllocGlobal + Copy>(
     let mut noted = Record::new();
     load_all(rt, dir, &names, &mut texts, &mut noted)?;
     let last = open_last(rt, dir, &names)?;
+    let first = first_number(&names);
     let handle = FolderHandle::new(*rt, String::from_str(alloc, dir)?, last, monitor);
-    Ok(FolderJournal::new(OpenFolder::new(handle, texts, noted)))
+    Ok(FolderJournal::new(OpenFolder::new(handle, first, texts, noted)))
 }
