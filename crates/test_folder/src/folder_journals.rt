@@ -1,7 +1,7 @@
 //! Journals in the files of a folder: which folders are refused, and why, and what is counted.
 
 use rw_journal::Journal;
-use rw_kept_folder::{FaultCause, FolderError, FolderMonitor, open_journal};
+use rw_kept_folder::{FaultCause, FolderError, FolderMonitor, open_journal, refuse_running_server};
 use rw_metrics::{KeptNumbers, ReceiveCounters};
 use std::path::{Path, PathBuf};
 use std::sync::Arc;
@@ -89,6 +89,41 @@ fn a_folder_that_cannot_be_listed_says_why(rt: HostRuntime) -> Result<(), Fail> 
         of_none,
         Some(FolderError::Unreadable(FaultCause::NotFound))
     );
+    Ok(())
+}
+
+/// Makes a folder with a folder `wal` in it, and returns what is found of a server that writes to
+/// the latter: without a file `lock`, while that is locked, and after that.
+fn found_servers(rt: &HostRuntime) -> Result<[Option<FolderError>; 3], Fail> {
+    let alloc = rt.alloc();
+    let dir = make_folder(rt, "rwship-a-server", &[])?;
+    let wal = dir.as_path().join(alloc, "wal")?;
+    fs::create_dir(rt, wal.as_path())?;
+    let without = refuse_running_server(rt, wal.as_path().as_str()).err();
+    let lock = fs::create(rt, dir.as_path().join(alloc, "lock")?)?;
+    lock.lock()?;
+    let locked = refuse_running_server(rt, wal.as_path().as_str()).err();
+    lock.unlock()?;
+    let released = refuse_running_server(rt, wal.as_path().as_str()).err();
+    fs::remove_dir_all(rt, dir.as_path())?;
+    Ok([without, locked, released])
+}
+
+#[test]
+fn the_log_of_a_running_server_is_refused(rt: HostRuntime) -> Result<(), Fail> {
+    let found = found_servers(&rt)?;
+    assert_eq!(rt; found, [None, Some(FolderError::ServerRuns), None]);
+    Ok(())
+}
+
+#[test]
+fn a_segment_has_the_number_of_its_name(rt: HostRuntime) -> Result<(), Fail> {
+    let files = [("00000007", "a"), ("00000008", "b")];
+    let dir = make_folder(&rt, "rwship-a-late-journal", &files)?;
+    let journal = open_journal(&rt, dir.as_path().as_str(), FolderMonitor::none())?;
+    let number = journal.files().number_of(1);
+    fs::remove_dir_all(&rt, dir.as_path())?;
+    assert_eq!(rt; number, 8);
     Ok(())
 }
 
