@@ -1,6 +1,6 @@
 //! The commands that read standard input, or a folder, and write what they make of it.
 
-use crate::ending::{report_result, report_settings_fault};
+use crate::ending::{print_device_error, report_result, report_settings_fault};
 use crate::explaining::report_input_result;
 use crate::input::{Form, Input, Reader};
 use crate::inspecting::{log_fault, note_checkpoint, print_plan};
@@ -11,6 +11,7 @@ use rw_settings::Settings;
 use rw_text::ToolFault;
 use rw_types::{Bounded, Std};
 use rw_words::{LogDir, SettingsFile};
+use std::fs;
 use std::process::ExitCode;
 
 /// Writes the body of a segment.
@@ -43,6 +44,15 @@ fn log_from(
     }
 }
 
+/// Prints why a folder to which a log was to be written cannot be listed, if that is so.
+fn print_unlisted(rt: &HostRuntime, dir: Option<&str>) {
+    if let Some(dir) = dir {
+        if let Err(error) = fs::read_dir(rt, dir) {
+            print_device_error(rt, "write to", dir, &error);
+        }
+    }
+}
+
 /// Writes the log that standard input describes. If `--explain` was given, prints what is wrong
 /// with a bad line.
 pub fn log(
@@ -55,7 +65,12 @@ pub fn log(
     match Input::open(rt, Form::LogText, is_explained) {
         Ok(input) => {
             let outcome = log_from(rt, &mut input.reader(rt), hex, pages, dir);
-            report_input_result(rt, &input, outcome)
+            let is_device = matches!(outcome, Err(ToolFault::Device));
+            let status = report_input_result(rt, &input, outcome);
+            if is_device && is_explained {
+                print_unlisted(rt, dir);
+            }
+            status
         }
         Err(fault) => report_result(rt, Err(fault)),
     }

@@ -254,6 +254,14 @@ fn print_log_fault(rt: &HostRuntime, dir: LogDir<'_>, fault: ToolFault) {
     }
 }
 
+/// Says in which folder a segment is missing, and what to do.
+fn print_gap(rt: &HostRuntime, dir: LogDir<'_>) {
+    let path = dir.path;
+    let _ = eprintln!(rt;
+        "  {path} has later segments; next: copy the missing one there, or start again if the server has removed it meanwhile"
+    );
+}
+
 /// Prints the fault of the log in a folder and, if that is asked for, what is wrong with the
 /// folder. Returns the exit status.
 pub fn log_fault(
@@ -266,6 +274,7 @@ pub fn log_fault(
     match fault {
         FollowFault::Tool(fault) if is_explained => print_log_fault(rt, dir, fault),
         FollowFault::Tool(ToolFault::Log(_) | ToolFault::Device) => point_to_explain(rt),
+        FollowFault::Missing(_) => print_gap(rt, dir),
         _ => {}
     }
     status

@@ -14,6 +14,14 @@ pub fn print_listen_error(rt: &HostRuntime, listen: Address<'_>, error: &Error) 
     let _ = eprintln!(rt; "  cannot listen on {host}:{port}: {error}");
 }
 
+/// Reports that the page of the counters cannot be served at an address, and why.
+fn print_metrics_error(rt: &HostRuntime, metrics: Address<'_>, error: &Error) {
+    let Address { host, port } = metrics;
+    let _ = eprintln!(rt;
+        "rwship: cannot listen on {host}:{port} for --metrics: {error}; choose another address"
+    );
+}
+
 /// Returns what shows the lines of progress.
 fn screen_of(rt: &HostRuntime) -> Screen {
     if rt.stderr().is_terminal() {
@@ -40,7 +48,10 @@ fn serve_at<R: Threads>(
             serve_metrics(threads, *rt, rt.alloc(), listener, counters.share()?)?;
             Ok(())
         }
-        Err(_) => Err(ToolFault::Device),
+        Err(error) => {
+            print_metrics_error(rt, address, &error);
+            Err(ToolFault::Device)
+        }
     }
 }
 
