@@ -165,6 +165,17 @@ pub fn report_bad_arguments(rt: &HostRuntime, text: &str) -> ExitCode
     ExitCode::from(BAD_ARGUMENTS)
 }
 
+/// Reports that the folder of the stop file is missing, in the form of the command-line parser, and
+/// returns the exit status.
+pub fn report_misplaced(rt: &HostRuntime, stop_file: &str) -> ExitCode
+    ensures { process.exit_status result ≡ 2 }
+{
+    let _ = eprintln!(rt;
+        "error: invalid value '{stop_file}' for '--stop-file <FILE>': expected a file in a folder that exists\n"
+    );
+    report_bad_arguments(rt, "For more information, try '--help'.")
+}
+
 /// Reports which HOST:PORT is not valid, in the form of the command-line parser.
 pub fn report_bad_address(rt: &HostRuntime, words: &ArgMatches<'_>) -> ExitCode {
     if let Some((option, value)) = bad_address(words) {

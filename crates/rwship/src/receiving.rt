@@ -1,13 +1,13 @@
 //! The command `receive`.
 
 use crate::bounds::service_of;
-use crate::ending::{point_to_explain, report_result, report_settings_fault};
+use crate::ending::{point_to_explain, report_misplaced, report_result, report_settings_fault};
 use crate::keeping::{
     FolderHead, lock_folder, open_head, report_keep_error, report_kept, report_opened, serve_kept,
 };
 use crate::reporting::{begin_reporting, end_reporting, print_listen_error};
 use crate::settings::settings_in;
-use crate::stopping::stop_signal;
+use crate::stopping::{is_misplaced, stop_signal};
 use rw_metrics::{Counters, ReceiveCounters};
 use rw_receive::{run_receive, run_receive_until};
 use rw_settings::Settings;
@@ -221,6 +221,11 @@ pub fn receive<R: Threads + Wait + Clock + Sync>(
     file: SettingsFile<'_>,
     receiving: &Receiving<'_>,
 ) -> ExitCode {
+    if let Until::FileIs(path) = receiving.until {
+        if is_misplaced(rt, path) {
+            return report_misplaced(rt, path);
+        }
+    }
     match settings_in(rt, file) {
         Ok(settings) => receive_by(rt, threads, &settings, receiving, file.is_explained),
         Err(fault) => report_settings_fault(rt, fault),

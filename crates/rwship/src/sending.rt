@@ -1,15 +1,15 @@
 //! The command `send`.
 
 use crate::ending::{
-    empty_status, point_to_explain, print_device_error, report_dropped, report_result,
-    report_settings_fault, report_skipped,
+    empty_status, point_to_explain, print_device_error, report_dropped, report_misplaced,
+    report_result, report_settings_fault, report_skipped,
 };
 use crate::inspecting::{
     fault_of_folder, files_of, log_fault, note_checkpoint, passes_checkpoint_over,
 };
 use crate::reporting::{begin_reporting, end_reporting, is_watched};
 use crate::settings::settings_in;
-use crate::stopping::stop_signal;
+use crate::stopping::{is_misplaced, stop_signal};
 use rw_follow::Timed;
 use rw_log_folder::{Folder, FolderFault, Opened, SegmentFile, check_folder, watch_newest_segment};
 use rw_metrics::{Counters, SendCounters, show_stalls};
@@ -363,6 +363,17 @@ fn finish(
     }
 }
 
+/// Returns the stop file that is given, if its folder is missing.
+fn misplaced_stop_file<'a>(rt: &HostRuntime, sending: &Sending<'a>) -> Option<&'a str> {
+    match &sending.reading {
+        Reading::Follow(following) => match following.stop_file {
+            Some(path) if is_misplaced(rt, path) => Some(path),
+            _ => None,
+        },
+        Reading::Whole => None,
+    }
+}
+
 /// Ships a folder by the settings in a file.
 pub fn send<R: Threads + Wait + Clock + Copy + Send + 'static>(
     rt: &HostRuntime,
@@ -370,6 +381,9 @@ pub fn send<R: Threads + Wait + Clock + Copy + Send + 'static>(
     file: SettingsFile<'_>,
     sending: &Sending<'_>,
 ) -> ExitCode {
+    if let Some(path) = misplaced_stop_file(rt, sending) {
+        return report_misplaced(rt, path);
+    }
     let settings = match settings_in(rt, file) {
         Ok(settings) => settings,
         Err(fault) => return report_settings_fault(rt, fault),

@@ -4,6 +4,9 @@ use rw_follow::{StopRequest, StopSignal, watch_file, watch_input};
 use rw_metrics::ReceiveCounters;
 use rw_send::StopFlag;
 use std::alloc::{AllocError, Global};
+use std::fs;
+use std::io::ErrorKind;
+use std::path::Path;
 use std::sync::Arc;
 use std::thread::{self, Threads};
 use std::time::Duration;
@@ -17,6 +20,28 @@ fn forward_abort(signal: &StopSignal, workers: &Option<StopFlag>) {
         if signal.request() == StopRequest::Abort {
             flag.set();
         }
+    }
+}
+
+/// Returns whether the folder of a stop file is missing.
+pub fn is_misplaced(rt: &HostRuntime, stop_file: &str) -> bool {
+    let folder = match Path::new(stop_file).parent() {
+        Some(folder) if !folder.as_str().is_empty() => folder,
+        Some(_) => Path::new("."),
+        None => Path::new("/"),
+    };
+    match fs::metadata(rt, folder) {
+        Ok(metadata) => !metadata.is_dir(),
+        Err(error) => matches!(error.kind(), ErrorKind::NotFound | ErrorKind::NotADirectory),
+    }
+}
+
+/// Says that a stop is requested from the start, if the stop file exists already.
+fn note_left_file(rt: &HostRuntime, stop_file: &str) {
+    if Path::new(stop_file).exists(rt) {
+        let _ = eprintln!(rt;
+            "rwship: the stop file {stop_file} exists already, so a stop is requested from the start; remove it before each start"
+        );
     }
 }
 
@@ -35,6 +60,7 @@ pub fn stop_signal<R: Threads>(
     let host = *rt;
     let watcher = match stop_file {
         Some(path) => {
+            note_left_file(rt, path);
             let path = String::from_str(alloc, path)?;
             thread::spawn(threads, move || {
                 watch_file(&host, &path, &theirs);
