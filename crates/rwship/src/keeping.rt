@@ -3,16 +3,17 @@
 use crate::bounds::service_of;
 use crate::ending::report_result;
 use crate::reporting::is_watched;
-use crate::stopping::{finish_on_write_error, stop_signal};
+use crate::stopping::{report_write_error, stop_signal};
 use rw_follow::StopSignal;
 use rw_head::Limits;
 use rw_kept_folder::{
     FolderError, FolderFault, FolderJournal, FolderMonitor, OpenFolder, open_journal,
+    refuse_running_server,
 };
 use rw_kept_head::{KeptHead, OpenError, Opened};
 use rw_metrics::ReceiveCounters;
 use rw_receive::{FinalHead, serve_connections, serve_until_stop};
-use rw_reopen::ReopenError;
+use rw_reopen::{Damage, ReopenError};
 use rw_text::ToolFault;
 use rw_types::Std;
 use rw_words::{Receiving, Until};
@@ -42,6 +43,8 @@ pub enum KeepError {
     /// The folder cannot be locked.
     Unlocked(Error),
     Folder(FolderError),
+    /// The log is damaged, in the segment of this number.
+    Damaged(Damage, u64),
     Log(OpenError, Option<FolderFault>),
 }
 
@@ -58,6 +61,16 @@ pub fn lock_folder(rt: &HostRuntime, dir: &str) -> Result<File, KeepError> {
     }
 }
 
+/// Returns why the log in these files cannot be opened.
+fn open_error(error: OpenError, files: &OpenFolder<HostRuntime>) -> KeepError {
+    match error {
+        OpenError::Log(ReopenError::Damaged(damage)) => {
+            KeepError::Damaged(damage, files.number_of(damage.place.segment))
+        }
+        _ => KeepError::Log(error, files.fault()),
+    }
+}
+
 /// Opens the log in a folder. The counters count what is written to it.
 pub fn open_head(
     rt: &HostRuntime,
@@ -68,13 +81,16 @@ pub fn open_head(
     let Ok(counters) = Arc::try_clone(counters) else {
         return Err(KeepError::Folder(FolderError::OutOfMemory));
     };
+    if let Err(error) = refuse_running_server(rt, dir) {
+        return Err(KeepError::Folder(error));
+    }
     let journal = match open_journal(rt, dir, FolderMonitor::new(counters)) {
         Ok(journal) => journal,
         Err(error) => return Err(KeepError::Folder(error)),
     };
     match KeptHead::open(rt.alloc(), limits, journal, PAGES) {
         Ok(opened) => Ok(opened),
-        Err((error, journal)) => Err(KeepError::Log(error, journal.files().fault())),
+        Err((error, journal)) => Err(open_error(error, journal.files())),
     }
 }
 
@@ -83,11 +99,20 @@ fn fault_of(error: &KeepError) -> ToolFault {
     match error {
         KeepError::Folder(FolderError::OutOfMemory)
         | KeepError::Log(OpenError::Log(ReopenError::OutOfMemory), _) => ToolFault::OutOfMemory,
-        KeepError::Log(OpenError::Log(ReopenError::Damaged(damage)), _) => {
-            ToolFault::from(damage.fault)
-        }
+        KeepError::Damaged(damage, _) => ToolFault::from(damage.fault),
         _ => ToolFault::Device,
     }
+}
+
+/// Says where the log in a folder is damaged, and what to do.
+fn print_damage(rt: &HostRuntime, dir: &str, damage: &Damage, number: u64) {
+    let (fault, at) = (damage.fault, damage.place.offset);
+    let _ = eprintln!(rt;
+        "  cannot keep samples in {dir}: {fault} in segment {number} at byte {at}"
+    );
+    let _ = eprintln!(rt;
+        "  next: move segment {number} and all after it out of {dir}, and start the receiver and its sender again: it ships once more what its log has"
+    );
 }
 
 /// Reports why the log in a folder cannot be opened, and returns the exit status.
@@ -101,6 +126,10 @@ pub fn report_keep_error(rt: &HostRuntime, dir: &str, error: KeepError) -> ExitC
             "  cannot keep samples in {dir}: entry {at} of the log there is refused; rwship inspect --dir {dir} --at {at} prints it"
         ),
         KeepError::Log(_, Some(fault)) => eprintln!(rt; "  cannot keep samples in {dir}: {fault}"),
+        KeepError::Damaged(damage, number) => {
+            print_damage(rt, dir, &damage, number);
+            Ok(())
+        }
         KeepError::Log(error, None) => eprintln!(rt; "  cannot keep samples in {dir}: {error}"),
     };
     status
@@ -110,8 +139,10 @@ pub fn report_keep_error(rt: &HostRuntime, dir: &str, error: KeepError) -> ExitC
 pub fn report_opened(rt: &HostRuntime, dir: &str, opened: &Opened<Log>, receiving: &Receiving<'_>) {
     let torn = opened.end.torn.len();
     if torn > 0 {
+        let last = opened.segments.saturating_sub(1) as u64;
+        let number = opened.kept.journal().files().number_of(last);
         let _ = eprintln!(rt;
-            "rwship: the last write to {dir} was torn: {torn} bytes are cut off, and copied to torn-NNNNNNNN there"
+            "rwship: the last write to {dir} was torn: {torn} bytes are cut off, and copied to {dir}/torn-{number:08}"
         );
     }
     if is_watched(rt, &receiving.reporting) {
@@ -137,8 +168,8 @@ fn serve_some<R: Threads + Wait + Clock + Sync>(
     serve_connections(threads, rt.alloc(), limits, service, listener, head)
 }
 
-/// Returns the stop signal of a receiver that keeps a log, which a failed write sets too if that is
-/// asked for.
+/// Returns the stop signal of a receiver that keeps a log. Whether that has failed is reported at
+/// once, and sets the signal too if that is asked for.
 fn stop_signal_of<R: Threads>(
     rt: &HostRuntime,
     threads: &R,
@@ -150,9 +181,14 @@ fn stop_signal_of<R: Threads>(
         _ => None,
     };
     let signal = stop_signal(rt, threads, stop_file, None)?;
-    if receiving.ends_on_write_error {
-        finish_on_write_error(rt, threads, counters, &signal)?;
-    }
+    report_write_error(
+        rt,
+        threads,
+        receiving.dir.unwrap_or(""),
+        counters,
+        &signal,
+        receiving.ends_on_write_error,
+    )?;
     Ok(signal)
 }
 

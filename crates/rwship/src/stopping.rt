@@ -88,31 +88,56 @@ fn has_failed(alloc: Global, counters: &ReceiveCounters) -> bool {
     }
 }
 
-/// Looks five times a second whether a write to the log of a folder has failed, and then asks to
-/// finish.
-fn watch_writes(rt: &HostRuntime, counters: &ReceiveCounters, signal: &StopSignal) {
+/// Says that nothing more is taken after a failed write to the log of a folder.
+fn print_write_error(rt: &HostRuntime, dir: &str, ends: bool) {
+    let next = if ends {
+        "the receiver stops"
+    } else {
+        "stop the receiver, which then says why, and start it again"
+    };
+    let _ = eprintln!(rt;
+        "rwship: a write or sync of the log in {dir} has failed, and no request is taken any more; {next}"
+    );
+}
+
+/// Looks five times a second whether a write to the log of a folder has failed, then reports that,
+/// and asks to finish if that is wanted.
+fn watch_writes(
+    rt: &HostRuntime,
+    dir: &str,
+    counters: &ReceiveCounters,
+    signal: &StopSignal,
+    ends: bool,
+) {
     for _ in 0..u64::MAX {
         if has_failed(rt.alloc(), counters) {
-            signal.finish();
+            print_write_error(rt, dir, ends);
+            if ends {
+                signal.finish();
+            }
             return;
         }
         thread::sleep(rt, Duration::from_millis(LOOK_MS));
     }
 }
 
-/// Has the signal ask to finish once these counters count a failed write to the log of a folder.
-/// The thread that does so is never joined.
-pub fn finish_on_write_error<R: Threads>(
+/// Reports once that a write to the log of a folder has failed, as soon as these counters count
+/// that, and has the signal ask to finish if that is wanted. The thread that does so is never
+/// joined.
+pub fn report_write_error<R: Threads>(
     rt: &HostRuntime,
     threads: &R,
+    dir: &str,
     counters: &Arc<ReceiveCounters, Global>,
     signal: &Arc<StopSignal, Global>,
+    ends: bool,
 ) -> Result<(), AllocError> {
+    let dir = String::from_str(rt.alloc(), dir)?;
     let counters = Arc::try_clone(counters)?;
     let signal = Arc::try_clone(signal)?;
     let host = *rt;
     let watcher = thread::spawn(threads, move || {
-        watch_writes(&host, &counters, &signal);
+        watch_writes(&host, &dir, &counters, &signal, ends);
     })?;
     drop(watcher);
     Ok(())
