@@ -135,7 +135,7 @@ any_damage text segments None = []
 any_damage text segments (Some d) = text segments d
 
 abbrev pub head_text : List ℕ
-head_text = codes "   segment          bytes   pages     entries      series     samples passed over       earliest         latest\n"
+head_text = codes "   segment          bytes   pages     entries      series     samples     skipped       earliest         latest\n"
 
 -- a report as a table
 unfoldable pub report_text : Report → List ℕ

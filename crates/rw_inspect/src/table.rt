@@ -13,7 +13,7 @@ use rw_wal_tail::FaultPlace;
 use std::alloc::{AllocError, Global};
 
 const HEAD: &[u8] =
-    b"   segment          bytes   pages     entries      series     samples passed over       earliest         latest\n";
+    b"   segment          bytes   pages     entries      series     samples     skipped       earliest         latest\n";
 
 /// Adds bytes and pages.
 #[tactic(auto, unfolding(crate::specs::Texts::size_columns))]

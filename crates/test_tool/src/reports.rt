@@ -81,7 +81,7 @@ static SECOND: [Logged; 6] = [
 ];
 
 const TABLE: &str =
-    "   segment          bytes   pages     entries      series     samples passed over       earliest         latest
+    "   segment          bytes   pages     entries      series     samples     skipped       earliest         latest
          0             97       1           3           1           2           0           1000           1000
         \"1            186       1           6           2           4           0           -500           2000
        all            283       2           9           3           6           0           -500           2000
