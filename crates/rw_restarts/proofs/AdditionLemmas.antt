@@ -101,7 +101,7 @@ adds-to-receiver tells seen is_for stay s r h run limits runs i own events state
 
 -- ---- over the wire
 -- the exchange of a message
-exchange_of_message : (target : Target) (es : List Exchange) (ms : List SentMessage) → AreExchangesOfMessages target es ms → (n : ℕ) (m : SentMessage) → slice_get ms n ≡ Some m
+pub exchange_of_message : (target : Target) (es : List Exchange) (ms : List SentMessage) → AreExchangesOfMessages target es ms → (n : ℕ) (m : SentMessage) → slice_get ms n ≡ Some m
     → (e : Exchange) × (slice_get es n ≡ Some e) × IsExchangeOfMessage target e m
 exchange_of_message target [] [] of n m at = absurd (none-some m at)
 exchange_of_message target [] (y ∷ ys) of n m at = absurd of
@@ -113,7 +113,7 @@ replied : (answer : Result Reply Lost) (m : SentMessage) → m.judgement ≡ jud
 replied (Ok r) m is done = (r, refl, same_Some (judgement_of r.status) Done (sym is ∙ done))
 replied (Err lost) m is done = absurd (none-some Done (sym is ∙ done))
 
-set_up_at : (config : ConfigFields) (ls : List ShardHistory) (n : ℕ) (lane : ShardHistory) → AreSetUp config ls → slice_get ls n ≡ Some lane → lane.setup.target ≡ config.target
+pub set_up_at : (config : ConfigFields) (ls : List ShardHistory) (n : ℕ) (lane : ShardHistory) → AreSetUp config ls → slice_get ls n ≡ Some lane → lane.setup.target ≡ config.target
 set_up_at config [] n lane up at = absurd (none-some lane at)
 set_up_at config (x ∷ xs) zero lane up at = ap (λ (y : ShardHistory). y.setup.target) (sym (same_Some x lane at)) ∙ up.0.0
 set_up_at config (x ∷ xs) (suc n) lane up at = set_up_at config xs n lane up.1 at
@@ -187,10 +187,12 @@ module _ (c : Setup) (exchanges : ℕ → ℕ → List Exchange) (arrivals : Lis
       held_there p (points_in l m.message) (list_of (heads (length arrivals)).store l)
       (held_further (points_in l m.message) (list_of (answered was.at).store l) (list_of (heads (length arrivals)).store l) (later.begins l) (took l).held) has
 
-message_of_exchange : (target : Target) (es : List Exchange) (ms : List SentMessage) → AreExchangesOfMessages target es ms → (n : ℕ) (e : Exchange) → slice_get es n ≡ Some e → (m : SentMessage) × IsExchangeOfMessage target e m
+-- the message of an exchange
+pub message_of_exchange : (target : Target) (es : List Exchange) (ms : List SentMessage) → AreExchangesOfMessages target es ms → (n : ℕ) (e : Exchange) → slice_get es n ≡ Some e
+    → (m : SentMessage) × (slice_get ms n ≡ Some m) × IsExchangeOfMessage target e m
 message_of_exchange target [] ms of n e at = absurd (none-some e at)
 message_of_exchange target (x ∷ xs) [] of n e at = absurd of
-message_of_exchange target (x ∷ xs) (m ∷ ms) of zero e at = (m, subst (λ (y : Exchange). IsExchangeOfMessage target y m) (same_Some x e at) of.0)
+message_of_exchange target (x ∷ xs) (m ∷ ms) of zero e at = (m, refl, subst (λ (y : Exchange). IsExchangeOfMessage target y m) (same_Some x e at) of.0)
 message_of_exchange target (x ∷ xs) (m ∷ ms) of (suc n) e at = message_of_exchange target xs ms of.1 n e at
 
 module _ {T : Type 0} (tells : T → Type 0) (seen : T → List Exchange) (is_for : ℕ → ℕ → T → Type 0) where
@@ -215,7 +217,7 @@ module _ {T : Type 0} (tells : T → Type 0) (seen : T → List Exchange) (is_fo
         let are : exchanges e k ≡ exchanges_of w.is.report.steps =
         ap (λ n. exchanges n k) (sym owner.3) ∙ ap (exchanges owner.1.worker.value.queue.epoch) (sym owner.4) ∙ exchanges_at exchanges h.joined h.worked of.each owner.0 owner.1 owner.2 ∙ ap exchanges_of w.steps_are in
         let found = message_of_exchange owner.1.worker.value.target (exchanges_of w.is.report.steps) sent.sent sent.messages.exchanges i x (sym (ap (λ es. slice_get es i) are) ∙ at) in
-        (found.0, subst (λ t. IsExchangeOfMessage t x found.0) (for_target owner.0 owner.1 owner.2) found.1)
+        (found.0, subst (λ t. IsExchangeOfMessage t x found.0) (for_target owner.0 owner.1 owner.2) found.2)
 
     module _ (arrivals : List Arrival) (heads answered : ℕ → State) (receiver : IsOpenReceiver c exchanges arrivals heads answered)
         (answers : (how : How) (e : Exchange) (x : SentMessage) (old : State) (status : ℕ) (new : State) (acknowledged : Store) → IsExchangeOfMessage c.target e x → Receives c how e.request old status new → status ≢ 413

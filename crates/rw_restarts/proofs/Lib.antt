@@ -6,6 +6,7 @@ mod KeptReceiverLemmas
 mod ListedLemmas
 mod LogLemmas
 mod PartLemmas
+mod PlaceLemmas
 mod ReceivedLemmas
 mod RefusalLemmas
 mod RelayLemmas
@@ -14,4 +15,5 @@ mod SenderLemmas
 mod ShardLemmas
 mod StoppedLemmas
 mod TurnLemmas
+mod WireLemmas
 mod WorkerLemmas

@@ -55,7 +55,7 @@ use Rattle.rw_restarts.proofs.TurnLemmas.{resolved-first}
 use Rattle.rw_restarts.proofs.WorkerLemmas.{name_own, name_stays}
 
 -- ---- the shards of all epochs in a row
-get_right : {X : Type 0} (xs ys : List X) (n : ℕ) (y : X) → slice_get ys n ≡ Some y → slice_get (xs ++ ys) (length xs + n) ≡ Some y
+pub get_right : {X : Type 0} (xs ys : List X) (n : ℕ) (y : X) → slice_get ys n ≡ Some y → slice_get (xs ++ ys) (length xs + n) ≡ Some y
 get_right [] ys n y e = let same : n ≡ 0 + n = omega arith in subst (λ i. slice_get ys i ≡ Some y) same e
 get_right (x ∷ xs) ys n y e =
     let same : suc (length xs + n) ≡ length (x ∷ xs) + n = omega arith in
@@ -70,7 +70,7 @@ joined_at (x ∷ xs) (suc e) k lanes lane at here =
     subst (λ n. slice_get (x ++ joined_epochs xs) n ≡ Some lane) (omega arith) (get_right x (joined_epochs xs) (first_of_epoch xs e + k) lane (joined_at xs e k lanes lane at here))
 
 -- an element of a list is of its first part, or of its second one
-get_parts : {X : Type 0} (xs ys : List X) (n : ℕ) (z : X) → slice_get (xs ++ ys) n ≡ Some z → (slice_get xs n ≡ Some z) ⊎ ((m : ℕ) × (slice_get ys m ≡ Some z) × (length xs + m ≡ n))
+pub get_parts : {X : Type 0} (xs ys : List X) (n : ℕ) (z : X) → slice_get (xs ++ ys) n ≡ Some z → (slice_get xs n ≡ Some z) ⊎ ((m : ℕ) × (slice_get ys m ≡ Some z) × (length xs + m ≡ n))
 get_parts [] ys n z e = inr (n, e, omega arith)
 get_parts (x ∷ xs) ys zero z e = inl e
 get_parts (x ∷ xs) ys (suc n) z e = elim (get_parts xs ys n z e) [ inl here ↦ inl here | inr there ↦ inr (there.0, there.1, (let sum = there.2 in omega arith)) ]

@@ -1,5 +1,5 @@
 -- The workers of all epochs together send what the log owes.
-use Rattle.std.proofs.Common.{◌≡◌, ℕ, ℤ, zero, suc, ◌+◌, ◌<◌, ◌≤◌, ◌==◌, Bool, true, false, cond, List, [], ◌∷◌, ◌++◌, length, map, filter, take, slice_get, append-nil, append_assoc, Option, Some, None, refl, sym, ap, ◌∙◌, subst, arith}
+use Rattle.std.proofs.Common.{◌≡◌, ◌⊎◌, inl, inr, ℕ, ℤ, zero, suc, ◌+◌, ◌<◌, ◌≤◌, ◌==◌, Bool, true, false, cond, List, [], ◌∷◌, ◌++◌, length, map, filter, take, slice_get, append-nil, append_assoc, Option, Some, None, refl, sym, ap, ◌∙◌, subst, arith}
 use Rattle.std.specs.List.{AllByRecursion}
 use Rattle.std.proofs.lemmas.Bool.Decides.{nat_tests}
 use Rattle.std.proofs.lemmas.Bool.{eqb-true, cond-true, cond-false}
@@ -34,7 +34,7 @@ use Rattle.rw_restarts.specs.Parts.{points_in}
 use Rattle.rw_restarts.specs.Runs.{SentMessage, acknowledged_by, acknowledged_in, NoneRefused}
 use Rattle.rw_restarts.specs.Workers.{samples_in_batch, SendsSamples, HasResolvedAll, NeverRefused, WorkerSendsSamples}
 use Rattle.rw_restarts.specs.Senders.{samples_sent}
-use Rattle.rw_restarts.specs.Shards.{HasMadeSteps, HaveMadeSteps, AreDone, AreMessagesOfShards, AreMessagesOfEpochs, HaveRun, AreAllDone, IsRunOfEpochs}
+use Rattle.rw_restarts.specs.Shards.{HasNone, HasMadeSteps, HaveMadeSteps, AreDone, AreMessagesOfShards, AreMessagesOfEpochs, HaveRun, AreAllDone, IsRunOfEpochs}
 use Rattle.rw_restarts.proofs.RelayLemmas.{no_samples}
 use Rattle.rw_restarts.proofs.LogLemmas.{Begins-after}
 use Rattle.rw_restarts.proofs.SenderLemmas.{samples_sent-append, same_samples}
@@ -43,10 +43,6 @@ use Rattle.rw_restarts.proofs.SenderLemmas.{samples_sent-append, same_samples}
 -- each message has what comes next of the list, unless one was refused
 abbrev SendsList : Labels → List Point → List SentMessage → Type 0
 SendsList l whole sent = (n : ℕ) (x : SentMessage) → slice_get sent n ≡ Some x → NoneRefused l n sent → Begins (acknowledged_in l (take n sent) ++ points_in l x.message) whole
-
--- no message has samples of the label set
-abbrev AreSilent : Labels → List SentMessage → Type 0
-AreSilent l sent = AllByRecursion (λ (x : SentMessage). points_in l x.message ≡ []) sent
 
 none_at : (n : ℕ) (x : SentMessage) → (let none : List SentMessage = [] in slice_get none n ≡ Some x) → ⊥
 none_at n x e = cc (e)
@@ -78,22 +74,22 @@ none_before : (l : Labels) (xs : List SentMessage) → NoneRefused l 0 xs
 none_before l xs k y lt = absurd (omega (arith, lt))
 
 -- ---- silent messages
-silent_acknowledged : (l : Labels) (n : ℕ) (xs : List SentMessage) → AreSilent l xs → acknowledged_in l (take n xs) ≡ []
+silent_acknowledged : (l : Labels) (n : ℕ) (xs : List SentMessage) → HasNone l xs → acknowledged_in l (take n xs) ≡ []
 silent_acknowledged l zero xs all = refl
 silent_acknowledged l (suc n) [] all = refl
 silent_acknowledged l (suc n) (x ∷ xs) all = ap (λ ys. ys ++ acknowledged_in l (take n xs)) (no_acknowledged l x x.judgement all.0) ∙ silent_acknowledged l n xs all.1
 
-silent_whole : (l : Labels) (xs : List SentMessage) → AreSilent l xs → acknowledged_in l xs ≡ []
+silent_whole : (l : Labels) (xs : List SentMessage) → HasNone l xs → acknowledged_in l xs ≡ []
 silent_whole l [] all = refl
 silent_whole l (x ∷ xs) all = ap (λ ys. ys ++ acknowledged_in l xs) (no_acknowledged l x x.judgement all.0) ∙ silent_whole l xs all.1
 
-silent_at : (l : Labels) (n : ℕ) (x : SentMessage) (xs : List SentMessage) → AreSilent l xs → slice_get xs n ≡ Some x → points_in l x.message ≡ []
+pub silent_at : (l : Labels) (n : ℕ) (x : SentMessage) (xs : List SentMessage) → HasNone l xs → slice_get xs n ≡ Some x → points_in l x.message ≡ []
 silent_at l n x [] all e = absurd (none_at n x e)
 silent_at l zero x (y ∷ ys) all e = ap (λ (z : SentMessage). points_in l z.message) (sym (same_Some y x e)) ∙ all.0
 silent_at l (suc n) x (y ∷ ys) all e = silent_at l n x ys all.1 e
 
 -- messages that send nothing of a label set are silent
-silent_if_none : (l : Labels) (xs : List SentMessage) → SendsList l [] xs → AreSilent l xs
+silent_if_none : (l : Labels) (xs : List SentMessage) → SendsList l [] xs → HasNone l xs
 silent_if_none l [] s = tt
 silent_if_none l (x ∷ xs) s =
     let own : points_in l x.message ≡ [] = no_samples (points_in l x.message) (s 0 x refl (none_before l (x ∷ xs))) in (
@@ -104,7 +100,7 @@ silent_if_none l (x ∷ xs) s =
     )
 
 -- ---- messages one after the other
-before_silent : (l : Labels) (whole : List Point) (xs ys : List SentMessage) → AreSilent l xs → SendsList l whole ys → SendsList l whole (xs ++ ys)
+before_silent : (l : Labels) (whole : List Point) (xs ys : List SentMessage) → HasNone l xs → SendsList l whole ys → SendsList l whole (xs ++ ys)
 before_silent l whole [] ys all s n y is fine = s n y is fine
 before_silent l whole (x ∷ xs) ys all s zero y is fine = subst (λ (z : SentMessage). Begins (points_in l z.message) whole) (same_Some x y is) (subst (λ ps. Begins ps whole) (sym all.0) (whole, refl))
 before_silent l whole (x ∷ xs) ys all s (suc n) y is fine =
@@ -120,7 +116,7 @@ next_after l p whole x xs own s n y is fine =
     subst (λ ps. Begins (ps ++ points_in l y.message) whole) (sym (append_assoc p (acknowledged_by l x.message x.judgement) (acknowledged_in l (take n xs))))
     (s (suc n) y is (first_unrefused l x n xs own fine))
 
-then_silent : (l : Labels) (whole p : List Point) (xs ys : List SentMessage) → Begins p whole → AreSilent l ys → SendsAfter l p whole xs → SendsAfter l p whole (xs ++ ys)
+then_silent : (l : Labels) (whole p : List Point) (xs ys : List SentMessage) → Begins p whole → HasNone l ys → SendsAfter l p whole xs → SendsAfter l p whole (xs ++ ys)
 then_silent l whole p [] ys b all s n y is fine =
     subst (λ ps. Begins (ps ++ points_in l y.message) whole) (sym (ap (λ ps. p ++ ps) (silent_acknowledged l n ys all) ∙ append-nil p))
     (subst (λ ps. Begins (p ++ ps) whole) (sym (silent_at l n y ys all is)) (subst (λ ps. Begins ps whole) (sym (append-nil p)) b))
@@ -133,7 +129,7 @@ then_silent l whole p (x ∷ xs) ys b all s (suc n) y is fine =
     let rest = then_silent l whole q xs ys (acknowledged_few l x x.judgement p whole here) all (next_after l p whole x xs own s) n y is (later_unrefused l x n (xs ++ ys) fine) in
     subst (λ ps. Begins (ps ++ points_in l y.message) whole) (append_assoc p (acknowledged_by l x.message x.judgement) (acknowledged_in l (take n (xs ++ ys)))) rest
 
-after_silent : (l : Labels) (whole : List Point) (xs ys : List SentMessage) → AreSilent l ys → SendsList l whole xs → SendsList l whole (xs ++ ys)
+after_silent : (l : Labels) (whole : List Point) (xs ys : List SentMessage) → HasNone l ys → SendsList l whole xs → SendsList l whole (xs ++ ys)
 after_silent l whole xs ys all s = then_silent l whole [] xs ys (whole, refl) all s
 
 pub acknowledged_in-append : (l : Labels) (xs ys : List SentMessage) → acknowledged_in l (xs ++ ys) ≡ acknowledged_in l xs ++ acknowledged_in l ys
@@ -293,7 +289,7 @@ module _ (choice : Choice) (log : List Entry) (all_sent : List Sent) (numbered :
         let own_run = worker x.setup (steps k) w.made.allowed in
         record {
           messages = own_run.sent ++ rest.messages;
-          exchanges = (own_run.sent, rest.messages, refl, own_run.messages, rest.exchanges);
+          exchanges = (own_run.sent, rest.messages, refl, own_run.messages, rest.exchanges, λ l. apart l (own choice log n l == k) refl);
           sends = λ l. by_shard l (own choice log n l == k) refl;
           done = λ is l fine.
               acknowledged_in-append l own_run.sent rest.messages
@@ -306,6 +302,14 @@ module _ (choice : Choice) (log : List Entry) (all_sent : List Sent) (numbered :
 
         first : Labels → List Point
         first l = samples_sent l (of_shard n k all_sent)
+
+        apart : (l : Labels) (b : Bool) → (own choice log n l == k) ≡ b → HasNone l own_sent ⊎ HasNone l rest.messages
+        apart l true e =
+            let same : own choice log n l ≡ k = eqb-true (own choice log n l) k e in
+            inr (silent_if_none l rest.messages (subst (λ ps. SendsList l ps rest.messages) (no_share (suc k) xs l (omega (arith, same))) (rest.sends l)))
+        apart l false e =
+            let none : first l ≡ [] = share_is k l ∙ cond-false (own choice log n l == k) (samples_sent l all_sent) [] e in
+            inl (silent_if_none l own_sent (subst (λ ps. SendsList l ps own_sent) none (one_sends k x w l)))
 
         by_shard : (l : Labels) (b : Bool) → (own choice log n l == k) ≡ b → SendsList l (first l ++ share (suc k) xs l) (own_sent ++ rest.messages)
         by_shard l true e =

@@ -9,4 +9,5 @@ pub mod Runs
 pub mod Senders
 pub mod Shards
 pub mod Stopped
+pub mod WireReceivers
 pub mod Workers

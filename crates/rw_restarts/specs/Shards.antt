@@ -1,5 +1,6 @@
 -- The shards of a sender in all its epochs, as one run.
-use Rattle.std.specs.Prelude.{◌≡◌, ℕ, suc, List, [], ◌∷◌, ◌++◌, Some, slice_get, ⊤}
+use Rattle.std.specs.Prelude.{◌≡◌, ◌⊎◌, ℕ, suc, List, [], ◌∷◌, ◌++◌, Some, slice_get, ⊤}
+use Rattle.std.specs.List.{AllByRecursion}
 use Rattle.rw_types.specs.Beginnings.{Begins}
 use Rattle.rw_types.specs.Labels.{Labels}
 use Rattle.rw_types.specs.declared.entry.Entry.{Entry}
@@ -8,6 +9,7 @@ use Rattle.rw_worker.specs.Setups.{start_of}
 use Rattle.rw_worker.specs.Steps.{Step, AreSteps, items_of}
 use Rattle.rw_fleet.specs.ShardHistories.{ShardHistory}
 use Rattle.rw_checkpoint.specs.Owed.{owed_of}
+use Rattle.rw_restarts.specs.Parts.{points_in}
 use Rattle.rw_restarts.specs.Runs.{SentMessage, acknowledged_in}
 use Rattle.rw_restarts.specs.Logs.{SendsOwed}
 use Rattle.rw_restarts.specs.Workers.{AreMessagesOfWorker, HasResolvedAll, NeverRefused}
@@ -27,6 +29,14 @@ abbrev pub AreDone : List ShardHistory → (ℕ → List Step) → Type 0
 AreDone shards steps = (k : ℕ) (shard : ShardHistory) → slice_get shards k ≡ Some shard
     → (items_of (steps k) ≡ shard.put) × HasResolvedAll shard.setup (steps k)
 
+-- none of these messages has samples of the label set
+abbrev pub HasNone : Labels → List SentMessage → Type 0
+HasNone l sent = AllByRecursion (λ (x : SentMessage). points_in l x.message ≡ []) sent
+
+-- these messages have no label set in common with those
+abbrev pub AreApart : List SentMessage → List SentMessage → Type 0
+AreApart one other = (l : Labels) → HasNone l one ⊎ HasNone l other
+
 -- The workers of the shards from number k on sent these messages, shard after shard. Shards share
 -- no label set, so it does not matter how their exchanges overlapped.
 abbrev pub AreMessagesOfShards : ℕ → List ShardHistory → (ℕ → List Step) → List SentMessage → Type 0
@@ -34,7 +44,7 @@ AreMessagesOfShards k [] steps sent = sent ≡ []
 AreMessagesOfShards k (shard ∷ shards) steps sent =
     (first : List SentMessage) × (rest : List SentMessage) × (sent ≡ first ++ rest)
     × AreMessagesOfWorker shard.setup (steps k) first
-    × AreMessagesOfShards (suc k) shards steps rest
+    × AreMessagesOfShards (suc k) shards steps rest × AreApart first rest
 
 -- and so did those of these epochs, epoch after epoch
 abbrev pub AreMessagesOfEpochs : ℕ → List (List ShardHistory) → (ℕ → ℕ → List Step)
