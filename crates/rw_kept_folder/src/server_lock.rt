@@ -1,8 +1,8 @@
 //! Finds out whether a server writes to a folder.
 
-use crate::fault::{FaultCause, cause_of};
+use crate::fault::cause_of;
 use crate::folder_error::FolderError;
-use std::fs::{File, OpenFile, TryLockError};
+use std::fs::{File, TryLockError};
 use std::io::ErrorKind;
 use std::path::Path;
 use std::rt::Files;

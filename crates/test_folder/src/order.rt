@@ -85,7 +85,7 @@ static FIRST_MISSING: Row = Row {
 };
 
 static LATER_MISSING: Row = Row {
-    name: "two segments are missing, of which the least is told",
+    name: "two segments are missing, of which the least is reported",
     segments: &[(4, 8), (6, 8), (9, 8)],
     checkpoints: &[(3, &[(0, 8)])],
     missing: Some(5),

@@ -328,7 +328,7 @@ report complete 5
 "#,
     ),
     (
-        "two references of a series, of which the second is behind",
+        "two references of a series, of which the second is late",
         "",
         r#"log series 1 {__name__="up"}
 log series 2 {__name__="up"}

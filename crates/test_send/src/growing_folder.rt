@@ -199,7 +199,7 @@ static GOES: [Change; 6] = [
 
 #[test]
 fn a_missing_file_is_told(rt: HostRuntime) -> Result<(), Fail> {
-    let dir = new_folder(&rt, "rwship-a-missing-file-is-told")?;
+    let dir = new_folder(&rt, "rwship-a-missing-file-is-reported")?;
     let text = followed(&rt, &rt, dir, &GOES)?;
     assert_eq!(rt; text.as_str(), "a 2");
     Ok(())

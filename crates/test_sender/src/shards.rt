@@ -1,4 +1,4 @@
-//! A shard behind its queue: what it takes, sends and resolves. The calls that take memory are made
+//! A shard after its queue: what it takes, sends and resolves. The calls that take memory are made
 //! again if they fail, so each test can be run with each allocation failing in turn: the failed
 //! call changes nothing.
 

@@ -313,7 +313,7 @@ static ROWS: [Row<'static>; 9] = [
         },
     },
     Row {
-        name: "nothing is sent behind a hard End",
+        name: "nothing is sent after a hard End",
         feeding: Feeding::One(Kind::Hard),
         batch: 2000,
         statuses: &[],
