@@ -83,8 +83,8 @@ take_inside (suc n) j (b ∷ bs) rest h lt le =
     length_on : (n j k : ℕ) → k ≡ 120 → suc n * 120 + j ≡ k + (n * 120 + j)
     length_on n j k e = omega arith
 
-pub take_behind : (j : ℕ) (bs : List (List Point)) (rest : List Point) → AreFull bs → take (length bs * 120 + j) (joined_blocks bs ++ rest) ≡ joined_blocks bs ++ take j rest
-take_behind j bs rest h =
+pub take-joined : (j : ℕ) (bs : List (List Point)) (rest : List Point) → AreFull bs → take (length bs * 120 + j) (joined_blocks bs ++ rest) ≡ joined_blocks bs ++ take j rest
+take-joined j bs rest h =
     ap (λ n. take (n + j) (joined_blocks bs ++ rest)) (sym (length-joined bs h)) ∙ take-append-add (joined_blocks bs) rest j
 
 -- ---- the blocks of a list
@@ -111,14 +111,14 @@ open_of-joined bs rest h few =
     ap (λ n. drop (n * 120) (joined_blocks bs ++ rest)) (count_blocks bs rest h few) ∙ ap (λ n. drop n (joined_blocks bs ++ rest)) (sym (length-joined bs h)) ∙ drop-append_seam (joined_blocks bs) rest
 
 -- ---- the last sample
-later_behind : (t : ℤ) (xs : List Point) (y : Point) (ys : List Point) → is_later t (xs ++ y ∷ ys) ≡ is_later t (y ∷ ys)
-later_behind t [] y ys = refl
-later_behind t (x ∷ []) y ys = refl
-later_behind t (x ∷ z ∷ xs) y ys = later_behind t (z ∷ xs) y ys
+later-append : (t : ℤ) (xs : List Point) (y : Point) (ys : List Point) → is_later t (xs ++ y ∷ ys) ≡ is_later t (y ∷ ys)
+later-append t [] y ys = refl
+later-append t (x ∷ []) y ys = refl
+later-append t (x ∷ z ∷ xs) y ys = later-append t (z ∷ xs) y ys
 
 pub later_open : (t : ℤ) (xs ys : List Point) → length ys ≢ 0 → is_later t (xs ++ ys) ≡ is_later t ys
 later_open t xs [] h = absurd (h refl)
-later_open t xs (y ∷ ys) h = later_behind t xs y ys
+later_open t xs (y ∷ ys) h = later-append t xs y ys
 
 pub later_block : {X : Type 0} (f : X → List Point) (t : ℤ) (xs : List X) (x : X) → AreFull (map f xs) → Some x ≡ slice_get xs (length xs - 1) → is_later t (joined_blocks (map f xs)) ≡ is_later t (f x)
 later_block f t [] x h e = absurd cc
@@ -398,7 +398,7 @@ pub cut_open : {X : Type 0} (f : X → List Point) (xs : List X) (rest new all :
 cut_open f xs rest new all len n j h few above at le g whole =
     let count : length all ≡ length xs * 120 + length rest = length-blocks f xs rest all h whole in
     let same : n ≡ length (map f xs) = omega (arith, length-map-of f xs, count, few, above, at, le) in
-    ap (λ ys. joined_blocks (map f xs) ++ ys) g ∙ sym (take_behind j (map f xs) rest h)
+    ap (λ ys. joined_blocks (map f xs) ++ ys) g ∙ sym (take-joined j (map f xs) rest h)
     ∙ ap (λ k. take k (joined_blocks (map f xs) ++ rest)) (sym (at ∙ ap (λ m. m * 120 + j) same)) ∙ ap (take len) whole
 
 pub Begun-same : (t u : ℤ) (bs cs : List (List Point)) (n m : ℕ) → u ≡ t → cs ≡ bs → n ≡ m → Begun u cs n → Begun t bs m

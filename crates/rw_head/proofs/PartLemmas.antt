@@ -105,9 +105,9 @@ pub part_refused : (limits : LabelLimits) (first store : Store) (bytes rest afte
     → taken limits store (record { labels = names; samples = part }) ≡ Err v → HasParts limits first store bytes rest names → (status_of v ≡ 400) × Refuses limits first (read_series bytes)
 part_refused limits first store bytes rest after names part v stays goes e h =
     let more = goes (record { labels = h.labels; samples = h.samples }) h.whole h.reads in
-    let behind = stays after (record { labels = more.0; samples = h.samples ++ part }) h.whole more.1 in
-    let bad = taken-bad limits h.whole.labels (h.samples ++ part) behind.0 first v (part_taken limits first store bytes rest names part h ∙ e) in
-    refuses limits first (read_series bytes) h.whole v h.is (ap (λ (ss : List Sample). taken limits first (record { labels = h.whole.labels; samples = ss })) behind.1 ∙ bad)
+    let later = stays after (record { labels = more.0; samples = h.samples ++ part }) h.whole more.1 in
+    let bad = taken-bad limits h.whole.labels (h.samples ++ part) later.0 first v (part_taken limits first store bytes rest names part h ∙ e) in
+    refuses limits first (read_series bytes) h.whole v h.is (ap (λ (ss : List Sample). taken limits first (record { labels = h.whole.labels; samples = ss })) later.1 ∙ bad)
 
 -- a series that is read has no fault further on
 pub no_fault : (limits : LabelLimits) (first store : Store) (bytes rest : List ℕ) (names : Labels) (e : WireFault) → (e ≢ OutOfMemory → (before whole : TimeSeries) → series_on before rest ≢ Ok whole)

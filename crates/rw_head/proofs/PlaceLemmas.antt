@@ -175,8 +175,8 @@ HasPlaces-added lists index new l x h u = record {
 }
 
 -- ---- fresh label sets
-any_behind : (l q : Labels) (fresh : List Labels) → list_any (labels_eq q) (fresh ++ l ∷ []) ≡ (list_any (labels_eq q) fresh || (labels_eq q l || false))
-any_behind l q fresh = list_any-append (labels_eq q) fresh (l ∷ [])
+any-push : (l q : Labels) (fresh : List Labels) → list_any (labels_eq q) (fresh ++ l ∷ []) ≡ (list_any (labels_eq q) fresh || (labels_eq q l || false))
+any-push l q fresh = list_any-append (labels_eq q) fresh (l ∷ [])
 
 named_now : (a b : Bool) → b ≡ true → (a || (b || false)) ≡ true
 named_now true b e = refl
@@ -195,16 +195,16 @@ named_before false false e k = absurd cc
 named_added : (lists : List Lists) (index : Index) (fresh : List Labels) (l q : Labels) (n : ℕ) (b : Bool) → IsFresh index lists fresh → labels_eq l q ≡ b
     → cond b (Some (length lists)) (get labels_cmp index q) ≡ Some n → length lists + 1 ≤ n + (length fresh + 1) → list_any (labels_eq q) (fresh ++ l ∷ []) ≡ true
 named_added lists index fresh l q n true h k e le =
-    any_behind l q fresh ∙ named_now (list_any (labels_eq q) fresh) (labels_eq q l) (equal_if_same q l (sym (same_if_equal l q k)))
+    any-push l q fresh ∙ named_now (list_any (labels_eq q) fresh) (labels_eq q l) (equal_if_same q l (sym (same_if_equal l q k)))
 named_added lists index fresh l q n false h k e le =
-    any_behind l q fresh ∙ named_still (list_any (labels_eq q) fresh) (labels_eq q l) (h.named q n e (omega arith))
+    any-push l q fresh ∙ named_still (list_any (labels_eq q) fresh) (labels_eq q l) (h.named q n e (omega arith))
 
 last_added : (lists : List Lists) (index : Index) (fresh : List Labels) (l q : Labels) (n : ℕ) (b : Bool) → IsFresh index lists fresh → labels_eq l q ≡ b
     → list_any (labels_eq q) (fresh ++ l ∷ []) ≡ true → cond b (Some (length lists)) (get labels_cmp index q) ≡ Some n → length lists + 1 ≤ n + (length fresh + 1)
 last_added lists index fresh l q n true h k any e = let same : length lists ≡ n = cc in omega (arith, same)
 last_added lists index fresh l q n false h k any e =
     let other : labels_eq q l ≡ false = (eq_by_cmp_equiv labels_cmp-total).symm q l ∙ k in
-    omega (arith, h.last q n (named_before (list_any (labels_eq q) fresh) (labels_eq q l) other (sym (any_behind l q fresh) ∙ any)) e)
+    omega (arith, h.last q n (named_before (list_any (labels_eq q) fresh) (labels_eq q l) other (sym (any-push l q fresh) ∙ any)) e)
 
 empty_added : (lists : List Lists) (index : Index) (fresh : List Labels) (x : Lists) (n : ℕ) → IsFresh index lists fresh → x.kept ≡ [] → n < length lists + 1 → length lists + 1 ≤ n + (length fresh + 1)
     → (get_or (lists ++ x ∷ []) n no_lists).kept ≡ []
@@ -261,7 +261,7 @@ IsSound-added index new lists news touched noted fresh named count staged staged
       few = few;
     } in
     let P : List Lists → List ℕ → List Labels → Type 0 = λ ls ts ms. IsSound new ls ts ms count staged_new in
-    subst (λ ls. P ls noted named) (sym add.behind) (subst (λ ts. P (lists ++ x ∷ []) ts named) (sym add.note) (subst (P (lists ++ x ∷ []) (touched ++ length lists ∷ [])) (sym add.name) made))
+    subst (λ ls. P ls noted named) (sym add.list) (subst (λ ts. P (lists ++ x ∷ []) ts named) (sym add.note) (subst (P (lists ++ x ∷ []) (touched ++ length lists ∷ [])) (sym add.name) made))
 
 -- the same if nothing changed
 HasPlaces-same : (index new : Index) (lists : List Lists) → new.entries ≡ index.entries → HasPlaces index lists → HasPlaces new lists

@@ -45,11 +45,11 @@ held_in {before} {index} {new} {lists} {news} {touched} {noted} {fresh} {named} 
     let now : IsSound index lists touched fresh count staged = subst (λ (t : Index). IsSound t lists touched fresh count staged) (sym same) sound in
     let absent : get labels_cmp index l ≡ None = ap (λ (t : Index). get labels_cmp t l) same ∙ missing in
     let empty : list_of s l ≡ [] = ap (λ (t : Store). list_of t l) (sym view) ∙ staged_nowhere before lists l missing in
-    let after : staged_store new.entries news ≡ with_list l x.staged s = ap (staged_store new.entries) add.behind ∙ staged-added lists index new l x now.places add.place
+    let after : staged_store new.entries news ≡ with_list l x.staged s = ap (staged_store new.entries) add.list ∙ staged-added lists index new l x now.places add.place
     ∙ ap (λ (t : Index). with_list l x.staged (staged_store t.entries lists)) same ∙ ap (with_list l x.staged) view in
     record {
       sound = IsSound-added index new lists news touched noted fresh named count staged (staged + length x.staged) l x now absent add none some refl few;
-      kept = ap (kept_store new.entries) add.behind ∙ kept-added lists index new l x now.places absent none add.place ∙ ap (λ (t : Index). kept_store t.entries lists) same;
+      kept = ap (kept_store new.entries) add.list ∙ kept-added lists index new l x now.places absent none add.place ∙ ap (λ (t : Index). kept_store t.entries lists) same;
       gives = ap (accepted l s) (ap (λ (xs : List Point). accept (Some xs) points) empty ∙ gives) ∙ ap Ok (sym after);
     }
 

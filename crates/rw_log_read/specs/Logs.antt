@@ -41,12 +41,12 @@ pub record ReadsLog (past_fault : Bool) (before after : List (Option (List ℕ))
   pub whole : found ≡ None → length texts ≡ length before
 
 -- the pieces of a log with these segments
-abbrev pub behind : List ℕ → List Piece
-behind text = next_segment ∷ bytes text ∷ []
+abbrev pub next_pieces : List ℕ → List Piece
+next_pieces text = next_segment ∷ bytes text ∷ []
 
 abbrev pub log_of : List (List ℕ) → List Piece
 log_of [] = []
-log_of (text ∷ texts) = bytes text ∷ flat_map behind texts
+log_of (text ∷ texts) = bytes text ∷ flat_map next_pieces texts
 
 -- What is found in a segment after others: its bytes, the entries that it adds to the log, and the
 -- records skipped in it.

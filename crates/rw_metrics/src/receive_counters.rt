@@ -81,6 +81,13 @@ impl ReceiveCounters {
         self.label_sets.fetch_max(count as u64, Ordering::Relaxed);
     }
 
+    /// Counts what is held before the first answer, since the head was opened from the log of a
+    /// folder: how many samples, and of how many label sets.
+    pub fn begin_with(&self, samples: u64, label_sets: usize) {
+        add(&self.samples, samples);
+        self.hold_label_sets(label_sets);
+    }
+
     /// Takes how many samples may be held, and of how many label sets; 0 if there is no limit.
     pub fn set_limits(&self, max_samples: u64, max_label_sets: u64) {
         self.max_samples.store(max_samples, Ordering::Relaxed);

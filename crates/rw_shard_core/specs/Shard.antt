@@ -1,4 +1,4 @@
--- One shard of a sender behind its queue: what it took, its builder and its open batch
+-- One shard of a sender after its queue: what it took, its builder and its open batch
 -- (Remote-Write 1.0, "Ordering" and "Retries & backoff").
 use Rattle.std.specs.Prelude.{◌≡◌, ℕ, ℤ, ◌+◌, ◌-◌, ◌<◌, ◌≤◌, List, [], ◌∷◌, ◌++◌, length, map, Bool, true, false, not, ◌&&◌, ◌||◌, ◌==◌, nat_le, Option, None, Some, Ok, All, IfSome, if◌then◌else◌, ⊤}
 use Rattle.std.specs.Ordering.{nat_cmp}

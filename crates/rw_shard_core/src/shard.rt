@@ -1,4 +1,4 @@
-//! The state of one shard of a sender behind its queue.
+//! The state of one shard of a sender, which takes from its queue.
 
 ghost use Rattle.std.specs.Prelude.{◌≡◌, ◌↔◌, IsTrue, ◌+◌, ◌<◌, ◌≤◌, [], true, false, All, ◌&&◌, Some, None, if◌then◌else◌, IfOk, IfSome, OnOk, OnErr, length};
 ghost use Rattle.rw_retry.specs.Judgements.{judgement_of};
@@ -66,8 +66,8 @@ fn are_unnamed(ledger: &Ledger, places: &[Place]) -> bool
     true
 }
 
-/// The state of one shard behind its queue: the samples that it has taken and not yet sent, and the
-/// batch that is being sent.
+/// The state of one shard, which takes from its queue: the samples that it has taken and not yet
+/// sent, and the batch that is being sent.
 ///
 /// Samples are taken one after the other into a builder. When that is due it is frozen into a
 /// batch, which stays open and is sent as often as needed, until a reply resolves it.

@@ -25,9 +25,9 @@ in_second [] ys j y e le = moved ys j (j - 0) y (omega arith) e
 in_second (x ∷ xs) ys zero y e le = absurd (omega arith)
 in_second (x ∷ xs) ys (suc j) y e le = moved ys (j - length xs) (suc j - suc (length xs)) y (omega arith) (in_second xs ys j y e (omega arith))
 
-behind : {Y : Type 0} (xs ys : List Y) (j : ℕ) (y : Y) → slice_get ys j ≡ Some y → slice_get (xs ++ ys) (length xs + j) ≡ Some y
-behind [] ys j y e = moved ys j (0 + j) y (omega arith) e
-behind (x ∷ xs) ys j y e = moved (x ∷ xs ++ ys) (suc (length xs + j)) (suc (length xs) + j) y (omega arith) (behind xs ys j y e)
+from_second : {Y : Type 0} (xs ys : List Y) (j : ℕ) (y : Y) → slice_get ys j ≡ Some y → slice_get (xs ++ ys) (length xs + j) ≡ Some y
+from_second [] ys j y e = moved ys j (0 + j) y (omega arith) e
+from_second (x ∷ xs) ys j y e = moved (x ∷ xs ++ ys) (suc (length xs + j)) (suc (length xs) + j) y (omega arith) (from_second xs ys j y e)
 
 order : (j n : ℕ) → (j < n) ⊎ (n ≤ j)
 order j zero = inr (omega arith)
@@ -120,7 +120,7 @@ module _ {X Y : Type 0} (Made : X → List Y → Type 0) where
     made = h.made;
     each = λ k y here. let f = h.each k y here in (
       length e.0 + f.0,
-      ap (λ l. slice_get l (length e.0 + f.0)) e.3 ∙ behind e.0 e.1 f.0 y f.1,
+      ap (λ l. slice_get l (length e.0 + f.0)) e.3 ∙ from_second e.0 e.1 f.0 y f.1,
       ap (λ (b : Bool). cond b 0 (suc (number_of ns (length e.0 + f.0 - n)))) (le-ltb (length e.0 + f.0) n (omega (arith, e.2)))
           ∙ ap suc (ap (number_of ns) (back (length e.0) n f.0 e.2) ∙ f.2),
     );

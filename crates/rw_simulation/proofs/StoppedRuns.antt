@@ -45,7 +45,7 @@ use Rattle.rw_sender.proofs.shared.PlacementLemmas.{whole_is, whole_placed, join
 use Rattle.rw_sender.proofs.shared.ShippingLemmas.{all_is, ends_last}
 use Rattle.rw_types.proofs.shared.AllLemmas.{AllByRecursion-left, AllByRecursion-right}
 use Rattle.rw_machine.specs.Shards.{Shard}
-use Rattle.rw_machine.specs.Worlds.{Setup, Request, World, start, log, ended_as, report}
+use Rattle.rw_machine.specs.Worlds.{Setup, Request, World, start, ended_as, report}
 use Rattle.rw_shard_core.specs.Endings.{Ending, Complete}
 use Rattle.rw_machine.specs.Steps.{happens, unless_over}
 use Rattle.rw_machine.specs.declared.event.Event.TheVariants as event

@@ -1,8 +1,9 @@
 -- Texts in quotes differ if their contents do.
-use Rattle.std.proofs.Common.{◌≡◌, ◌<◌, ◌≤◌, ◌==◌, ℕ, List, [], ◌∷◌, ◌++◌, length, Option, Some, None, if◌then◌else◌, ne_eqb, flat_map, sym, ◌∙◌, ap, arith, refl, inl, inr, append_assoc}
-use Rattle.std.proofs.lemmas.Bool.{cases_eq}
+use Rattle.std.proofs.Common.{true, ◌≡◌, ◌<◌, ◌≤◌, ◌==◌, ℕ, List, [], ◌∷◌, ◌++◌, length, Option, Some, None, if◌then◌else◌, ne_eqb, flat_map, sym, ◌∙◌, ap, arith, refl, inl, inr, append_assoc}
+use Rattle.std.proofs.lemmas.Bool.{and_parts, cases_eq, true≢false}
+use Rattle.std.specs.List.{list_all}
 use Rattle.std.proofs.lemmas.List.{length-append, append-nil}
-use Rattle.rw_text.specs.LabelText.{escaped, quoted}
+use Rattle.rw_text.specs.LabelText.{escaped, is_plain, quoted}
 
 -- the byte after a backslash, and what follows it
 abbrev pub behind_backslash : List ℕ → Option (ℕ × List ℕ)
@@ -129,3 +130,24 @@ pub quoted_unique : (value other rest more : List ℕ) → quoted value ++ rest 
 quoted_unique value other rest more e =
     let f : 34 ∷ inside value rest ≡ 34 ∷ inside other more = sym (quoted-append value rest) ∙ e ∙ quoted-append other more in
     inside_unique value other rest more cc
+
+-- ---- texts without a backslash
+
+pub escaped-plain : (b : ℕ) → is_plain b ≡ true → escaped b ≡ b ∷ []
+escaped-plain b plain = elim (cases_eq b 92) [
+  | inl e ↦ absurd (true≢false (sym plain ∙ rw e refl))
+  | inr n92 ↦ elim (cases_eq b 34) [
+    | inl e ↦ absurd (true≢false (sym plain ∙ rw e refl))
+    | inr n34 ↦ elim (cases_eq b 10) [
+      | inl e ↦ absurd (true≢false (sym plain ∙ rw e refl))
+      | inr n10 ↦ rw (ne_eqb b 92 n92, ne_eqb b 34 n34, ne_eqb b 10 n10) refl
+    ]
+  ]
+]
+
+-- they are written in quotes as they are
+pub flat_map-escaped-plain : (text : List ℕ) → list_all is_plain text ≡ true → flat_map escaped text ≡ text
+flat_map-escaped-plain [] plain = refl
+flat_map-escaped-plain (b ∷ bs) plain =
+    let both = and_parts (is_plain b) (list_all is_plain bs) plain in
+    ap (λ t. t ++ flat_map escaped bs) (escaped-plain b both.0) ∙ ap (λ t. b ∷ t) (flat_map-escaped-plain bs both.1)

@@ -1,5 +1,5 @@
 -- Labels as text: `{name="value",..}`.
-use Rattle.std.specs.Prelude.{ℕ, List, [], ◌∷◌, ◌++◌, map, flat_map, ◌==◌, if◌then◌else◌}
+use Rattle.std.specs.Prelude.{ℕ, List, [], ◌∷◌, ◌++◌, map, flat_map, ◌==◌, if◌then◌else◌, Bool, not, ◌&&◌}
 use Rattle.std.specs.List.{join_with_byte}
 use Rattle.rw_types.specs.Labels.{Label, Labels, is_metric_name}
 
@@ -10,6 +10,10 @@ escaped b =
     else if b == 34 then 92 ∷ 34 ∷ []
     else if b == 10 then 92 ∷ 110 ∷ []
     else b ∷ []
+
+-- whether a byte in quotes is written as it is
+abbrev pub is_plain : ℕ → Bool
+is_plain b = not (b == 92) && not (b == 34) && not (b == 10)
 
 -- a text in quotes
 unfoldable pub quoted : List ℕ → List ℕ

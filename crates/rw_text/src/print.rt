@@ -1,8 +1,9 @@
 //! Labels, printed.
 
 ghost use Rattle.std.specs.Prelude.{◌≡◌, ◌++◌, ◌∷◌, [], OnOk, OnErr, map, flat_map};
+ghost use Rattle.std.specs.List.{list_all};
 ghost use Rattle.rw_types.specs.Labels.{text_label};
-ghost use Rattle.rw_text.specs.LabelText.{escaped, quoted, name_text, label_text, labels_text};
+ghost use Rattle.rw_text.specs.LabelText.{escaped, is_plain, quoted, name_text, label_text, labels_text};
 ghost use Rattle.rw_types.specs.Beginnings.{Begins};
 
 use crate::bytes::push_byte;
@@ -22,11 +23,28 @@ fn put_byte(out: &mut Vec<u8>, byte: u8) -> Result<(), AllocError>
     }
 }
 
-/// Adds the bytes of a text in quotes.
+/// Returns whether a byte is written in quotes as it is.
+fn is_plain(byte: u8) -> bool
+    ensures { result ≡ is_plain byte }
+{
+    byte != b'\\' && byte != b'"' && byte != b'\n'
+}
+
+/// Returns whether a text is written in quotes as it is.
+fn is_plain_text(text: &[u8]) -> bool
+    ensures { result ≡ list_all is_plain text.now }
+{
+    text.iter().all(|b| is_plain(*b))
+}
+
+/// Adds the bytes of a text in quotes: at once if none needs a backslash, as in most texts.
 fn put_bytes(out: &mut Vec<u8>, text: &[u8]) -> Result<(), AllocError>
     ensures ok { OnOk result (out.new.items ≡ out.old.items ++ flat_map escaped text.now) }
     ensures err { OnErr result (Begins out.old.items out.new.items) }
 {
+    if is_plain_text(text) {
+        return out.extend_from_slice(text);
+    }
     for byte in text {
         put_byte(out, *byte)?;
     }

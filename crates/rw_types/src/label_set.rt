@@ -274,6 +274,20 @@ impl LabelSet {
         Ok(LabelSet::of(texts_of(alloc, labels)?)?)
     }
 
+    /// Returns the label set that these texts are, or the first fault that keeps them from being one;
+    /// `names` says which names are accepted. The texts are not copied.
+    pub fn of_texts(names: Names, labels: Vec<(String, String)>) -> Result<LabelSet, LabelFault>
+        ensures ok { IfOk result (λ s. s ≡ map text_label labels.items) }
+        ensures label_set { IfOk result (λ _. IsLabelSet names (map text_label labels.items)) }
+        ensures err { IfErr result (λ f. MatchOption (label_fault names (map text_label labels.items))
+            (f ≡ OutOfMemory) (λ fault. f ≡ fault)) }
+    {
+        if let Some(fault) = fault_of(names, &labels) {
+            return Err(fault);
+        }
+        Ok(LabelSet::of(labels)?)
+    }
+
     /// Returns the labels as (name, value), sorted by name in byte order.
     pub fn as_slice(&self) -> &[(String, String)]
         ensures labels { map text_label result.now ≡ self.now }

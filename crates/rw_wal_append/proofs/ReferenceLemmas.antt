@@ -71,8 +71,8 @@ found_at false r first x l t e = (ltb-false r first t, e)
 pub at_place : (n : ReferenceTable) (r : ℕ) (l : Labels) → labels_at n r ≡ Some l → (n.first ≤ r) × (slice_get n.sets (r - n.first) ≡ Some l)
 at_place n r l e = found_at (ltb r n.first) r n.first (slice_get n.sets (r - n.first)) l refl e
 
-stands : (es : List Entry) (n : ReferenceTable) (r : ℕ) (l : Labels) → StandFor es n.first n.sets → labels_at n r ≡ Some l → labels_of es r (length es) ≡ Some l
-stands es n r l h e =
+labels-held : (es : List Entry) (n : ReferenceTable) (r : ℕ) (l : Labels) → StandFor es n.first n.sets → labels_at n r ≡ Some l → labels_of es r (length es) ≡ Some l
+labels-held es n r l h e =
     let at = at_place n r l e in
     ap (λ (m : ℕ). labels_of es m (length es)) (omega (arith, at.0)) ∙ stand_at es n.first (r - n.first) n.sets l h at.1
 
@@ -91,7 +91,7 @@ points_read : (n : ReferenceTable) (l : Labels) (es : List Entry) (ss : List (�
     → map without_position (samples_after l es (map sample_entry ss)) ≡ points_of n l ss
 points_read n l es [] h of = refl
 points_read n l es (s ∷ ss) h of =
-    let is : labels_of es s.0 (length es) ≡ labels_at n s.0 = stands es n s.0 of.0.0 h of.0.1 ∙ sym of.0.1 in
+    let is : labels_of es s.0 (length es) ≡ labels_at n s.0 = labels-held es n s.0 of.0.0 h of.0.1 ∙ sym of.0.1 in
     let later = samples_after l (es ++ sample_entry s ∷ []) (map sample_entry ss) in
     ap (λ (o : Option Labels). map without_position (cond (has_labels l o) ((length es, s.1, s.2) ∷ samples_after l (es ++ sample_entry s ∷ []) (map sample_entry ss)) (samples_after l (es ++ sample_entry s ∷ []) (map sample_entry ss)))) is
     ∙ take_it (has_labels l (labels_at n s.0)) (length es, s.1, s.2) later (points_of n l ss)

@@ -175,6 +175,7 @@ fn receive_into<R: Threads + Wait + Clock + Sync>(
         Ok(opened) => {
             report_opened(rt, dir, &opened, receiving);
             let head = opened.kept;
+            counters.begin_with(head.head().total(), head.head().places());
             let outcome = keep(rt, threads, settings, listener, receiving, &counters, head);
             report_kept(rt, dir, outcome)
         }

@@ -121,7 +121,8 @@ fn is_counted(alloc: Global) -> Result<bool, AllocError> {
     counters.begin_connection();
     counters.end_connection();
     counters.refuse_connection();
-    counters.answer(204, 10);
+    counters.begin_with(4, 2);
+    counters.answer(204, 6);
     counters.answer(204, 7);
     counters.answer(429, 0);
     counters.hold_label_sets(3);

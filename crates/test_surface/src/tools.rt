@@ -60,6 +60,7 @@ pub fn of_receive_counters() {
     let _ = ReceiveCounters::end_connection;
     let _ = ReceiveCounters::refuse_connection;
     let _ = (ReceiveCounters::answer, ReceiveCounters::hold_label_sets);
+    let _ = ReceiveCounters::begin_with;
     let _ = (ReceiveCounters::set_limits, ReceiveCounters::of_kept_log);
     let _ = (ReceiveCounters::write_log, ReceiveCounters::sync_log);
     let _ = (

@@ -154,17 +154,17 @@ refused_there limits first store m more whole t v good bad e =
     ap (taken_all limits (Ok first)) e ∙ taken_all-append limits (Ok first) (m ++ t ∷ []) more
     ∙ ap (λ r. taken_all limits r more) (taken_all-push limits first store m t good ∙ bad) ∙ taken_all-err limits v more
 
-refused_behind : (limits : LabelLimits) (first store : Store) (m : WriteRequest) (t : TimeSeries) (after : List ℕ) (r : Result WriteRequest WireFault) → Stays → taken_all limits (Ok first) m ≡ Ok store → Refuses limits store (Ok t)
+refused_part_at : (limits : LabelLimits) (first store : Store) (m : WriteRequest) (t : TimeSeries) (after : List ℕ) (r : Result WriteRequest WireFault) → Stays → taken_all limits (Ok first) m ≡ Ok store → Refuses limits store (Ok t)
     → read_on (m ++ t ∷ []) after ≡ r → RefusesAll limits first r
-refused_behind limits first store m t after (Err e) stays good bad is = tt
-refused_behind limits first store m t after (Ok whole) stays good bad is =
+refused_part_at limits first store m t after (Err e) stays good bad is = tt
+refused_part_at limits first store m t after (Ok whole) stays good bad is =
     let w = stays after (m ++ t ∷ []) whole is in
     (bad.0, refused_there limits first store m w.0 whole t bad.0 good bad.1 w.1, bad.2)
 
 refused_part : (limits : LabelLimits) (first store : Store) (m : WriteRequest) (after : List ℕ) (s : Result TimeSeries WireFault) → Stays → taken_all limits (Ok first) m ≡ Ok store → Refuses limits store s
     → RefusesAll limits first (read_on_after m s after)
 refused_part limits first store m after (Err e) stays good bad = tt
-refused_part limits first store m after (Ok t) stays good bad = refused_behind limits first store m t after (read_on (m ++ t ∷ []) after) stays good bad refl
+refused_part limits first store m after (Ok t) stays good bad = refused_part_at limits first store m t after (read_on (m ++ t ∷ []) after) stays good bad refl
 
 pub bad_part : (limits : LabelLimits) (first store : Store) (body rest bytes after : List ℕ) → Stays → Follows rest bytes after → Refuses limits store (read_series bytes) → HasStaged limits first store body rest
     → RefusesAll limits first (read body)

@@ -78,7 +78,7 @@ AllFilled lists = (n : ℕ) → n < length lists → has_samples (slice_index_or
 -- a label set that had no list has the last one, with its place noted
 pub record IsAdded (index new : BTreeMap Labels ℕ) (old lists : List Lists) (touched noted : List ℕ) (fresh named : List Labels) (l : Labels) (x : Lists) : Type 0 where
   pub place : Updates labels_cmp index new l (Some (length old))
-  pub behind : lists ≡ old ++ x ∷ []
+  pub list : lists ≡ old ++ x ∷ []
   pub note : noted ≡ touched ++ length old ∷ []
   pub name : named ≡ fresh ++ l ∷ []
 

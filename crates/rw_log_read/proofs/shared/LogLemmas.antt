@@ -15,7 +15,7 @@ use Rattle.rw_wal_format.specs.declared.tail_fault.TailFault.{TailFault}
 use Rattle.rw_wal_tail.specs.Fed.{Fed}
 use Rattle.rw_wal_tail.specs.Taking.{HasTakenAll}
 use Rattle.rw_log_read.specs.Left.{current, later, left_in, source_of}
-use Rattle.rw_log_read.specs.Logs.{AreRead, AreRows, IsRead, IsRow, ReadsFirst, ReadsInto, ReadsLog, ReadsTo, behind, log_of}
+use Rattle.rw_log_read.specs.Logs.{AreRead, AreRows, IsRead, IsRow, ReadsFirst, ReadsInto, ReadsLog, ReadsTo, next_pieces, log_of}
 use Rattle.rw_log_read.specs.inner.Logs.{AreTaken, ReadsSegment, begun}
 use Rattle.rw_log_read.specs.Reading.{IsReadToEnd}
 use Rattle.rw_log_read.specs.inner.Reading.{Counted, ReadsText, counted}
@@ -46,8 +46,8 @@ none_yet (t ∷ ts) = false
 log_of-push : (texts : List (List ℕ)) (text : List ℕ) → log_of (texts ++ text ∷ []) ≡ begun (none_yet texts) (log_of texts) ++ bytes text ∷ []
 log_of-push [] text = refl
 log_of-push (t ∷ ts) text =
-    ap (λ ps. bytes t ∷ ps) (flat_map-append behind ts (text ∷ []))
-    ∙ ap (λ ps. bytes t ∷ ps) (sym (append_assoc (flat_map behind ts) (next_segment ∷ []) (bytes text ∷ [])))
+    ap (λ ps. bytes t ∷ ps) (flat_map-append next_pieces ts (text ∷ []))
+    ∙ ap (λ ps. bytes t ∷ ps) (sym (append_assoc (flat_map next_pieces ts) (next_segment ∷ []) (bytes text ∷ [])))
 
 -- what is begun of pieces that are read alike is read alike
 begun_alike : (is_first : Bool) (ps qs : List Piece) → ((later : List Piece) → reading page_size (ps ++ later) ≡ reading page_size (qs ++ later)) → (later : List Piece)

@@ -69,7 +69,7 @@ after_new c =
     let len : c.len.result ≡ length c.self.inside.lists.items = omega (arith, c.len.ensures, ap length c.reserve.ensures.items) in
     let add : IsAdded c.self.inside.places.tree c.enter.new.self.tree c.self.inside.lists.items c.put-in-New.new.items.items c.self.inside.touched.items c.put.new.items.items c.self.inside.fresh.items c.put-in-New-2.new.items.items c.args.name c.in-New.list = record {
       place = subst (λ n. Updates labels_cmp c.self.inside.places.tree c.enter.new.self.tree c.args.name (Some n)) c.self.invariant.1 new.1.0;
-      behind = c.put-in-New.ensures ∙ ap (λ ls. ls ++ c.in-New.list ∷ []) c.reserve.ensures.items;
+      list = c.put-in-New.ensures ∙ ap (λ ls. ls ++ c.in-New.list ∷ []) c.reserve.ensures.items;
       note = c.put.ensures ∙ ap (λ ts. ts ++ c.len.result ∷ []) c.reserve-2.ensures.items ∙ ap (λ n. c.self.inside.touched.items ++ n ∷ []) len;
       name = c.put-in-New-2.ensures ∙ ap (λ ns. ns ++ c.in_ok-share.share ∷ []) c.reserve-3.ensures.items ∙ ap (λ n. c.self.inside.fresh.items ++ n ∷ []) c.in_ok-share.ensures;
     } in
