@@ -1,5 +1,6 @@
 -- Keys are in byte order just as their label sets do.
-use Rattle.std.proofs.Common.{◌≡◌, ℕ, zero, suc, ◌<◌, ◌≤◌, List, [], ◌∷◌, ◌++◌, length, get_or, IsUtf8, inl, inr, ◌⊎◌, refl, sym, ap, ap₂, subst, ◌∙◌, append_assoc, arith, true}
+use Rattle.std.proofs.Common.{◌≡◌, ℕ, zero, suc, ◌<◌, ◌≤◌, List, [], ◌∷◌, ◌++◌, length, map, get_or, IsUtf8, inl, inr, ◌⊎◌, refl, sym, ap, ap₂, subst, ◌∙◌, append_assoc, arith, true}
+use Rattle.std.proofs.lemmas.List.{map-append}
 use Rattle.std.proofs.lemmas.Bool.{and_parts, cases_lt, lt-ltb, le-ltb}
 use Rattle.std.proofs.Math.Utf8.{scalar, scalars, scalar_cases, encode, encodes}
 use Rattle.std.specs.List.{AllByRecursion}
@@ -11,7 +12,7 @@ use Rattle.std.specs.declared.cmp.Ordering.TheVariants.{Less, Equal, Greater}
 use Rattle.rw_types.specs.Labels.{Label, Labels}
 use Rattle.rw_types.specs.LabelOrder.{labels_cmp}
 use Rattle.rw_types.proofs.shared.AllLemmas.{AllByRecursion-append}
-use Rattle.rw_head.specs.inner.Keys.{text_key, labels_key}
+use Rattle.rw_head.specs.inner.Keys.{text_key, labels_key, raised_byte}
 
 in_turn : (o p q : Ordering) → ordering_then (ordering_then o p) q ≡ ordering_then o (ordering_then p q)
 in_turn Less p q = refl
@@ -84,10 +85,16 @@ all_low : (cs : List ℕ) → scalars cs ≡ true → Low (encodes cs)
 all_low [] ok = tt
 all_low (c ∷ cs) ok = let both = and_parts _ _ ok in AllByRecursion-append (λ b. b < 255) (encode c) (encodes cs) (one_low c both.0) (all_low cs both.1)
 
-low_at : (bs : List ℕ) (k : ℕ) → Low bs → k < length bs → get_or bs k 0 < 255
-low_at [] k h lt = absurd (omega arith)
-low_at (b ∷ bs) zero h lt = h.0
-low_at (b ∷ bs) (suc k) h lt = low_at bs k h.1 (omega arith)
+one_raised : (b : ℕ) → b < 255 → raised_byte b ≡ suc b
+one_raised b low = omega arith
 
-pub text_low : (bs : List ℕ) → IsUtf8 bs → (k : ℕ) → k < length bs → get_or bs k 0 < 255
-text_low bs h k lt = low_at bs k (subst Low h.1.1 (all_low h.0 h.1.0)) lt
+all_raised : (bs : List ℕ) → Low bs → map raised_byte bs ≡ map (λ b. suc b) bs
+all_raised [] h = refl
+all_raised (b ∷ bs) h = ap₂ (λ c cs. c ∷ cs) (one_raised b h.0) (all_raised bs h.1)
+
+-- the bytes of a text after those of a key, and the one that becomes its end
+pub raised_after : (key text : List ℕ) → IsUtf8 text → map raised_byte ((key ++ text) ++ 255 ∷ []) ≡ map raised_byte key ++ text_key text
+raised_after key text h =
+    map-append raised_byte (key ++ text) (255 ∷ [])
+    ∙ ap (λ bs. bs ++ 0 ∷ []) (map-append raised_byte key text ∙ ap (λ bs. map raised_byte key ++ bs) (all_raised text (subst Low h.1.1 (all_low h.0 h.1.0))))
+    ∙ append_assoc (map raised_byte key) (map (λ b. suc b) text) (0 ∷ [])
