@@ -6,3 +6,4 @@ pub mod Keys
 pub mod Lists
 pub mod Names
 pub mod Staged
+pub mod Texts

@@ -38,7 +38,7 @@ impl Head {
         ensures limited { result ≡ Full → capacity.now ≢ unlimited }
     {
         let places = self.table.places();
-        let staged = stage_body(&mut self.table, &mut self.labels, &self.bounds, body);
+        let staged = stage_body(&mut self.table, &self.bounds, body);
         match staged {
             Ok(()) if self.table.exceeds(capacity, places) => {
                 self.table.abort();

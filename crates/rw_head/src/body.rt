@@ -7,10 +7,9 @@ ghost use Rattle.rw_head.specs.declared.verdict.Verdict.TheVariants.{NoMemory};
 ghost use Rattle.rw_head.specs.inner.Bodies.{SeriesGives, BodyGives, HasFewLabels};
 ghost use Rattle.rw_head.specs.inner.Growth.{HoldsNoneRefused};
 
-use crate::label_bounds::LabelBounds;
+use crate::label_bounds::{LabelBounds, Texts};
 use crate::table::Table;
 use crate::verdict::Verdict;
-use rw_types::LabelSet;
 use rw_write_request::{
     Series, check_message, label_count, message_part, next_samples, read_labels, read_series,
     samples_stay, what_is_read_stays,
@@ -22,7 +21,6 @@ const MOST_WHOLE_BYTES: usize = 65_536;
 /// Reads a series whole, and stages it.
 fn stage_whole(
     table: &mut Table,
-    labels: &mut LabelSet,
     bounds: &LabelBounds,
     bytes: &[u8],
 ) -> Result<(), Verdict>
@@ -33,15 +31,14 @@ fn stage_whole(
     ensures staged { SeriesGives result bounds.now table.old.staged
         (read_series bytes.now) table.new.staged }
 {
-    let series = read_series(table.allocator(), bytes)?;
-    table.stage(labels, bounds, &series)
+    let Series { labels, samples } = read_series(table.allocator(), bytes)?;
+    table.stage(bounds, Texts::Given(labels), &samples)
 }
 
 /// Reads the labels of a series, and then stages its samples, those of 4,096 fields at a time: no
 /// more of them are in memory at once outside of the lists.
 fn stage_in_parts(
     table: &mut Table,
-    labels: &mut LabelSet,
     bounds: &LabelBounds,
     bytes: &[u8],
 ) -> Result<(), Verdict>
@@ -53,15 +50,13 @@ fn stage_in_parts(
 {
     samples_stay();
     let alloc = table.allocator();
-    let mut series = Series {
-        labels: read_labels(alloc, bytes)?,
-        samples: Vec::new(alloc),
-    };
-    table.stage(labels, bounds, &series)?;
+    let labels = read_labels(alloc, bytes)?;
+    let mut samples = Vec::new(alloc);
+    table.stage(bounds, Texts::Lent(&labels), &samples)?;
     let mut rest = bytes;
     while !rest.is_empty() {
-        rest = next_samples(&mut series.samples, rest)?;
-        table.stage(labels, bounds, &series)?;
+        rest = next_samples(&mut samples, rest)?;
+        table.stage(bounds, Texts::Lent(&labels), &samples)?;
     }
     Ok(())
 }
@@ -70,7 +65,6 @@ fn stage_in_parts(
 /// samples do once they are held.
 fn stage_read(
     table: &mut Table,
-    labels: &mut LabelSet,
     bounds: &LabelBounds,
     bytes: &[u8],
 ) -> Result<(), Verdict>
@@ -81,16 +75,15 @@ fn stage_read(
         (read_series bytes.now) table.new.staged }
 {
     if bytes.len() > MOST_WHOLE_BYTES {
-        return stage_in_parts(table, labels, bounds, bytes);
+        return stage_in_parts(table, bounds, bytes);
     }
-    stage_whole(table, labels, bounds, bytes)
+    stage_whole(table, bounds, bytes)
 }
 
 /// Stages a series. If its labels are known by its first bytes, they are not read again; otherwise
 /// it is read first, unless it has more labels than the head takes.
 fn stage_series(
     table: &mut Table,
-    labels: &mut LabelSet,
     bounds: &LabelBounds,
     bytes: &[u8],
 ) -> Result<(), Verdict>
@@ -105,7 +98,7 @@ fn stage_series(
     if label_count(bytes) > bounds.max_labels {
         return Err(Verdict::OverLimit);
     }
-    stage_read(table, labels, bounds, bytes)?;
+    stage_read(table, bounds, bytes)?;
     table.learn(bytes);
     Ok(())
 }
@@ -114,7 +107,6 @@ fn stage_series(
 /// valid series.
 fn stage_parts(
     table: &mut Table,
-    labels: &mut LabelSet,
     bounds: &LabelBounds,
     body: &[u8],
 ) -> Result<(), Verdict>
@@ -128,7 +120,7 @@ fn stage_parts(
     while !rest.is_empty() {
         let (series, after) = message_part(rest)?;
         if let Some(bytes) = series {
-            stage_series(table, labels, bounds, bytes)?;
+            stage_series(table, bounds, bytes)?;
         }
         rest = after;
     }
@@ -139,7 +131,6 @@ fn stage_parts(
 /// without memory, and bytes that are not a message are bad.
 pub(crate) fn stage_body(
     table: &mut Table,
-    labels: &mut LabelSet,
     bounds: &LabelBounds,
     body: &[u8],
 ) -> Result<(), Verdict>
@@ -150,7 +141,7 @@ pub(crate) fn stage_body(
     ensures memory { IfErr result
         (λ v. v ≡ NoMemory → (m : WriteRequest) × (read body.now ≡ Ok m)) }
 {
-    match stage_parts(table, labels, bounds, body) {
+    match stage_parts(table, bounds, body) {
         Ok(()) => Ok(()),
         Err(verdict) if verdict == Verdict::NoMemory => match check_message(body) {
             Ok(()) => Err(verdict),

@@ -144,13 +144,15 @@ impl Place {
     pub(crate) fn learn(&mut self, series: &[u8])
         ensures { self.new ≡ self.old }
     {
-        let alloc = *self.head.allocator();
-        let head = head_of(series);
-        let labels = self.name.labels();
-        if !self.head.is_empty() || head.len() > MOST_HEAD_BYTES || head == labels.fields() {
+        if !self.head.is_empty() || self.behind_head(series).is_some() {
             return;
         }
-        if !is_head_of(alloc, head, labels) {
+        let alloc = *self.head.allocator();
+        let head = head_of(series);
+        if head.len() > MOST_HEAD_BYTES {
+            return;
+        }
+        if !is_head_of(alloc, head, self.name.labels()) {
             return;
         }
         if let Ok(copy) = head.to_vec(alloc) {

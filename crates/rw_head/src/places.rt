@@ -11,8 +11,9 @@ ghost use Rattle.rw_head.specs.inner.Names.{below, AreNamed, HasNoneRefused};
 ghost use Rattle.rw_head.specs.Order.{points};
 ghost use Rattle.rw_head.specs.inner.Finds.{Finds, Enters, IsOutOfOrder, names_after};
 ghost use Rattle.rw_head.specs.inner.Bodies.{IsKnown};
+ghost use Rattle.rw_head.specs.inner.Texts.{labels_of};
 
-use crate::label_bounds::LabelBounds;
+use crate::label_bounds::{LabelBounds, Texts};
 use crate::name::Name;
 use crate::place::Place;
 use crate::sample_list::SampleList;
@@ -21,7 +22,6 @@ use rw_types::{LabelSet, Word};
 use std::alloc::{AllocError, Global};
 use std::collections::btree_map::Entry;
 use std::collections::{BTreeMap, btree_map};
-use std::mem;
 
 /// How many samples are staged before it is known whether their label set has a place.
 const FEW_SAMPLES: usize = 16;
@@ -164,27 +164,25 @@ impl Places {
     pub(crate) fn find(
         &mut self,
         alloc: Global,
-        labels: &mut LabelSet,
         bounds: &LabelBounds,
-        texts: &[(String, String)],
+        texts: Texts<'_>,
     ) -> Result<Found, Verdict>
         requires { HasNoneRefused bounds.now self.old.tree }
         ensures tree { self.new.tree ≡ self.old.tree }
         ensures names { self.new.names.items ≡ self.old.names.items }
         ensures found { IfOk result
-            (λ f. Finds f (map text_label texts.now)
-            (get labels_cmp self.old.tree (map text_label texts.now))) }
-        ensures taken { OnOk result (refusal bounds.now (map text_label texts.now) ≡ None) }
+            (λ f. Finds f (labels_of texts.entry)
+            (get labels_cmp self.old.tree (labels_of texts.entry))) }
+        ensures taken { OnOk result (refusal bounds.now (labels_of texts.entry) ≡ None) }
         ensures err { IfErr result
-            (λ v. v ≢ NoMemory → refusal bounds.now (map text_label texts.now) ≡ Some v) }
+            (λ v. v ≢ NoMemory → refusal bounds.now (labels_of texts.entry) ≡ Some v) }
     {
-        if let Some(place) = self.expected(texts) {
+        if let Some(place) = self.expected(texts.as_slice()) {
             self.last = place;
             return Ok(Found::At(place));
         }
-        bounds.take(labels, texts)?;
-        let name = Name::of(alloc, mem::replace(labels, LabelSet::empty(alloc)))?;
-        Ok(Found::Named(name))
+        let labels = bounds.take(alloc, texts)?;
+        Ok(Found::Named(Name::of(alloc, labels)?))
     }
 
     /// Returns the place of a series and its bytes after the head, if it begins with the head of

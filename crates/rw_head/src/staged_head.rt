@@ -16,7 +16,6 @@ use crate::capacity::Capacity;
 use crate::head::{Head, status_of};
 use crate::label_bounds::LabelBounds;
 use crate::table::Table;
-use rw_types::LabelSet;
 use std::alloc::Global;
 use std::marker::Model;
 
@@ -26,7 +25,6 @@ use std::marker::Model;
 pub struct StagedHead {
     alloc: Global,
     table: Table,
-    labels: LabelSet,
     bounds: LabelBounds,
     places: usize,
 }
@@ -75,7 +73,6 @@ impl Head {
         let Head {
             alloc,
             mut table,
-            mut labels,
             bounds,
             busy,
         } = self;
@@ -83,18 +80,16 @@ impl Head {
             let head = Head {
                 alloc,
                 table,
-                labels,
                 bounds,
                 busy: busy - 1,
             };
             return Err((head, 429));
         }
         let places = table.places();
-        match stage_body(&mut table, &mut labels, &bounds, body) {
+        match stage_body(&mut table, &bounds, body) {
             Ok(()) => Ok(StagedHead {
                 alloc,
                 table,
-                labels,
                 bounds,
                 places,
             }),
@@ -103,8 +98,7 @@ impl Head {
                 let head = Head {
                     alloc,
                     table,
-                    labels,
-                    bounds,
+                        bounds,
                     busy,
                 };
                 Err((head, status_of(verdict)))
@@ -145,7 +139,6 @@ impl StagedHead {
         let StagedHead {
             alloc,
             mut table,
-            labels,
             bounds,
             ..
         } = self;
@@ -153,7 +146,6 @@ impl StagedHead {
         Head {
             alloc,
             table,
-            labels,
             bounds,
             busy: 0,
         }
@@ -166,7 +158,6 @@ impl StagedHead {
         let StagedHead {
             alloc,
             table,
-            labels,
             bounds,
             ..
         } = self;
@@ -175,7 +166,6 @@ impl StagedHead {
         Head {
             alloc,
             table: kept,
-            labels,
             bounds,
             busy: 0,
         }

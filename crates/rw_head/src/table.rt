@@ -12,6 +12,7 @@ ghost use Rattle.rw_head.specs.Verdicts.{LabelLimits, accepted, taken};
 ghost use Rattle.rw_head.specs.inner.Bodies.{known_of, KnownGives};
 ghost use Rattle.rw_write_request.specs.Read.{read_series};
 ghost use Rattle.rw_head.specs.inner.Growth.{HoldsNoneRefused};
+ghost use Rattle.rw_head.specs.inner.Texts.{labels_of};
 ghost use Rattle.rw_head.specs.Blocks.{sealed_of};
 ghost use Rattle.rw_head.specs.inner.Blocks.{open_of};
 ghost use Rattle.rw_head.specs.Added.{AddsUp};
@@ -22,7 +23,7 @@ ghost use Rattle.rw_head.specs.inner.Lists.{more_count, note_of, Settled, IsAdde
 use crate::added::AllAdded;
 use crate::block::Block;
 use crate::capacity::Capacity;
-use crate::label_bounds::LabelBounds;
+use crate::label_bounds::{LabelBounds, Texts};
 use crate::name::Name;
 use crate::places::{Entered, Found, Places, put};
 use crate::sample_list::SampleList;
@@ -272,21 +273,20 @@ impl Table {
     /// first that is refused.
     pub(crate) fn stage(
         &mut self,
-        labels: &mut LabelSet,
         bounds: &LabelBounds,
-        series: &Series,
+        texts: Texts<'_>,
+        samples: &[(Word, i64)],
     ) -> Result<(), Verdict>
         requires { HoldsNoneRefused bounds.now self.old.staged }
         ensures kept { self.new.kept ≡ self.old.kept }
-        ensures staged { StoreGives result
-            (taken bounds.now self.old.staged series.now) self.new.staged }
+        ensures staged { StoreGives result (taken bounds.now self.old.staged
+            (record { labels = labels_of texts.entry; samples = samples.now })) self.new.staged }
     {
         let alloc = *self.lists.allocator();
-        let samples = series.samples.as_slice();
         if samples.is_empty() {
-            return bounds.take(labels, &series.labels);
+            return bounds.judge(alloc, texts);
         }
-        let found = self.places.find(alloc, labels, bounds, &series.labels)?;
+        let found = self.places.find(alloc, bounds, texts)?;
         if !has_room(self.count + self.staged_count, samples.len()) {
             return Err(Verdict::NoMemory);
         }
@@ -303,6 +303,20 @@ impl Table {
             }
             Found::Named(name) => self.stage_named(alloc, name, samples),
         }
+    }
+
+    /// Stages a series that the caller keeps, as `stage` does.
+    pub(crate) fn stage_lent(
+        &mut self,
+        bounds: &LabelBounds,
+        series: &Series,
+    ) -> Result<(), Verdict>
+        requires { HoldsNoneRefused bounds.now self.old.staged }
+        ensures kept { self.new.kept ≡ self.old.kept }
+        ensures staged { StoreGives result
+            (taken bounds.now self.old.staged series.now) self.new.staged }
+    {
+        self.stage(bounds, Texts::Lent(&series.labels), &series.samples)
     }
 
     /// Stages a series from its bytes, if they begin with the head of the label set that is

@@ -1,13 +1,13 @@
-use Rattle.std.proofs.Common.{◌≡◌, length, map, get_or, ap, subst, sym, ◌∙◌, arith}
+use Rattle.std.proofs.Common.{◌≡◌, length, get_or, refl, ap, subst, sym, ◌∙◌, arith}
 use Rattle.std.proofs.lemmas.List.{length-set}
 use Rattle.std.specs.BTreeMap.{get}
-use Rattle.rw_types.specs.Labels.{text_label}
 use Rattle.rw_types.specs.LabelOrder.{labels_cmp}
-use Rattle.rw_write_request.specs.Texts.{series_of_texts}
+use Rattle.rw_write_request.specs.Message.{TimeSeries}
 use Rattle.rw_head.specs.inner.Finds.{Finds}
 use Rattle.rw_head.specs.Order.{points}
 use Rattle.rw_head.specs.Store.{list_of, with_list}
 use Rattle.rw_head.specs.inner.Growth.{HoldsNoneRefused}
+use Rattle.rw_head.specs.inner.Texts.{labels_of}
 use Rattle.rw_head.specs.Lists.{no_lists}
 use Rattle.rw_head.proofs.PlaceLemmas.{none_refused, staged_few}
 use Rattle.rw_head.proofs.shared.StagingLemmas.{taken_by, judged_alone, staged-same}
@@ -16,12 +16,11 @@ use Rattle.rw_head.proofs.table.Table.stage.Goals as goal
 
 pub returns-then-is_empty-clause-staged : goal.returns-then-is_empty-clause-staged
 returns-then-is_empty-clause-staged c =
-    let l = map text_label c.deref.result.now in
-    let ss = c.as_slice-samples.result.now in
-    let shown = ap (λ ts. series_of_texts ts ss) c.deref.ensures.value ∙ ap (series_of_texts c.series.inside.labels.items) c.as_slice-samples.ensures.value ∙ c.series.view_is in
-    judged_alone c.take.result c.args.bounds.now c.args.self.now.staged (series_of_texts c.deref.result.now ss) c.args.series.now shown c.if-is_empty.ensures
+    let l = labels_of c.args.texts in
+    let series : TimeSeries = record { labels = l; samples = c.args.samples.now } in
+    judged_alone c.judge.result c.args.bounds.now c.args.self.now.staged series series refl c.if-is_empty.ensures
     (subst (λ s. with_list l (list_of s l) s ≡ s) (ap (λ s. s.staged) c.self.view_is) (staged-same c.self.inside.places.tree c.self.inside.lists.items l))
-    c.take.ensures.taken c.take.ensures.err
+    c.judge.ensures.taken c.judge.ensures.err
 
 pub find-requires : goal.find-requires
 find-requires c =
@@ -30,7 +29,7 @@ find-requires c =
 
 pub stage_held-requires-clause-room : goal.stage_held-requires-clause-room
 stage_held-requires-clause-room c =
-    let l = map text_label c.deref-2.result.now in
+    let l = labels_of c.args.texts in
     let found = subst (λ f. Finds f l (get labels_cmp c.self.inside.places.tree l)) c.in-At.is c.in_ok-found.ensures.found in
     let few = staged_few c.self.inside.places.tree c.self.inside.lists.items l c.in-At.place found in
     let room = c.has_room.ensures.0 c.if-not-has_room.false in
@@ -43,23 +42,22 @@ stage_held-requires-clause-most c =
 
 pub invariant_of-self-in-At : goal.invariant_of-self-in-At
 invariant_of-self-in-At c =
-    let l = map text_label c.deref-2.result.now in
+    let l = labels_of c.args.texts in
     let found = subst (λ f. Finds f l (get labels_cmp c.self.inside.places.tree l)) c.in-At.is c.in_ok-found.ensures.found in
     let few = c.stage_held.ensures.few in
     let room = c.has_room.ensures.0 c.if-not-has_room.false in
-    let h = held_at c.stage_held.result l (points c.as_slice-samples.result.now) c.find.ensures.tree c.reserve.ensures.items c.self.invariant.0 (ap (λ s. s.staged) c.self.view_is) found c.stage_held.ensures.held c.stage_held.ensures.staged (omega (arith, few, room)) in
+    let h = held_at c.stage_held.result l (points c.args.samples.now) c.find.ensures.tree c.reserve.ensures.items c.self.invariant.0 (ap (λ s. s.staged) c.self.view_is) found c.stage_held.ensures.held c.stage_held.ensures.staged (omega (arith, few, room)) in
     let held = c.stage_held.ensures.held in
     (h.sound, omega (arith, c.self.invariant.1, ap length c.find.ensures.names, ap length held.list, length-set c.self.inside.lists.items c.in-At.place (get_or c.stage_held.new.lists.items c.in-At.place no_lists)))
 
 pub returns-in_ok-reserve-in-At : goal.returns-in_ok-reserve-in-At
 returns-in_ok-reserve-in-At c =
-    let l = map text_label c.deref-2.result.now in
+    let l = labels_of c.args.texts in
     let found = subst (λ f. Finds f l (get labels_cmp c.self.inside.places.tree l)) c.in-At.is c.in_ok-found.ensures.found in
     let few = c.stage_held.ensures.few in
     let room = c.has_room.ensures.0 c.if-not-has_room.false in
-    let h = held_at c.stage_held.result l (points c.as_slice-samples.result.now) c.find.ensures.tree c.reserve.ensures.items c.self.invariant.0 (ap (λ s. s.staged) c.self.view_is) found c.stage_held.ensures.held c.stage_held.ensures.staged (omega (arith, few, room)) in
-    let ss = c.as_slice-samples.result.now in
-    let shown = ap (λ ts. series_of_texts ts ss) c.deref-2.ensures.value ∙ ap (series_of_texts c.series.inside.labels.items) c.as_slice-samples.ensures.value ∙ c.series.view_is in record {
+    let h = held_at c.stage_held.result l (points c.args.samples.now) c.find.ensures.tree c.reserve.ensures.items c.self.invariant.0 (ap (λ s. s.staged) c.self.view_is) found c.stage_held.ensures.held c.stage_held.ensures.staged (omega (arith, few, room)) in
+    let series : TimeSeries = record { labels = l; samples = c.args.samples.now } in record {
       kept = h.kept ∙ ap (λ s. s.kept) c.self.view_is;
-      staged = taken_by c.stage_held.result c.args.bounds.now c.args.self.now.staged _ (series_of_texts c.deref-2.result.now ss) c.args.series.now shown c.in_ok-found.ensures.taken h.gives;
+      staged = taken_by c.stage_held.result c.args.bounds.now c.args.self.now.staged _ series series refl c.in_ok-found.ensures.taken h.gives;
     }
