@@ -1,7 +1,7 @@
 //! The command `receive` with a folder in which it keeps what it takes.
 
-use crate::bounds::service_of;
-use crate::ending::report_result;
+use crate::bounds::{service_of, stop_file_of};
+use crate::ending::{report_output_fault, report_result};
 use crate::reporting::is_watched;
 use crate::stopping::{report_write_error, stop_signal};
 use rw_follow::StopSignal;
@@ -176,11 +176,7 @@ fn stop_signal_of<R: Threads>(
     receiving: &Receiving<'_>,
     counters: &Arc<ReceiveCounters, Global>,
 ) -> Result<Arc<StopSignal, Global>, AllocError> {
-    let stop_file = match &receiving.until {
-        Until::FileIs(path) => Some(*path),
-        _ => None,
-    };
-    let signal = stop_signal(rt, threads, stop_file, None)?;
+    let signal = stop_signal(rt, threads, stop_file_of(receiving), None)?;
     report_write_error(
         rt,
         threads,
@@ -215,8 +211,8 @@ fn serve_until<R: Threads + Wait + Clock + Sync>(
     )
 }
 
-/// Serves connections for as long as asked for, over a head whose log is in a folder, and prints
-/// what it then holds if that is wanted. Returns the head.
+/// Serves connections for as long as asked for, over a head whose log is in a folder. Returns the
+/// head that they leave.
 pub fn serve_kept<R: Threads + Wait + Clock + Sync>(
     rt: &HostRuntime,
     threads: &R,
@@ -225,35 +221,61 @@ pub fn serve_kept<R: Threads + Wait + Clock + Sync>(
     receiving: &Receiving<'_>,
     counters: &Arc<ReceiveCounters, Global>,
     head: FolderHead,
-) -> Result<FolderHead, ToolFault> {
-    let served = match &receiving.until {
+) -> Result<FinalHead<FolderHead>, ToolFault> {
+    match &receiving.until {
         Until::Connections(_) => {
-            serve_some(rt, threads, limits, listener, receiving, counters, head)?
+            serve_some(rt, threads, limits, listener, receiving, counters, head)
         }
-        _ => serve_until(rt, threads, limits, listener, receiving, counters, head)?,
-    };
-    if !receiving.is_quiet {
-        served.print(rt.alloc(), &mut Std::new(rt.stdout()))?;
+        _ => serve_until(rt, threads, limits, listener, receiving, counters, head),
     }
-    Ok(served.into_holder())
 }
 
-/// Reports how keeping ended, and returns the exit status.
-pub fn report_kept(
+/// Prints what a folder holds, if that is wanted.
+fn print_held(
+    rt: &HostRuntime,
+    receiving: &Receiving<'_>,
+    served: &FinalHead<FolderHead>,
+) -> Result<(), ToolFault> {
+    if receiving.is_quiet {
+        return Ok(());
+    }
+    served.print(rt.alloc(), &mut Std::new(rt.stdout()))
+}
+
+/// Prints what a folder holds, if that is wanted, and reports how keeping ended. Returns the exit
+/// status.
+fn report_final(
     rt: &HostRuntime,
     dir: &str,
-    outcome: Result<FolderHead, ToolFault>,
+    receiving: &Receiving<'_>,
+    served: FinalHead<FolderHead>,
+    is_explained: bool,
 ) -> ExitCode {
-    let head = match outcome {
-        Ok(head) => head,
-        Err(fault) => return report_result(rt, Err(fault)),
+    let printed = print_held(rt, receiving, &served);
+    let head = served.into_holder();
+    let status = match printed {
+        Err(ToolFault::Device) => report_output_fault(rt, is_explained),
+        Err(fault) => report_result(rt, Err(fault)),
+        Ok(()) if head.fault().is_none() => ExitCode::SUCCESS,
+        Ok(()) => report_result(rt, Err(ToolFault::Device)),
     };
-    if head.fault().is_none() {
-        return ExitCode::SUCCESS;
-    }
-    let status = report_result(rt, Err(ToolFault::Device));
     if let Some(fault) = head.journal().files().fault() {
         let _ = eprintln!(rt; "  cannot keep samples in {dir}: {fault}");
     }
     status
+}
+
+/// Prints what a folder holds, if that is wanted, and reports how serving and keeping ended.
+/// Returns the exit status.
+pub fn report_kept(
+    rt: &HostRuntime,
+    dir: &str,
+    receiving: &Receiving<'_>,
+    outcome: Result<FinalHead<FolderHead>, ToolFault>,
+    is_explained: bool,
+) -> ExitCode {
+    match outcome {
+        Ok(served) => report_final(rt, dir, receiving, served, is_explained),
+        Err(fault) => report_result(rt, Err(fault)),
+    }
 }
