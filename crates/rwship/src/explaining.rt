@@ -82,6 +82,18 @@ fn print_unwritten(rt: &HostRuntime, dir: Option<&str>) {
     }
 }
 
+/// Says that the records of a log have no room in a segment, and what to do.
+fn print_segment_full(rt: &HostRuntime, dir: Option<&str>) {
+    let _ = match dir {
+        None => eprintln!(rt;
+            "  the records have no room in one segment; next: give more --pages, or --dir, which begins further segments"
+        ),
+        Some(_) => eprintln!(rt;
+            "  a record has no room in an empty segment; next: give more --pages"
+        ),
+    };
+}
+
 /// Ends as `report_result` does after a run over an input that wrote to a folder or, if there is
 /// none, to standard output. If the input was held, prints what is wrong: then a device that failed
 /// is not the input.
@@ -97,13 +109,12 @@ pub fn report_input_result(
             let status = report_result(rt, Err(fault));
             match (&input.text, fault) {
                 (Some(_), ToolFault::Device) => print_unwritten(rt, dir),
+                (Some(_), ToolFault::SegmentFull) => print_segment_full(rt, dir),
                 (Some(text), _) => {
                     let _ = print_input_fault(rt, input.form, text, fault);
                 }
-                (None, ToolFault::Log(_) | ToolFault::Line(_) | ToolFault::Device) => {
-                    point_to_explain(rt)
-                }
-                _ => {}
+                (None, ToolFault::OutOfMemory) => {}
+                (None, _) => point_to_explain(rt),
             }
             status
         }

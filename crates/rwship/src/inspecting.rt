@@ -16,7 +16,7 @@ use rw_types::{Sink, Std, write_all};
 use rw_words::LogDir;
 use std::alloc::{AllocError, Global};
 use std::fs;
-use std::io::IsTerminal;
+use std::io::{Error, IsTerminal, Read};
 use std::path::Path;
 use std::process::ExitCode;
 use std::rt::Stdout;
@@ -249,19 +249,30 @@ fn print_damage(rt: &HostRuntime, dir: LogDir<'_>) {
     }
 }
 
-/// Prints why a file of a folder cannot be opened, and returns whether that is so.
+/// Returns why a file cannot be opened, or its first byte not be read, if that is so.
+fn read_error(rt: &HostRuntime, path: &Path) -> Option<Error> {
+    match fs::open(rt, path) {
+        Ok(file) => {
+            let mut file = file;
+            file.read(&mut [0; 1]).err()
+        }
+        Err(error) => Some(error),
+    }
+}
+
+/// Prints why a file of a folder cannot be read, and returns whether that is so.
 fn print_closed(rt: &HostRuntime, dir: LogDir<'_>, name: &str) -> Result<bool, AllocError> {
     let path = Path::new(dir.path).join(rt.alloc(), name)?;
-    match fs::open(rt, path.as_path()) {
-        Ok(_) => Ok(false),
-        Err(error) => {
+    match read_error(rt, path.as_path()) {
+        None => Ok(false),
+        Some(error) => {
             print_device_error(rt, "read", path.as_path().as_str(), &error);
             Ok(true)
         }
     }
 }
 
-/// Prints the first of the files of a folder that cannot be opened.
+/// Prints the first of the files of a folder that cannot be read.
 fn print_first_closed(
     rt: &HostRuntime,
     dir: LogDir<'_>,

@@ -115,9 +115,48 @@ fn print_damage(rt: &HostRuntime, dir: &str, damage: &Damage, number: u64) {
     );
 }
 
-/// Reports why the log in a folder cannot be opened, and returns the exit status.
+/// Returns what to do if a folder cannot be used because of this error, or `None` if the text of
+/// the error says so.
+fn step_after_folder(error: &FolderError) -> Option<&'static str> {
+    match error {
+        FolderError::OutOfMemory | FolderError::ServerRuns | FolderError::LockUnreadable(_) => None,
+        FolderError::Missing(_) => {
+            Some("copy the missing segment there, or move all after it out of the folder")
+        }
+        FolderError::Twice(_) => Some("move one of the two out of the folder"),
+        FolderError::Checkpoint => {
+            Some("choose a folder that no Prometheus has written to; an empty one will do")
+        }
+        FolderError::Unreadable(_) | FolderError::Fault(_) => {
+            Some("make the folder and its files readable and writable, or choose another one")
+        }
+    }
+}
+
+/// Returns what to do if the log in a folder cannot be opened because of this error, or `None` if
+/// the text of the error says so.
+fn next_step(error: &KeepError) -> Option<&'static str> {
+    match error {
+        KeepError::InUse => Some("stop that one, or choose another folder"),
+        KeepError::Unlocked(_) => {
+            Some("see whether the folder exists and may be read; 'mkdir -p' makes one")
+        }
+        KeepError::Folder(error) => step_after_folder(error),
+        KeepError::Log(OpenError::Foreign(_), None) => {
+            Some("give the settings with which the folder was written, or another folder")
+        }
+        KeepError::Log(OpenError::NoReferenceLeft, None) => Some("choose another folder"),
+        KeepError::Log(_, Some(_)) => {
+            Some("see whether the disk is full or fails, and start the receiver again")
+        }
+        KeepError::Damaged(..) | KeepError::Log(..) => None,
+    }
+}
+
+/// Reports why the log in a folder cannot be opened, and what to do. Returns the exit status.
 pub fn report_keep_error(rt: &HostRuntime, dir: &str, error: KeepError) -> ExitCode {
     let status = report_result(rt, Err(fault_of(&error)));
+    let next = next_step(&error);
     let _ = match error {
         KeepError::InUse => eprintln!(rt; "  another receiver keeps samples in {dir}"),
         KeepError::Unlocked(error) => eprintln!(rt; "  cannot lock the folder {dir}: {error}"),
@@ -132,6 +171,9 @@ pub fn report_keep_error(rt: &HostRuntime, dir: &str, error: KeepError) -> ExitC
         }
         KeepError::Log(error, None) => eprintln!(rt; "  cannot keep samples in {dir}: {error}"),
     };
+    if let Some(next) = next {
+        let _ = eprintln!(rt; "  next: {next}");
+    }
     status
 }
 
@@ -230,6 +272,14 @@ pub fn serve_kept<R: Threads + Wait + Clock + Sync>(
     }
 }
 
+/// Says why nothing more could be kept in a folder, and what to do.
+fn print_write_fault(rt: &HostRuntime, dir: &str, fault: FolderFault) {
+    let _ = eprintln!(rt; "  cannot keep samples in {dir}: {fault}");
+    let _ = eprintln!(rt;
+        "  next: make room on its disk, or mend it, and start the receiver again; nothing acknowledged is lost"
+    );
+}
+
 /// Prints what a folder holds, if that is wanted.
 fn print_held(
     rt: &HostRuntime,
@@ -260,7 +310,7 @@ fn report_final(
         Ok(()) => report_result(rt, Err(ToolFault::Device)),
     };
     if let Some(fault) = head.journal().files().fault() {
-        let _ = eprintln!(rt; "  cannot keep samples in {dir}: {fault}");
+        print_write_fault(rt, dir, fault);
     }
     status
 }
