@@ -1,4 +1,4 @@
-//! The bounds of a receiver.
+//! The bounds of a receiver, and what stops it.
 
 use rw_head::Capacity;
 use rw_metrics::ReceiveCounters;
@@ -11,6 +11,14 @@ fn capacity_of(receiving: &Receiving<'_>) -> Capacity {
     Capacity {
         max_samples: receiving.max_samples.unwrap_or(u64::MAX),
         max_series: receiving.max_series.unwrap_or(u64::MAX),
+    }
+}
+
+/// Returns the file that stops a receiver, if it is to be stopped by one.
+pub fn stop_file_of<'a>(receiving: &Receiving<'a>) -> Option<&'a str> {
+    match &receiving.until {
+        Until::FileIs(path) => Some(*path),
+        _ => None,
     }
 }
 

@@ -102,6 +102,40 @@ pub fn point_to_explain(rt: &HostRuntime) {
     }
 }
 
+/// Says that standard output could not be written, and what to do.
+pub fn print_output_error(rt: &HostRuntime) {
+    let _ = eprintln!(rt;
+        "  cannot write to standard output; next: see whether its disk is full, or its reader has ended, and run again"
+    );
+}
+
+/// Reports that standard output could not be written, with more if that is asked for. Returns the
+/// exit status.
+pub fn report_output_fault(rt: &HostRuntime, is_explained: bool) -> ExitCode
+    ensures { process.exit_status result ≡ 4 }
+{
+    let status = report_result(rt, Err(ToolFault::Device));
+    if is_explained {
+        print_output_error(rt);
+    } else {
+        point_to_explain(rt);
+    }
+    status
+}
+
+/// Reports that standard input could not be read, and returns the exit status.
+pub fn report_unread_input(rt: &HostRuntime, fault: ToolFault) -> ExitCode
+    ensures { process.exit_status result ≡ exit_status fault }
+{
+    let status = report_result(rt, Err(fault));
+    if matches!(fault, ToolFault::Device) {
+        let _ = eprintln!(rt;
+            "  cannot read standard input; next: see whether it is a file or a pipe"
+        );
+    }
+    status
+}
+
 /// Prints what could not be done with what, and the error of the system.
 pub fn print_device_error(rt: &HostRuntime, action: &str, name: &str, error: &Error) {
     let _ = eprintln!(rt; "  cannot {action} {name}: {error}");

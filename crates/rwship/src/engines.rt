@@ -1,9 +1,9 @@
 //! The commands that read standard input, or a folder, and write what they make of it.
 
-use crate::ending::{print_device_error, report_result, report_settings_fault};
+use crate::ending::{report_settings_fault, report_unread_input};
 use crate::explaining::report_input_result;
 use crate::input::{Form, Input, Reader};
-use crate::inspecting::{log_fault, note_checkpoint, print_plan};
+use crate::inspecting::{note_checkpoint, print_plan, report_run_fault};
 use crate::settings::settings_in;
 use rw_log_commands::{run_body, run_log, run_log_dir, run_plan};
 use rw_replay::run_replay;
@@ -11,7 +11,6 @@ use rw_settings::Settings;
 use rw_text::ToolFault;
 use rw_types::{Bounded, Std};
 use rw_words::{LogDir, SettingsFile};
-use std::fs;
 use std::process::ExitCode;
 
 /// Writes the body of a segment.
@@ -20,9 +19,9 @@ pub fn body(rt: &HostRuntime, hex: bool, is_explained: bool) -> ExitCode {
         Ok(input) => {
             let mut output = Std::new(rt.stdout());
             let outcome = run_body(rt.alloc(), &mut input.reader(rt), &mut output, hex);
-            report_input_result(rt, &input, outcome)
+            report_input_result(rt, &input, None, outcome)
         }
-        Err(fault) => report_result(rt, Err(fault)),
+        Err(fault) => report_unread_input(rt, fault),
     }
 }
 
@@ -44,17 +43,8 @@ fn log_from(
     }
 }
 
-/// Prints why a folder to which a log was to be written cannot be listed, if that is so.
-fn print_unlisted(rt: &HostRuntime, dir: Option<&str>) {
-    if let Some(dir) = dir {
-        if let Err(error) = fs::read_dir(rt, dir) {
-            print_device_error(rt, "write to", dir, &error);
-        }
-    }
-}
-
 /// Writes the log that standard input describes. If `--explain` was given, prints what is wrong
-/// with a bad line.
+/// with a bad line, or with a folder or an output that cannot be written.
 pub fn log(
     rt: &HostRuntime,
     hex: bool,
@@ -65,14 +55,9 @@ pub fn log(
     match Input::open(rt, Form::LogText, is_explained) {
         Ok(input) => {
             let outcome = log_from(rt, &mut input.reader(rt), hex, pages, dir);
-            let is_device = matches!(outcome, Err(ToolFault::Device));
-            let status = report_input_result(rt, &input, outcome);
-            if is_device && is_explained {
-                print_unlisted(rt, dir);
-            }
-            status
+            report_input_result(rt, &input, dir, outcome)
         }
-        Err(fault) => report_result(rt, Err(fault)),
+        Err(fault) => report_unread_input(rt, fault),
     }
 }
 
@@ -86,9 +71,10 @@ fn plan_folder(
     if is_explained {
         note_checkpoint(rt, dir);
     }
-    match print_plan(rt, dir, settings) {
+    let mut output = Std::new(rt.stdout());
+    match print_plan(rt, dir, settings, is_explained, &mut output) {
         Ok(()) => ExitCode::SUCCESS,
-        Err(fault) => log_fault(rt, dir, fault, is_explained),
+        Err(fault) => report_run_fault(rt, &mut output, dir, fault, is_explained),
     }
 }
 
@@ -99,9 +85,9 @@ fn plan_segment(rt: &HostRuntime, settings: Settings, hex: bool, is_explained: b
             let mut reader = input.reader(rt);
             let mut output = Std::new(rt.stdout());
             let outcome = run_plan(rt.alloc(), &mut reader, &mut output, settings, hex);
-            report_input_result(rt, &input, outcome)
+            report_input_result(rt, &input, None, outcome)
         }
-        Err(fault) => report_result(rt, Err(fault)),
+        Err(fault) => report_unread_input(rt, fault),
     }
 }
 
@@ -128,9 +114,9 @@ fn play(rt: &HostRuntime, settings: Settings, is_explained: bool) -> ExitCode {
             let mut reader = input.reader(rt);
             let mut output = Std::new(rt.stdout());
             let outcome = run_replay(rt.alloc(), &mut reader, &mut output, settings);
-            report_input_result(rt, &input, outcome)
+            report_input_result(rt, &input, None, outcome)
         }
-        Err(fault) => report_result(rt, Err(fault)),
+        Err(fault) => report_unread_input(rt, fault),
     }
 }
 

@@ -1,11 +1,12 @@
 //! What `--explain` prints about an input that has a fault, after the one line.
 
-use crate::ending::{point_to_explain, report_result};
+use crate::ending::{point_to_explain, print_device_error, print_output_error, report_result};
 use crate::input::{Form, Input, Reader};
 use crate::inspecting::{inspect_segment, print_damage_report};
 use rw_replay::{log_line_note, numbered_line, script_line_note, shown_line};
 use rw_text::ToolFault;
 use std::alloc::AllocError;
+use std::fs;
 use std::process::ExitCode;
 
 /// The note on a line that is not made of digits.
@@ -65,11 +66,41 @@ fn print_input_fault(
     }
 }
 
-/// Ends as `report_result` does after a run over an input. If the input was held, prints what is
-/// wrong with it.
+/// Says that a folder, or standard output if there is none, could not be written.
+fn print_unwritten(rt: &HostRuntime, dir: Option<&str>) {
+    let Some(dir) = dir else {
+        print_output_error(rt);
+        return;
+    };
+    match fs::read_dir(rt, dir) {
+        Ok(_) => {
+            let _ = eprintln!(rt;
+                "  cannot write a segment into {dir}; next: see whether it may be written, and whether its disk is full"
+            );
+        }
+        Err(error) => print_device_error(rt, "write to", dir, &error),
+    }
+}
+
+/// Says that the records of a log have no room in a segment, and what to do.
+fn print_segment_full(rt: &HostRuntime, dir: Option<&str>) {
+    let _ = match dir {
+        None => eprintln!(rt;
+            "  the records have no room in one segment; next: give more --pages, or --dir, which begins further segments"
+        ),
+        Some(_) => eprintln!(rt;
+            "  a record has no room in an empty segment; next: give more --pages"
+        ),
+    };
+}
+
+/// Ends as `report_result` does after a run over an input that wrote to a folder or, if there is
+/// none, to standard output. If the input was held, prints what is wrong: then a device that failed
+/// is not the input.
 pub fn report_input_result(
     rt: &HostRuntime,
     input: &Input,
+    dir: Option<&str>,
     outcome: Result<(), ToolFault>,
 ) -> ExitCode {
     match outcome {
@@ -77,11 +108,13 @@ pub fn report_input_result(
         Err(fault) => {
             let status = report_result(rt, Err(fault));
             match (&input.text, fault) {
+                (Some(_), ToolFault::Device) => print_unwritten(rt, dir),
+                (Some(_), ToolFault::SegmentFull) => print_segment_full(rt, dir),
                 (Some(text), _) => {
                     let _ = print_input_fault(rt, input.form, text, fault);
                 }
-                (None, ToolFault::Log(_) | ToolFault::Line(_)) => point_to_explain(rt),
-                _ => {}
+                (None, ToolFault::OutOfMemory) => {}
+                (None, _) => point_to_explain(rt),
             }
             status
         }

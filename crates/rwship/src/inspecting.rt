@@ -1,6 +1,8 @@
 //! The command `inspect`, and what other commands print about a log that they could not read.
 
-use crate::ending::{point_to_explain, print_device_error, report_follow_fault};
+use crate::ending::{
+    point_to_explain, print_device_error, report_follow_fault, report_output_fault,
+};
 use crate::input::Reader;
 use rw_inspect::{Report, find_entries, inspect, json_of, table_of};
 use rw_log_commands::plan_log;
@@ -10,12 +12,14 @@ use rw_metrics::SendCounters;
 use rw_send::FollowFault;
 use rw_settings::Settings;
 use rw_text::ToolFault;
-use rw_types::{Std, write_all};
+use rw_types::{Sink, Std, write_all};
 use rw_words::LogDir;
 use std::alloc::{AllocError, Global};
 use std::fs;
+use std::io::{Error, IsTerminal, Read};
 use std::path::Path;
 use std::process::ExitCode;
+use std::rt::Stdout;
 use std::sync::Arc;
 
 /// Returns the files of the log in a folder, which the counters count.
@@ -74,9 +78,35 @@ fn named_files(
     Ok(named)
 }
 
-/// Reads the segments of a folder.
-fn inspect_folder(rt: &HostRuntime, dir: LogDir<'_>) -> Result<Report, FollowFault> {
+/// Reports that a folder has no segment, if that is asked for, or on a terminal.
+pub fn note_empty(rt: &HostRuntime, dir: LogDir<'_>, is_asked_for: bool) {
+    if is_asked_for || rt.stderr().is_terminal() {
+        let path = dir.path;
+        let _ = eprintln!(rt;
+            "rwship: no segment in {path} (names of one to eight digits); is it the folder 'wal' of Prometheus?"
+        );
+    }
+}
+
+/// Returns the files of the log in a folder, each with its name. If there is none, that is reported
+/// as `note_empty` does.
+fn files_to_print(
+    rt: &HostRuntime,
+    dir: LogDir<'_>,
+    is_explained: bool,
+) -> Result<Vec<Named<Opened<SegmentFile<HostRuntime>>>>, FollowFault> {
     let files = named_files(rt, dir)?;
+    if files.is_empty() {
+        note_empty(rt, dir, is_explained);
+    }
+    Ok(files)
+}
+
+/// Reads segments of a folder.
+fn inspect_files(
+    rt: &HostRuntime,
+    files: Vec<Named<Opened<SegmentFile<HostRuntime>>>>,
+) -> Result<Report, FollowFault> {
     match inspect(rt.alloc(), files) {
         Ok(report) => Ok(report),
         Err(fault) => Err(FollowFault::Tool(ToolFault::from(fault))),
@@ -100,12 +130,17 @@ fn fault_of(damage: Option<Damage>) -> Result<(), ToolFault> {
 }
 
 /// Writes a text to standard output.
-fn print_text(rt: &HostRuntime, text: &[u8]) -> Result<(), ToolFault> {
-    Ok(write_all(&mut Std::new(rt.stdout()), text)?)
+fn print_text(output: &mut Std<Stdout>, text: &[u8]) -> Result<(), ToolFault> {
+    Ok(write_all(output, text)?)
 }
 
 /// Prints the records that were passed over, a line for each type.
-fn print_skipped(rt: &HostRuntime, report: &Report, json: bool) -> Result<(), ToolFault> {
+fn print_skipped(
+    rt: &HostRuntime,
+    report: &Report,
+    json: bool,
+    output: &mut Std<Stdout>,
+) -> Result<(), ToolFault> {
     for SkippedRecords { kind, count } in &report.skipped {
         let name = kind.name();
         let line = if json {
@@ -115,20 +150,25 @@ fn print_skipped(rt: &HostRuntime, report: &Report, json: bool) -> Result<(), To
         } else {
             format!(in rt.alloc(); "skipped {name} {count}\n")?
         };
-        print_text(rt, line.as_bytes())?;
+        print_text(output, line.as_bytes())?;
     }
     Ok(())
 }
 
 /// Prints a report, and returns the fault of its log.
-fn print_report(rt: &HostRuntime, report: &Report, json: bool) -> Result<(), ToolFault> {
+fn print_report(
+    rt: &HostRuntime,
+    report: &Report,
+    json: bool,
+    output: &mut Std<Stdout>,
+) -> Result<(), ToolFault> {
     let text = if json {
         json_of(rt.alloc(), report)?
     } else {
         table_of(rt.alloc(), report)?
     };
-    print_text(rt, &text)?;
-    print_skipped(rt, report, json)?;
+    print_text(output, &text)?;
+    print_skipped(rt, report, json, output)?;
     fault_of(report.damage)
 }
 
@@ -138,12 +178,14 @@ pub fn print_inspected(
     rt: &HostRuntime,
     dir: Option<LogDir<'_>>,
     json: bool,
+    is_explained: bool,
+    output: &mut Std<Stdout>,
 ) -> Result<(), FollowFault> {
     let report = match dir {
-        Some(dir) => inspect_folder(rt, dir)?,
+        Some(dir) => inspect_files(rt, files_to_print(rt, dir, is_explained)?)?,
         None => inspect_segment(rt, Reader::Live(Std::new(rt.stdin())))?,
     };
-    Ok(print_report(rt, &report, json)?)
+    Ok(print_report(rt, &report, json, output)?)
 }
 
 /// Prints the plan of the segments of a folder.
@@ -151,11 +193,12 @@ pub fn print_plan(
     rt: &HostRuntime,
     dir: LogDir<'_>,
     settings: Settings,
+    is_explained: bool,
+    output: &mut Std<Stdout>,
 ) -> Result<(), FollowFault> {
-    let mut log = SegmentList::new(named_files(rt, dir)?);
+    let mut log = SegmentList::new(files_to_print(rt, dir, is_explained)?);
     let choice = settings.config.into_fields().into_choice();
-    let mut output = Std::new(rt.stdout());
-    Ok(plan_log(rt.alloc(), &mut log, &mut output, choice)?)
+    Ok(plan_log(rt.alloc(), &mut log, output, choice)?)
 }
 
 /// Prints the entries at positions of the log in a folder, and returns how many do not exist. A
@@ -164,13 +207,15 @@ pub fn print_found(
     rt: &HostRuntime,
     dir: LogDir<'_>,
     positions: Vec<u64>,
+    is_explained: bool,
+    output: &mut Std<Stdout>,
 ) -> Result<u64, FollowFault> {
-    let files = named_files(rt, dir)?;
+    let files = files_to_print(rt, dir, is_explained)?;
     let found = match find_entries(rt.alloc(), files, positions) {
         Ok(found) => found,
         Err(fault) => return Err(FollowFault::Tool(ToolFault::from(fault))),
     };
-    print_text(rt, &found.text)?;
+    print_text(output, &found.text)?;
     fault_of(found.damage)?;
     Ok(found.missing)
 }
@@ -197,24 +242,37 @@ pub fn print_damage_report(rt: &HostRuntime, report: &Report) -> Result<(), Allo
 
 /// Prints the fault of the log in a folder, which is read once more for that.
 fn print_damage(rt: &HostRuntime, dir: LogDir<'_>) {
-    if let Ok(report) = inspect_folder(rt, dir) {
-        let _ = print_damage_report(rt, &report);
+    if let Ok(files) = named_files(rt, dir) {
+        if let Ok(report) = inspect_files(rt, files) {
+            let _ = print_damage_report(rt, &report);
+        }
     }
 }
 
-/// Prints why a file of a folder cannot be opened, and returns whether that is so.
+/// Returns why a file cannot be opened, or its first byte not be read, if that is so.
+fn read_error(rt: &HostRuntime, path: &Path) -> Option<Error> {
+    match fs::open(rt, path) {
+        Ok(file) => {
+            let mut file = file;
+            file.read(&mut [0; 1]).err()
+        }
+        Err(error) => Some(error),
+    }
+}
+
+/// Prints why a file of a folder cannot be read, and returns whether that is so.
 fn print_closed(rt: &HostRuntime, dir: LogDir<'_>, name: &str) -> Result<bool, AllocError> {
     let path = Path::new(dir.path).join(rt.alloc(), name)?;
-    match fs::open(rt, path.as_path()) {
-        Ok(_) => Ok(false),
-        Err(error) => {
+    match read_error(rt, path.as_path()) {
+        None => Ok(false),
+        Some(error) => {
             print_device_error(rt, "read", path.as_path().as_str(), &error);
             Ok(true)
         }
     }
 }
 
-/// Prints the first of the files of a folder that cannot be opened.
+/// Prints the first of the files of a folder that cannot be read.
 fn print_first_closed(
     rt: &HostRuntime,
     dir: LogDir<'_>,
@@ -278,4 +336,25 @@ pub fn log_fault(
         _ => {}
     }
     status
+}
+
+/// Returns whether a standard output that was written to has failed: then a write of no byte fails.
+pub fn has_output_failed(output: &mut Std<Stdout>) -> bool {
+    output.write(b"").is_err()
+}
+
+/// Reports as `log_fault` does why a run over the log in a folder has failed or, if that is why,
+/// that standard output could not be written. Returns the exit status.
+pub fn report_run_fault(
+    rt: &HostRuntime,
+    output: &mut Std<Stdout>,
+    dir: LogDir<'_>,
+    fault: FollowFault,
+    is_explained: bool,
+) -> ExitCode {
+    if has_output_failed(output) {
+        report_output_fault(rt, is_explained)
+    } else {
+        log_fault(rt, dir, fault, is_explained)
+    }
 }

@@ -1,7 +1,7 @@
 //! The command `receive` with a folder in which it keeps what it takes.
 
-use crate::bounds::service_of;
-use crate::ending::report_result;
+use crate::bounds::{service_of, stop_file_of};
+use crate::ending::{report_output_fault, report_result};
 use crate::reporting::is_watched;
 use crate::stopping::{report_write_error, stop_signal};
 use rw_follow::StopSignal;
@@ -115,9 +115,48 @@ fn print_damage(rt: &HostRuntime, dir: &str, damage: &Damage, number: u64) {
     );
 }
 
-/// Reports why the log in a folder cannot be opened, and returns the exit status.
+/// Returns what to do if a folder cannot be used because of this error, or `None` if the text of
+/// the error says so.
+fn step_after_folder(error: &FolderError) -> Option<&'static str> {
+    match error {
+        FolderError::OutOfMemory | FolderError::ServerRuns | FolderError::LockUnreadable(_) => None,
+        FolderError::Missing(_) => {
+            Some("copy the missing segment there, or move all after it out of the folder")
+        }
+        FolderError::Twice(_) => Some("move one of the two out of the folder"),
+        FolderError::Checkpoint => {
+            Some("choose a folder that no Prometheus has written to; an empty one will do")
+        }
+        FolderError::Unreadable(_) | FolderError::Fault(_) => {
+            Some("make the folder and its files readable and writable, or choose another one")
+        }
+    }
+}
+
+/// Returns what to do if the log in a folder cannot be opened because of this error, or `None` if
+/// the text of the error says so.
+fn next_step(error: &KeepError) -> Option<&'static str> {
+    match error {
+        KeepError::InUse => Some("stop that one, or choose another folder"),
+        KeepError::Unlocked(_) => {
+            Some("see whether the folder exists and may be read; 'mkdir -p' makes one")
+        }
+        KeepError::Folder(error) => step_after_folder(error),
+        KeepError::Log(OpenError::Foreign(_), None) => {
+            Some("give the settings with which the folder was written, or another folder")
+        }
+        KeepError::Log(OpenError::NoReferenceLeft, None) => Some("choose another folder"),
+        KeepError::Log(_, Some(_)) => {
+            Some("see whether the disk is full or fails, and start the receiver again")
+        }
+        KeepError::Damaged(..) | KeepError::Log(..) => None,
+    }
+}
+
+/// Reports why the log in a folder cannot be opened, and what to do. Returns the exit status.
 pub fn report_keep_error(rt: &HostRuntime, dir: &str, error: KeepError) -> ExitCode {
     let status = report_result(rt, Err(fault_of(&error)));
+    let next = next_step(&error);
     let _ = match error {
         KeepError::InUse => eprintln!(rt; "  another receiver keeps samples in {dir}"),
         KeepError::Unlocked(error) => eprintln!(rt; "  cannot lock the folder {dir}: {error}"),
@@ -132,6 +171,9 @@ pub fn report_keep_error(rt: &HostRuntime, dir: &str, error: KeepError) -> ExitC
         }
         KeepError::Log(error, None) => eprintln!(rt; "  cannot keep samples in {dir}: {error}"),
     };
+    if let Some(next) = next {
+        let _ = eprintln!(rt; "  next: {next}");
+    }
     status
 }
 
@@ -176,11 +218,7 @@ fn stop_signal_of<R: Threads>(
     receiving: &Receiving<'_>,
     counters: &Arc<ReceiveCounters, Global>,
 ) -> Result<Arc<StopSignal, Global>, AllocError> {
-    let stop_file = match &receiving.until {
-        Until::FileIs(path) => Some(*path),
-        _ => None,
-    };
-    let signal = stop_signal(rt, threads, stop_file, None)?;
+    let signal = stop_signal(rt, threads, stop_file_of(receiving), None)?;
     report_write_error(
         rt,
         threads,
@@ -215,8 +253,8 @@ fn serve_until<R: Threads + Wait + Clock + Sync>(
     )
 }
 
-/// Serves connections for as long as asked for, over a head whose log is in a folder, and prints
-/// what it then holds if that is wanted. Returns the head.
+/// Serves connections for as long as asked for, over a head whose log is in a folder. Returns the
+/// head that they leave.
 pub fn serve_kept<R: Threads + Wait + Clock + Sync>(
     rt: &HostRuntime,
     threads: &R,
@@ -225,35 +263,69 @@ pub fn serve_kept<R: Threads + Wait + Clock + Sync>(
     receiving: &Receiving<'_>,
     counters: &Arc<ReceiveCounters, Global>,
     head: FolderHead,
-) -> Result<FolderHead, ToolFault> {
-    let served = match &receiving.until {
+) -> Result<FinalHead<FolderHead>, ToolFault> {
+    match &receiving.until {
         Until::Connections(_) => {
-            serve_some(rt, threads, limits, listener, receiving, counters, head)?
+            serve_some(rt, threads, limits, listener, receiving, counters, head)
         }
-        _ => serve_until(rt, threads, limits, listener, receiving, counters, head)?,
-    };
-    if !receiving.is_quiet {
-        served.print(rt.alloc(), &mut Std::new(rt.stdout()))?;
+        _ => serve_until(rt, threads, limits, listener, receiving, counters, head),
     }
-    Ok(served.into_holder())
 }
 
-/// Reports how keeping ended, and returns the exit status.
+/// Says why nothing more could be kept in a folder, and what to do.
+fn print_write_fault(rt: &HostRuntime, dir: &str, fault: FolderFault) {
+    let _ = eprintln!(rt; "  cannot keep samples in {dir}: {fault}");
+    let _ = eprintln!(rt;
+        "  next: make room on its disk, or mend it, and start the receiver again; nothing acknowledged is lost"
+    );
+}
+
+/// Prints what a folder holds, if that is wanted.
+fn print_held(
+    rt: &HostRuntime,
+    receiving: &Receiving<'_>,
+    served: &FinalHead<FolderHead>,
+) -> Result<(), ToolFault> {
+    if receiving.is_quiet {
+        return Ok(());
+    }
+    served.print(rt.alloc(), &mut Std::new(rt.stdout()))
+}
+
+/// Prints what a folder holds, if that is wanted, and reports how keeping ended. Returns the exit
+/// status.
+fn report_final(
+    rt: &HostRuntime,
+    dir: &str,
+    receiving: &Receiving<'_>,
+    served: FinalHead<FolderHead>,
+    is_explained: bool,
+) -> ExitCode {
+    let printed = print_held(rt, receiving, &served);
+    let head = served.into_holder();
+    let status = match printed {
+        Err(ToolFault::Device) => report_output_fault(rt, is_explained),
+        Err(fault) => report_result(rt, Err(fault)),
+        Ok(()) if head.fault().is_none() => ExitCode::SUCCESS,
+        Ok(()) => report_result(rt, Err(ToolFault::Device)),
+    };
+    if let Some(fault) = head.journal().files().fault() {
+        print_write_fault(rt, dir, fault);
+    }
+    status
+}
+
+/// Prints what a folder holds, if that is wanted, and reports how serving and keeping ended.
+/// Returns the exit status.
 pub fn report_kept(
     rt: &HostRuntime,
     dir: &str,
-    outcome: Result<FolderHead, ToolFault>,
+    receiving: &Receiving<'_>,
+    outcome: Result<FinalHead<FolderHead>, ToolFault>,
+    is_explained: bool,
 ) -> ExitCode {
-    let head = match outcome {
-        Ok(head) => head,
-        Err(fault) => return report_result(rt, Err(fault)),
-    };
-    if head.fault().is_none() {
-        return ExitCode::SUCCESS;
+    match outcome {
+        Ok(served) => report_final(rt, dir, receiving, served, is_explained),
+        Err(fault) => report_result(rt, Err(fault)),
     }
-    let status = report_result(rt, Err(ToolFault::Device));
-    if let Some(fault) = head.journal().files().fault() {
-        let _ = eprintln!(rt; "  cannot keep samples in {dir}: {fault}");
-    }
-    status
 }

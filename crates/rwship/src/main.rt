@@ -17,10 +17,11 @@ mod stopping;
 use clap::ArgMatches;
 use ending::{
     report_bad_address, report_bad_arguments, report_follow_fault, report_missing,
-    report_parse_error, report_result, report_settings_fault,
+    report_output_fault, report_parse_error, report_result, report_settings_fault,
+    report_unread_input,
 };
 use engines::{body, log, plan, replay};
-use inspecting::{log_fault, print_found, print_inspected};
+use inspecting::{has_output_failed, print_found, print_inspected, report_run_fault};
 use receiving::receive;
 use rw_send::FollowFault;
 use rw_text::ToolFault;
@@ -31,6 +32,7 @@ use settings::settings_text;
 use std::env;
 use std::io::ErrorKind;
 use std::process::ExitCode;
+use std::rt::Stdout;
 use std::sync::Wait;
 use std::thread::Threads;
 use std::time::Clock;
@@ -39,20 +41,35 @@ use std::time::Clock;
 fn print_settings(rt: &HostRuntime, settings: SettingsFile<'_>) -> ExitCode {
     let mut output = Std::new(rt.stdout());
     match settings_text(rt, settings) {
-        Ok(text) => {
-            let outcome = write_all(&mut output, text.as_bytes());
-            report_result(rt, outcome.map_err(ToolFault::from))
-        }
+        Ok(text) => match write_all(&mut output, text.as_bytes()) {
+            Ok(()) => ExitCode::SUCCESS,
+            Err(_) => report_output_fault(rt, settings.is_explained),
+        },
         Err(fault) => report_settings_fault(rt, fault),
+    }
+}
+
+/// Reports why the segment on standard input could not be inspected. Its damage is printed already.
+fn report_uninspected(rt: &HostRuntime, output: &mut Std<Stdout>, fault: FollowFault) -> ExitCode {
+    if has_output_failed(output) {
+        return report_output_fault(rt, true);
+    }
+    match fault {
+        FollowFault::Tool(fault) => report_unread_input(rt, fault),
+        _ => report_follow_fault(rt, fault),
     }
 }
 
 /// Prints what a log holds, the one in a folder or the segment on standard input.
 fn inspect(rt: &HostRuntime, dir: Option<LogDir<'_>>, json: bool, is_explained: bool) -> ExitCode {
-    match (print_inspected(rt, dir, json), dir) {
+    let mut output = Std::new(rt.stdout());
+    match (
+        print_inspected(rt, dir, json, is_explained, &mut output),
+        dir,
+    ) {
         (Ok(()), _) => ExitCode::SUCCESS,
-        (Err(fault), Some(dir)) => log_fault(rt, dir, fault, is_explained),
-        (Err(fault), None) => report_follow_fault(rt, fault),
+        (Err(fault), Some(dir)) => report_run_fault(rt, &mut output, dir, fault, is_explained),
+        (Err(fault), None) => report_uninspected(rt, &mut output, fault),
     }
 }
 
@@ -61,17 +78,20 @@ fn find_positions(
     rt: &HostRuntime,
     dir: LogDir<'_>,
     words: &ArgMatches<'_>,
+    is_explained: bool,
+    output: &mut Std<Stdout>,
 ) -> Result<u64, FollowFault> {
     let positions = positions_of(rt.alloc(), words)?;
-    print_found(rt, dir, positions)
+    print_found(rt, dir, positions, is_explained, output)
 }
 
 /// Prints the entries at positions of the log in a folder.
 fn find(rt: &HostRuntime, dir: LogDir<'_>, words: &ArgMatches<'_>, is_explained: bool) -> ExitCode {
-    match find_positions(rt, dir, words) {
+    let mut output = Std::new(rt.stdout());
+    match find_positions(rt, dir, words, is_explained, &mut output) {
         Ok(0) => ExitCode::SUCCESS,
         Ok(count) => report_missing(rt, count),
-        Err(fault) => log_fault(rt, dir, fault, is_explained),
+        Err(fault) => report_run_fault(rt, &mut output, dir, fault, is_explained),
     }
 }
 

@@ -1,7 +1,10 @@
 //! The command `receive`.
 
-use crate::bounds::service_of;
-use crate::ending::{point_to_explain, report_misplaced, report_result, report_settings_fault};
+use crate::bounds::{service_of, stop_file_of};
+use crate::ending::{
+    point_to_explain, report_misplaced, report_output_fault, report_result, report_settings_fault,
+};
+use crate::inspecting::has_output_failed;
 use crate::keeping::{
     FolderHead, lock_folder, open_head, report_keep_error, report_kept, report_opened, serve_kept,
 };
@@ -9,7 +12,7 @@ use crate::reporting::{begin_reporting, end_reporting, print_listen_error};
 use crate::settings::settings_in;
 use crate::stopping::{is_misplaced, stop_signal};
 use rw_metrics::{Counters, ReceiveCounters};
-use rw_receive::{run_receive, run_receive_until};
+use rw_receive::{FinalHead, run_receive, run_receive_until};
 use rw_settings::Settings;
 use rw_text::ToolFault;
 use rw_types::Std;
@@ -17,6 +20,7 @@ use rw_words::{Receiving, SettingsFile, Until};
 use std::alloc::{AllocError, Global};
 use std::net::TcpListener;
 use std::process::ExitCode;
+use std::rt::Stdout;
 use std::sync::{Arc, Wait};
 use std::thread::Threads;
 use std::time::Clock;
@@ -28,11 +32,10 @@ fn serve_until<R: Threads + Wait + Clock + Sync>(
     settings: &Settings,
     listener: TcpListener,
     receiving: &Receiving<'_>,
-    stop_file: Option<&str>,
     counters: &ReceiveCounters,
+    output: &mut Std<Stdout>,
 ) -> Result<(), ToolFault> {
-    let signal = stop_signal(rt, threads, stop_file, None)?;
-    let mut output = Std::new(rt.stdout());
+    let signal = stop_signal(rt, threads, stop_file_of(receiving), None)?;
     let service = service_of(receiving, counters);
     run_receive_until(
         threads,
@@ -41,7 +44,7 @@ fn serve_until<R: Threads + Wait + Clock + Sync>(
         service,
         &signal,
         listener,
-        &mut output,
+        output,
     )
 }
 
@@ -53,17 +56,10 @@ fn serve_some<R: Threads + Wait + Clock + Sync>(
     listener: TcpListener,
     receiving: &Receiving<'_>,
     counters: &ReceiveCounters,
+    output: &mut Std<Stdout>,
 ) -> Result<(), ToolFault> {
-    let mut output = Std::new(rt.stdout());
     let service = service_of(receiving, counters);
-    run_receive(
-        threads,
-        rt.alloc(),
-        settings,
-        service,
-        listener,
-        &mut output,
-    )
+    run_receive(threads, rt.alloc(), settings, service, listener, output)
 }
 
 /// Serves connections for as long as asked for, and prints what the head holds.
@@ -74,17 +70,14 @@ fn serve<R: Threads + Wait + Clock + Sync>(
     listener: TcpListener,
     receiving: &Receiving<'_>,
     counters: &ReceiveCounters,
+    output: &mut Std<Stdout>,
 ) -> Result<(), ToolFault> {
-    let stop_file = match &receiving.until {
+    match &receiving.until {
         Until::Connections(_) => {
-            return serve_some(rt, threads, settings, listener, receiving, counters);
+            serve_some(rt, threads, settings, listener, receiving, counters, output)
         }
-        Until::InputEnds => None,
-        Until::FileIs(path) => Some(*path),
-    };
-    serve_until(
-        rt, threads, settings, listener, receiving, stop_file, counters,
-    )
+        _ => serve_until(rt, threads, settings, listener, receiving, counters, output),
+    }
 }
 
 /// Returns counters that have counted nothing.
@@ -122,12 +115,34 @@ fn serve_and_report<R: Threads + Wait + Clock + Sync>(
     settings: &Settings,
     listener: TcpListener,
     receiving: &Receiving<'_>,
+    output: &mut Std<Stdout>,
 ) -> Result<(), ToolFault> {
     let counters = new_counters(rt, receiving)?;
     let shown = report_counters(rt, threads, receiving, &counters)?;
-    let outcome = serve(rt, threads, settings, listener, receiving, &counters);
+    let outcome = serve(
+        rt, threads, settings, listener, receiving, &counters, output,
+    );
     end_reporting(rt, &receiving.reporting, &shown);
     outcome
+}
+
+/// Reports how a receiver ended that keeps nothing in a folder, and returns the exit status.
+fn report_served(
+    rt: &HostRuntime,
+    output: &mut Std<Stdout>,
+    outcome: Result<(), ToolFault>,
+    is_explained: bool,
+) -> ExitCode {
+    if !has_output_failed(output) {
+        return report_result(rt, outcome);
+    }
+    let status = report_output_fault(rt, is_explained);
+    if is_explained {
+        let _ = eprintln!(rt;
+            "  what was held is not printed in full, and is lost; with --dir DIR it is kept"
+        );
+    }
+    status
 }
 
 /// Serves connections over a head whose log is in a folder, and reports how that goes as far as it
@@ -140,7 +155,7 @@ fn keep<R: Threads + Wait + Clock + Sync>(
     receiving: &Receiving<'_>,
     counters: &Arc<ReceiveCounters, Global>,
     head: FolderHead,
-) -> Result<FolderHead, ToolFault> {
+) -> Result<FinalHead<FolderHead>, ToolFault> {
     let shown = report_counters(rt, threads, receiving, counters)?;
     let outcome = serve_kept(
         rt,
@@ -163,6 +178,7 @@ fn receive_into<R: Threads + Wait + Clock + Sync>(
     listener: TcpListener,
     receiving: &Receiving<'_>,
     dir: &str,
+    is_explained: bool,
 ) -> ExitCode {
     let lock = match lock_folder(rt, dir) {
         Ok(lock) => lock,
@@ -177,7 +193,7 @@ fn receive_into<R: Threads + Wait + Clock + Sync>(
             let head = opened.kept;
             counters.begin_with(head.head().total(), head.head().places());
             let outcome = keep(rt, threads, settings, listener, receiving, &counters, head);
-            report_kept(rt, dir, outcome)
+            report_kept(rt, dir, receiving, outcome, is_explained)
         }
         Err(error) => report_keep_error(rt, dir, error),
     };
@@ -207,10 +223,19 @@ fn receive_by<R: Threads + Wait + Clock + Sync>(
         }
     };
     match receiving.dir {
-        Some(dir) => receive_into(rt, threads, settings, listener, receiving, dir),
+        Some(dir) => receive_into(
+            rt,
+            threads,
+            settings,
+            listener,
+            receiving,
+            dir,
+            is_explained,
+        ),
         None => {
-            let outcome = serve_and_report(rt, threads, settings, listener, receiving);
-            report_result(rt, outcome)
+            let mut output = Std::new(rt.stdout());
+            let outcome = serve_and_report(rt, threads, settings, listener, receiving, &mut output);
+            report_served(rt, &mut output, outcome, is_explained)
         }
     }
 }

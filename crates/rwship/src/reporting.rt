@@ -1,6 +1,5 @@
 //! Reports the progress of the work.
 
-use crate::ending::print_device_error;
 use rw_metrics::{Counters, Screen, serve_metrics, show_progress, write_end};
 use rw_text::{Address, ToolFault};
 use rw_words::Reporting;
@@ -11,7 +10,7 @@ use std::thread::Threads;
 /// Reports that the program cannot listen at an address, and why.
 pub fn print_listen_error(rt: &HostRuntime, listen: Address<'_>, error: &Error) {
     let Address { host, port } = listen;
-    let _ = eprintln!(rt; "  cannot listen on {host}:{port}: {error}");
+    let _ = eprintln!(rt; "  cannot listen on {host}:{port}: {error}; choose another --listen");
 }
 
 /// Reports that the page of the counters cannot be served at an address, and why.

@@ -5,9 +5,10 @@ use crate::ending::{
     report_result, report_settings_fault, report_skipped,
 };
 use crate::inspecting::{
-    fault_of_folder, files_of, log_fault, note_checkpoint, passes_checkpoint_over,
+    fault_of_folder, files_of, log_fault, note_checkpoint, note_empty, passes_checkpoint_over,
+    report_run_fault,
 };
-use crate::reporting::{begin_reporting, end_reporting, is_watched};
+use crate::reporting::{begin_reporting, end_reporting};
 use crate::settings::settings_in;
 use crate::stopping::{is_misplaced, stop_signal};
 use rw_follow::Timed;
@@ -23,6 +24,7 @@ use std::alloc::{AllocError, Global};
 use std::io::{Error, ErrorKind, IsTerminal};
 use std::net::SocketAddr;
 use std::process::ExitCode;
+use std::rt::Stdout;
 use std::sync::{Arc, Wait};
 use std::thread::{self, Threads};
 use std::time::{Clock, Duration};
@@ -211,11 +213,11 @@ fn ship_log<R: Threads + Wait + Clock + Copy + Send + 'static>(
     settings: Settings,
     log: Log,
     options: SendOptions<'_, TcpConnect<HostRuntime>>,
+    output: &mut Std<Stdout>,
 ) -> Result<(), FollowFault> {
-    let mut output = Std::new(rt.stdout());
     match log {
         Log::Whole(files) => {
-            match run_send(threads, rt.alloc(), settings, files, options, &mut output) {
+            match run_send(threads, rt.alloc(), settings, files, options, output) {
                 Ok(()) => Ok(()),
                 Err(fault) => Err(FollowFault::Tool(fault)),
             }
@@ -227,7 +229,7 @@ fn ship_log<R: Threads + Wait + Clock + Copy + Send + 'static>(
             &mut folder,
             options,
             &mut watch,
-            &mut output,
+            output,
         ),
     }
 }
@@ -306,14 +308,9 @@ fn is_empty(log: &Log) -> bool {
 }
 
 /// Reports that the folder has no segment, if somebody may read that.
-fn note_empty(rt: &HostRuntime, sending: &Sending<'_>, is_explained: bool) {
-    let is_reported = is_explained || sending.fails_on_empty || is_watched(rt, &sending.reporting);
-    if is_reported {
-        let dir = sending.dir.path;
-        let _ = eprintln!(rt;
-            "rwship: no segment in {dir} (names of one to eight digits); is it the folder 'wal' of Prometheus?"
-        );
-    }
+fn note_nothing(rt: &HostRuntime, sending: &Sending<'_>, is_explained: bool) {
+    let is_asked_for = is_explained || sending.fails_on_empty || sending.reporting.has_progress;
+    note_empty(rt, sending.dir, is_asked_for);
 }
 
 /// Looks the receiver up and prepares to ship. If that fails, it reports why, and returns the exit
@@ -346,6 +343,7 @@ fn finish(
     counters: Arc<SendCounters, Global>,
     has_nothing: bool,
     outcome: Result<(), FollowFault>,
+    output: &mut Std<Stdout>,
     is_explained: bool,
 ) -> ExitCode {
     let unshipped = Unshipped {
@@ -359,7 +357,7 @@ fn finish(
     match outcome {
         Ok(()) if has_nothing && sending.fails_on_empty => empty_status(),
         Ok(()) => report_unshipped(rt, sending, unshipped),
-        Err(fault) => log_fault(rt, sending.dir, fault, is_explained),
+        Err(fault) => report_run_fault(rt, output, sending.dir, fault, is_explained),
     }
 }
 
@@ -400,7 +398,7 @@ pub fn send<R: Threads + Wait + Clock + Copy + Send + 'static>(
         ) => {
             let has_nothing = is_empty(&log);
             if has_nothing {
-                note_empty(rt, sending, file.is_explained);
+                note_nothing(rt, sending, file.is_explained);
             }
             let options = SendOptions {
                 connect,
@@ -408,13 +406,15 @@ pub fn send<R: Threads + Wait + Clock + Copy + Send + 'static>(
                 max_batch_bytes: sending.max_batch_bytes,
                 stop,
             };
-            let outcome = ship_log(rt, threads, settings, log, options);
+            let mut output = Std::new(rt.stdout());
+            let outcome = ship_log(rt, threads, settings, log, options, &mut output);
             finish(
                 rt,
                 sending,
                 counters,
                 has_nothing,
                 outcome,
+                &mut output,
                 file.is_explained,
             )
         }
