@@ -62,6 +62,7 @@ impl<H: Admit> FinalHead<H> {
         write_all(writer, &text)?;
         Ok(())
     }
+
     /// Returns the head, or what has it.
     pub fn into_holder(self) -> H
         ensures { result ≡ self }
