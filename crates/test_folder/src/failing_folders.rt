@@ -137,8 +137,8 @@ fn a_call_that_fails_loses_nothing(rt: HostRuntime) -> Result<(), Fail> {
 }
 
 /// Both segments are synced as they are read, and the last one and the folder as it is opened; the
-/// copy of what is cut and the folder, and the cut; the folder after each of two begun segments; and
-/// what is appended.
+/// copy of what is cut and the folder, and the cut; the folder after each of two begun segments;
+/// and what is appended.
 #[test]
 fn what_is_read_and_written_is_synced(rt: HostRuntime) -> Result<(), Fail> {
     let files = [("00000000", "abc"), ("00000001", "de")];
