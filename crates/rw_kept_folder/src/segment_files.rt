@@ -1,6 +1,6 @@
 //! What is asked of the files of a folder of segments, and what the operating system promises.
 
-ghost use Rattle.std.specs.Prelude.{◌≡◌, ◌<◌, ◌≤◌, ◌++◌, [], ◌∷◌, ℕ, List, length, take, get_or, IfOk, OnOk};
+ghost use Rattle.std.specs.Prelude.{◌≡◌, ◌<◌, ◌≤◌, ◌++◌, [], ◌∷◌, ℕ, List, length, take, get_or, IfOk, OnOk, OnErr};
 ghost use Rattle.rw_journal.specs.Journal.{Segments, on_last, with_more, Only, NoMore, IsTornEnd, IsCutEnd, IsBegun, Elapses, HasCause};
 ghost use Rattle.rw_kept_folder.specs.Files.{HasAll, IsSureIfAll};
 
@@ -46,7 +46,8 @@ pub trait SegmentFiles {
     /// Appends bytes to the last segment. Everything must be on the disk.
     fn append(&mut self, bytes: &[u8]) -> Result<(), JournalError>
         requires { Only (seen self.old) (may_leave self.old) }
-        ensures written { OnOk result (seen self.new ≡ with_more (seen self.old) bytes.now) }
+        // Also if it fails: a part of them, or all, may have been written.
+        ensures asked { seen self.new ≡ with_more (seen self.old) bytes.now }
         ensures crash { (c : Segments) → may_leave self.new c
             → IsTornEnd tears bytes.now (seen self.old) c }
         ensures time { Elapses (moment self.old) (moment self.new) (left_since self.old)
@@ -65,7 +66,8 @@ pub trait SegmentFiles {
     /// Cuts the last segment to a length. Everything must be on the disk.
     fn set_len(&mut self, len: usize) -> Result<(), JournalError>
         requires { Only (seen self.old) (may_leave self.old) }
-        ensures cut { OnOk result (seen self.new ≡ on_last (take len) (seen self.old)) }
+        // Also if it fails: it may have been cut.
+        ensures asked { seen self.new ≡ on_last (take len) (seen self.old) }
         ensures crash { (c : Segments) → may_leave self.new c → IsCutEnd len (seen self.old) c }
         ensures time { Elapses (moment self.old) (moment self.new) (left_since self.old)
             (left_since self.new) (may_leave self.new) }
@@ -75,6 +77,8 @@ pub trait SegmentFiles {
     /// the folder after a crash.
     fn sync_data(&mut self) -> Result<(), JournalError>
         ensures durable { OnOk result (IsSureIfAll (seen self.new) (may_leave self.new)) }
+        // If it fails, nothing more is certain than before.
+        ensures unsure { OnErr result (NoMore (may_leave self.new) (may_leave self.old)) }
         ensures seen { seen self.new ≡ seen self.old }
         ensures crash { NoMore (may_leave self.old) (may_leave self.new) }
         ensures time { Elapses (moment self.old) (moment self.new) (left_since self.old)
@@ -94,6 +98,8 @@ pub trait SegmentFiles {
     /// Syncs the folder: from then on it has the file of each segment.
     fn sync_folder(&mut self) -> Result<(), JournalError>
         ensures all { OnOk result (HasAll (seen self.new) (may_leave self.new)) }
+        // If it fails, nothing more is certain than before.
+        ensures unsure { OnErr result (NoMore (may_leave self.new) (may_leave self.old)) }
         ensures seen { seen self.new ≡ seen self.old }
         ensures crash { NoMore (may_leave self.old) (may_leave self.new) }
         ensures time { Elapses (moment self.old) (moment self.new) (left_since self.old)

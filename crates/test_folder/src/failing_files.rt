@@ -1,4 +1,4 @@
-//! Files of which one call fails.
+//! Files of which one call fails, which count how often they are synced.
 
 use std::alloc::{Allocator, Global};
 use std::cell::Cell;
@@ -8,10 +8,12 @@ use std::io::{ErrorKind, Read, Seek, SeekFrom, Write};
 use std::rt::Files;
 use std::time::{Clock, Duration};
 
-/// Counts calls down, and has the one at zero fail.
+/// Counts calls down, and has the one at zero fail. Counts the syncs that were made.
 #[derive(Drop)]
 pub(crate) struct Countdown {
     left: Cell<u64>,
+    data_syncs: Cell<u64>,
+    whole_syncs: Cell<u64>,
 }
 
 impl Countdown {
@@ -19,7 +21,19 @@ impl Countdown {
     pub(crate) fn new(call: u64) -> Countdown {
         Countdown {
             left: Cell::new(call),
+            data_syncs: Cell::new(0),
+            whole_syncs: Cell::new(0),
         }
+    }
+
+    /// Returns a countdown after which no call fails.
+    pub(crate) fn endless() -> Countdown {
+        Countdown::new(u64::MAX)
+    }
+
+    /// Returns how often the bytes of a file were synced, and how often a file or a folder whole.
+    pub(crate) fn syncs(&self) -> (u64, u64) {
+        (self.data_syncs.get(), self.whole_syncs.get())
     }
 
     /// Returns whether the call has come.
@@ -62,9 +76,10 @@ impl<'a, F: Read> Read for FailingFile<'a, F> {
 }
 
 impl<'a, F: Write> Write for FailingFile<'a, F> {
+    // It takes one byte at a time.
     fn write(&mut self, buf: &[u8]) -> io::Result<usize> {
         self.countdown.call()?;
-        self.file.write(buf)
+        self.file.write(&buf[..buf.len().min(1)])
     }
 
     fn flush(&mut self) -> io::Result<()> {
@@ -92,11 +107,15 @@ impl<'a, F: OpenFile> OpenFile for FailingFile<'a, F> {
 
     fn sync_all(&self) -> io::Result<()> {
         self.countdown.call()?;
+        let count = &self.countdown.whole_syncs;
+        count.set(count.get().wrapping_add(1));
         self.file.sync_all()
     }
 
     fn sync_data(&self) -> io::Result<()> {
         self.countdown.call()?;
+        let count = &self.countdown.data_syncs;
+        count.set(count.get().wrapping_add(1));
         self.file.sync_data()
     }
 }

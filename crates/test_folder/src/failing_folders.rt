@@ -1,5 +1,5 @@
-//! Journals in the files of a folder: what they write and cut, and what is there after each call of
-//! a device failed in turn.
+//! Journals in the files of a folder: what they write, cut and sync, and what is there after each
+//! call of a device failed in turn.
 
 ghost use Rattle.std.specs.Prelude.{OnOk};
 ghost use Rattle.rw_journal.specs.Journal.{Only};
@@ -51,14 +51,26 @@ fn go_on<J: Journal>(journal: &mut J, alloc: Global) -> Result<bool, JournalErro
     Ok(is_whole)
 }
 
-/// Opens the folder and goes on. Returns whether all of it succeeded.
-fn open_and_go_on<R: Files + Clock + AllocGlobal + Copy>(rt: &R, dir: &str) -> bool {
-    match open_journal(rt, dir, FolderMonitor::none()) {
-        Ok(journal) => {
-            let mut journal = journal;
-            go_on(&mut journal, rt.alloc()) == Ok(true)
-        }
-        Err(_) => false,
+/// How it ends to open a folder and to go on.
+#[derive(Clone, Copy, Debug, PartialEq, Eq)]
+enum End {
+    Done,
+    /// The device failed, and so does a further call.
+    Failed,
+    /// Other bytes are read, or what failed is not the device, or a call succeeds after it.
+    Wrong,
+}
+
+/// Opens the folder and goes on.
+fn open_and_go_on<R: Files + Clock + AllocGlobal + Copy>(rt: &R, dir: &str) -> End {
+    let Ok(journal) = open_journal(rt, dir, FolderMonitor::none()) else {
+        return End::Failed;
+    };
+    let mut journal = journal;
+    match go_on(&mut journal, rt.alloc()) {
+        Ok(true) => End::Done,
+        Err(JournalError::Failed) if journal.sync() == Err(JournalError::Failed) => End::Failed,
+        _ => End::Wrong,
     }
 }
 
@@ -74,7 +86,7 @@ fn a_folder_is_written_cut_and_read_again(rt: HostRuntime) -> Result<(), Fail> {
     journal.begin()?;
     write_segment(&mut journal, "abc")?;
     journal.append(b"de")?;
-    assert!(rt; open_and_go_on(&rt, dir.as_path().as_str()));
+    assert_eq!(rt; open_and_go_on(&rt, dir.as_path().as_str()), End::Done);
     assert!(rt; has_text(&rt, dir.as_path(), "00000000", Some("abc")));
     assert!(rt; has_text(&rt, dir.as_path(), "00000001", Some("d")));
     assert!(rt; has_text(&rt, dir.as_path(), "torn-00000001", Some("e")));
@@ -105,14 +117,13 @@ fn fail_each_call(rt: &HostRuntime) -> Result<Option<u64>, Fail> {
             rt: *rt,
             countdown: &countdown,
         };
-        let is_done = open_and_go_on(&failing, dir.as_path().as_str());
+        let end = open_and_go_on(&failing, dir.as_path().as_str());
         let is_kept = is_kept(rt, dir.as_path());
         fs::remove_dir_all(rt, dir.as_path())?;
-        if !is_kept || is_done == countdown.has_failed() {
-            return Ok(None);
-        }
-        if is_done {
-            return Ok(Some(call));
+        match end {
+            End::Failed if is_kept && countdown.has_failed() => {}
+            End::Done if is_kept && !countdown.has_failed() => return Ok(Some(call)),
+            _ => return Ok(None),
         }
     }
     Ok(None)
@@ -122,5 +133,24 @@ fn fail_each_call(rt: &HostRuntime) -> Result<Option<u64>, Fail> {
 fn a_call_that_fails_loses_nothing(rt: HostRuntime) -> Result<(), Fail> {
     let calls = fail_each_call(&rt)?;
     assert!(rt; calls > Some(30));
+    Ok(())
+}
+
+/// Both segments are synced as they are read, and the last one and the folder as it is opened; the
+/// copy of what is cut and the folder, and the cut; the folder after each of two begun segments;
+/// and what is appended.
+#[test]
+fn what_is_read_and_written_is_synced(rt: HostRuntime) -> Result<(), Fail> {
+    let files = [("00000000", "abc"), ("00000001", "de")];
+    let dir = make_folder(&rt, "rwship-a-synced-journal", &files)?;
+    let countdown = Countdown::endless();
+    let counted = FailingFiles {
+        rt,
+        countdown: &countdown,
+    };
+    let end = open_and_go_on(&counted, dir.as_path().as_str());
+    fs::remove_dir_all(&rt, dir.as_path())?;
+    assert_eq!(rt; end, End::Done);
+    assert_eq!(rt; countdown.syncs(), (2 + 1 + 1 + 1, 1 + 2 + 2));
     Ok(())
 }

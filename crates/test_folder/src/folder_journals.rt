@@ -1,6 +1,6 @@
 //! Journals in the files of a folder: which folders are refused, and why, and what is counted.
 
-use rw_journal::Journal;
+use rw_journal::{Journal, JournalError};
 use rw_kept_folder::{FaultCause, FolderError, FolderMonitor, open_journal, refuse_running_server};
 use rw_metrics::{KeptNumbers, ReceiveCounters};
 use std::path::{Path, PathBuf};
@@ -139,7 +139,8 @@ fn write_until_a_fault(
     journal.append(b"abc")?;
     journal.sync()?;
     fs::write(rt, dir.join(rt.alloc(), "00000001")?, "")?;
-    Ok(journal.begin().is_err() && journal.sync().is_err())
+    let begun = journal.begin();
+    Ok(begun == Err(JournalError::Failed) && journal.sync().is_err())
 }
 
 #[test]

@@ -25,6 +25,8 @@ mod plain;
 #[cfg(test)]
 mod plan;
 #[cfg(test)]
+mod references;
+#[cfg(test)]
 mod schedules;
 #[cfg(test)]
 mod segments;

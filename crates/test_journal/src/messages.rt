@@ -179,3 +179,19 @@ fn messages_add_these_bytes(rt: HostRuntime) -> Result<(), Fail> {
     assert_eq!(rt; wrong, Ok(None));
     Ok(())
 }
+
+/// Returns the reference that a label set with this name of a label gets first.
+fn reference_of(alloc: Global, name: &[u8]) -> Result<u64, AllocError> {
+    let mut labels = RawLabels::new(alloc);
+    labels.push(name, b"x")?;
+    match LabelSet::check_as(alloc, Names::Utf8, &labels) {
+        Ok(set) => References::new(alloc, 1).reference(&set),
+        Err(_) => Err(AllocError),
+    }
+}
+
+#[test]
+fn a_name_that_is_not_legacy_gets_a_reference(rt: HostRuntime) -> Result<(), Fail> {
+    assert_eq!(rt; reference_of(rt.alloc(), b"http.status"), Ok(1));
+    Ok(())
+}
