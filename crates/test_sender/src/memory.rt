@@ -6,6 +6,8 @@ ghost use Rattle.test_sender.specs.Noted.{noted};
 
 use rw_worker::{Lost, Pause, Reply, StopFlag, Transport};
 use std::alloc::Global;
+use std::sync::Arc;
+use std::sync::atomic::{AtomicU64, Ordering};
 
 /// An exchange that was made.
 #[derive(Drop)]
@@ -121,5 +123,24 @@ impl Pause for Times {
         if self.milliseconds.push(ms).is_err() {
             self.is_complete = false;
         }
+    }
+}
+
+/// Adds up the pauses that were asked for, in milliseconds, for another thread to see. It never
+/// waits.
+#[derive(Drop)]
+pub struct SharedTimes {
+    pub sum: Arc<AtomicU64>,
+}
+
+impl Pause for SharedTimes {
+    ghost use Rattle.std.specs.Prelude.{[]};
+
+    ghost tells = { λ _. ⊥ };
+
+    ghost paused = { λ _. [] };
+
+    fn pause(&mut self, ms: u64) {
+        self.sum.fetch_add(ms, Ordering::SeqCst);
     }
 }

@@ -3,7 +3,7 @@
 ghost use Rattle.std.specs.Prelude.{◌≡◌, ◌<◌, [], IfOk};
 
 use crate::feeding::{one, two};
-use crate::memory::{Script, Times};
+use crate::memory::{Script, SharedTimes, Times};
 use crate::rows::holds;
 use crate::samples::shared_metric;
 use http::StatusCode;
@@ -13,6 +13,7 @@ use rw_shard_queue::{Drain, Feed, Kind, Open, open};
 use rw_types::{Bounded, LabelFault, LabelSet, Word};
 use rw_worker::{Lost, Reply, StopFlag, TakingEnd, Worker, WorkerReport, spawn};
 use std::alloc::{AllocError, Global};
+use std::sync::atomic::{AtomicU64, Ordering};
 use std::sync::{Arc, Wait};
 use std::thread::Threads;
 
@@ -364,6 +365,9 @@ static IN_A_THREAD: Wanted<'static> = Wanted {
 /// The answers to a worker in a thread.
 static STATUSES: [u16; 4] = [0, 204, 503, 404];
 
+/// How long it pauses: the least pause before the retry of each batch.
+const MILLISECONDS: u64 = 60;
+
 /// Puts what a worker in its thread takes, and joins it. Returns whether it did as expected.
 fn fed_in_a_thread<R: Threads + Wait + Copy + Send + 'static>(
     rt: &R,
@@ -374,14 +378,13 @@ fn fed_in_a_thread<R: Threads + Wait + Copy + Send + 'static>(
     let stop = StopFlag::new(alloc)?;
     let script = Script::new(alloc, answers(alloc, &STATUSES)?, stop.share()?, 0);
     let (feed, worker) = worker_of(alloc, config, 1)?;
-    let times = Times {
-        milliseconds: Vec::new(alloc),
-        is_complete: true,
-    };
+    let sum = Arc::new(alloc, AtomicU64::new(0))?;
+    let times = SharedTimes { sum: sum.clone()? };
     let handle = spawn(rt, worker, script, times, stop)?;
     let is_fed = fed(rt, feed, labels, Feeding::Two);
     let report = handle.join(rt);
-    Ok(reports_as_wanted(&report, &IN_A_THREAD) && is_fed)
+    let has_paused = sum.load(Ordering::SeqCst) == MILLISECONDS;
+    Ok(reports_as_wanted(&report, &IN_A_THREAD) && is_fed && has_paused)
 }
 
 fn does_in_a_thread<R: Threads + Wait + Copy + Send + 'static>(

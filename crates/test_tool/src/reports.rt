@@ -1,6 +1,6 @@
 //! Reports of two segments, and of one that is damaged.
 
-use crate::rows::holds;
+use crate::rows::{holds, none_is_wrong};
 use rw_inspect::{Report, find_entries, inspect, json_of, table_of};
 use rw_log_commands::plan_log;
 use rw_log_read::{Named, SegmentList};
@@ -194,5 +194,57 @@ fn entries_at_positions(rt: HostRuntime) -> Result<(), Fail> {
     let (text, missing, is_damaged) = found_in(rt.alloc())?;
     holds(&rt, text.as_slice() == FOUND.as_bytes());
     holds(&rt, missing == 1 && !is_damaged);
+    Ok(())
+}
+
+/// The first bytes of records that hold neither series nor samples (wal.md). A record of no byte is
+/// skipped, too.
+static SKIPPED: [u8; 12] = [3, 4, 5, 6, 7, 8, 9, 10, 11, 7, 255, 3];
+
+/// How many of them, and of the one of no byte, are of each type.
+static BY_TYPE: [(&str, u64); 9] = [
+    ("histogram_samples", 2),
+    ("float_histogram_samples", 1),
+    ("custom_buckets_histogram_samples", 1),
+    ("custom_buckets_float_histogram_samples", 1),
+    ("unknown", 3),
+    ("tombstones", 2),
+    ("exemplars", 1),
+    ("mmapmarkers", 1),
+    ("metadata", 1),
+];
+
+/// Returns the report of a segment of records that are skipped.
+fn report_of_skipped(alloc: Global) -> Result<Report, ReadFault> {
+    let mut writer = SegmentWriter::new(Room::new(alloc, 4096)?, 1);
+    let _ = writer.log(&[]);
+    for kind in &SKIPPED {
+        let _ = writer.log(&[*kind, 0]);
+    }
+    let segment = writer.into_inner().into_bytes();
+    let mut segments = Vec::with_capacity(alloc, 1)?;
+    segments.push_reserved(named(alloc, "0", &segment)?);
+    inspect(alloc, segments)
+}
+
+/// Returns the first type of `BY_TYPE` whose number is wrong in a report.
+fn wrong_type(report: &Report) -> Option<&'static str> {
+    for (at, (name, count)) in BY_TYPE.iter().enumerate() {
+        match report.skipped.get(at) {
+            Some(found) if found.kind.name() == *name && found.count == *count => {}
+            _ => return Some(*name),
+        }
+    }
+    if report.skipped.len() == BY_TYPE.len() {
+        None
+    } else {
+        Some("one more")
+    }
+}
+
+#[test]
+fn skipped_records_by_type(rt: HostRuntime) -> Result<(), Fail> {
+    let report = report_of_skipped(rt.alloc())?;
+    none_is_wrong(&rt, wrong_type(&report));
     Ok(())
 }
