@@ -274,8 +274,8 @@ impl LabelSet {
         Ok(LabelSet::of(texts_of(alloc, labels)?)?)
     }
 
-    /// Returns the label set that these texts are, or the first fault that keeps them from being one;
-    /// `names` says which names are accepted. The texts are not copied.
+    /// Returns the label set that these texts are, or the first fault that keeps them from being
+    /// one; `names` says which names are accepted. The texts are not copied.
     pub fn of_texts(names: Names, labels: Vec<(String, String)>) -> Result<LabelSet, LabelFault>
         ensures ok { IfOk result (λ s. s ≡ map text_label labels.items) }
         ensures label_set { IfOk result (λ _. IsLabelSet names (map text_label labels.items)) }

@@ -103,9 +103,32 @@ fn fault_as(alloc: Global, names: Names, labels: Labels<'_>) -> Option<LabelFaul
     }
 }
 
+/// Returns labels as texts.
+fn texts(alloc: Global, labels: Labels<'_>) -> Result<Vec<(String, String)>, AllocError> {
+    let mut texts = Vec::new(alloc);
+    for (name, value) in labels {
+        let label = (
+            String::from_str(alloc, name)?,
+            String::from_str(alloc, value)?,
+        );
+        texts.push(label)?;
+    }
+    Ok(texts)
+}
+
+/// Returns the fault of the label set that is made of these texts, as `fault_as` does.
+fn fault_of_texts(alloc: Global, names: Names, labels: Labels<'_>) -> Option<LabelFault> {
+    match texts(alloc, labels) {
+        Ok(texts) => LabelSet::of_texts(names, texts).err(),
+        Err(_) => Some(LabelFault::OutOfMemory),
+    }
+}
+
 fn wrong_fault(alloc: Global) -> Option<&'static str> {
     for (name, names, labels, first) in &FAULTS {
-        if fault_as(alloc, *names, labels) != *first {
+        if fault_as(alloc, *names, labels) != *first
+            || fault_of_texts(alloc, *names, labels) != *first
+        {
             return Some(name);
         }
     }
@@ -151,10 +174,21 @@ fn set_of(alloc: Global, labels: Labels<'_>) -> Result<LabelSet, LabelFault> {
     LabelSet::check(alloc, &raw_labels(alloc, labels)?)
 }
 
+/// Returns whether the label set that is made of these texts holds them.
+fn is_set_of_texts(alloc: Global, labels: Labels<'_>) -> bool {
+    match texts(alloc, labels) {
+        Ok(texts) => match LabelSet::of_texts(Names::Legacy, texts) {
+            Ok(set) => is_same(set.as_slice(), labels),
+            Err(_) => false,
+        },
+        Err(_) => false,
+    }
+}
+
 /// Returns whether these labels are a label set that holds them.
 fn is_set(alloc: Global, labels: Labels<'_>) -> bool {
     match set_of(alloc, labels) {
-        Ok(set) => is_same(set.as_slice(), labels),
+        Ok(set) => is_same(set.as_slice(), labels) && is_set_of_texts(alloc, labels),
         Err(_) => false,
     }
 }

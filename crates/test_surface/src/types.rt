@@ -9,7 +9,8 @@ use rw_types::{
 /// The calls of label sets, sound or not yet judged.
 pub fn of_labels() {
     let _ = (LabelSet::empty, LabelSet::assign, LabelSet::is_over);
-    let _ = (LabelSet::check_as, LabelSet::as_slice, LabelSet::fields);
+    let _ = (LabelSet::check_as, LabelSet::of_texts);
+    let _ = (LabelSet::as_slice, LabelSet::fields);
     let _ = (RawLabels::push, RawLabels::copy, RawLabels::len);
     let _ = (RawLabels::is_empty, RawLabels::as_slice);
     let _ = (LabelFault::number, is_metric_name, Entry::copy);
