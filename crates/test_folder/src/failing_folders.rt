@@ -138,7 +138,7 @@ fn a_call_that_fails_loses_nothing(rt: HostRuntime) -> Result<(), Fail> {
 
 /// Both segments are synced as they are read, and the last one and the folder as it is opened; the
 /// copy of what is cut and the folder, and the cut; the folder after each of two begun segments;
-/// and what is appended.
+/// and what is appended, a byte at a time.
 #[test]
 fn what_is_read_and_written_is_synced(rt: HostRuntime) -> Result<(), Fail> {
     let files = [("00000000", "abc"), ("00000001", "de")];
@@ -149,8 +149,10 @@ fn what_is_read_and_written_is_synced(rt: HostRuntime) -> Result<(), Fail> {
         countdown: &countdown,
     };
     let end = open_and_go_on(&counted, dir.as_path().as_str());
+    let is_written = has_text(&rt, dir.as_path(), "00000002", Some("fgh"));
     fs::remove_dir_all(&rt, dir.as_path())?;
     assert_eq!(rt; end, End::Done);
+    assert!(rt; is_written);
     assert_eq!(rt; countdown.syncs(), (2 + 1 + 1 + 1, 1 + 2 + 2));
     Ok(())
 }

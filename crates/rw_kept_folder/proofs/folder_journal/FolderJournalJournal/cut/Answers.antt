@@ -9,4 +9,4 @@ returns-in_err-set_aside-clause-crash g c =
 pub invariant_of-self-2 : goal.invariant_of-self-2
 invariant_of-self-2 g c =
     λ _ x left. cut_length c.args.len _ x (c.set_len.ensures.crash x left)
-    ∙ sym (ap length c.in_ok-set_len.ensures.cut ∙ length_on_last (take c.args.len) _)
+    ∙ sym (ap length c.set_len.ensures.asked ∙ length_on_last (take c.args.len) _)

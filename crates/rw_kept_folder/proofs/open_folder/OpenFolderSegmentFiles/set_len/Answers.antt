@@ -10,8 +10,8 @@ pub invariant_of-self-in-Err : goal.invariant_of-self-in-Err
 invariant_of-self-in-Err g c =
     (c.self.invariant.0 ∙ cut_count c.self.inside.record c.fail.new.noted c.args.len (pushed_failed c.self.inside.record c.note.new.self c.fail.new.noted (SetLen c.args.len) c.fail.ensures (pushed_by c.self.inside.record c.self.inside.record c.note.new.self (SetLen c.args.len) refl c.note.ensures)), inl c.clear.ensures.items)
 
-pub returns-in-Ok-clause-cut : goal.returns-in-Ok-clause-cut
-returns-in-Ok-clause-cut g c = cut_seen c.args.self.now c.note.new.self c.args.len (pushed_by c.self.inside.record c.args.self.now c.note.new.self (SetLen c.args.len) c.self.view_is c.note.ensures)
+pub returns-in-Ok-clause-asked : goal.returns-in-Ok-clause-asked
+returns-in-Ok-clause-asked g c = cut_seen c.args.self.now c.note.new.self c.args.len (pushed_by c.self.inside.record c.args.self.now c.note.new.self (SetLen c.args.len) c.self.view_is c.note.ensures)
 
 pub returns-in-Ok-clause-crash : goal.returns-in-Ok-clause-crash
 returns-in-Ok-clause-crash g c = cut_left c.args.self.now c.note.new.self c.args.len (pushed_by c.self.inside.record c.args.self.now c.note.new.self (SetLen c.args.len) c.self.view_is c.note.ensures)
@@ -24,3 +24,6 @@ returns-in-Err-clause-crash g c = cut_left c.args.self.now c.fail.new.noted c.ar
 
 pub returns-in-Err-clause-time : goal.returns-in-Err-clause-time
 returns-in-Err-clause-time g c = elapses_pushed c.args.self.now c.fail.new.noted (SetLen c.args.len) (pushed_failed c.args.self.now c.note.new.self c.fail.new.noted (SetLen c.args.len) c.fail.ensures (pushed_by c.self.inside.record c.args.self.now c.note.new.self (SetLen c.args.len) c.self.view_is c.note.ensures))
+
+pub returns-in-Err-clause-asked : goal.returns-in-Err-clause-asked
+returns-in-Err-clause-asked g c = cut_seen c.args.self.now c.fail.new.noted c.args.len (pushed_failed c.args.self.now c.note.new.self c.fail.new.noted (SetLen c.args.len) c.fail.ensures (pushed_by c.self.inside.record c.args.self.now c.note.new.self (SetLen c.args.len) c.self.view_is c.note.ensures))
