@@ -1,6 +1,6 @@
 //! The files of a log in a folder, from its newest checkpoint on.
 
-ghost use Rattle.std.specs.Prelude.{IfSome};
+ghost use Rattle.std.specs.Prelude.{◌≡◌, ◌<◌, ◌^◌, ◌+◌, ℕ, length, IfSome, MatchOption};
 ghost use Rattle.rw_log_folder.specs.inner.Folders.{IsCheckpointName, IsNameOf};
 
 use crate::files::{SegmentFile, SegmentName, count_bytes, file_of, number_of};
@@ -25,9 +25,12 @@ const CHECKPOINT: &str = "checkpoint.";
 /// How often a folder is listed at most, if a file is gone before it is opened.
 const MOST_LISTINGS: usize = 3;
 
-/// Returns the number that a text of one to eight decimal digits spells.
+/// Returns the number that a text of one to eight decimal digits spells, and how many digits these
+/// are.
 fn name_of(text: &str) -> Option<Name>
-    ensures { IfSome result (λ name. IsNameOf text.now name.number) }
+    ensures number { MatchOption result ((n : ℕ) → n < 2 ^ 64 → IsNameOf text.now n → ⊥)
+        (λ name. IsNameOf text.now name.number) }
+    ensures digits { IfSome result (λ name. name.digits ≡ length text.now) }
 {
     match number_of(text) {
         Some(number) => Some(Name {
@@ -42,7 +45,9 @@ fn name_of(text: &str) -> Option<Name>
 /// of a checkpoint. A name that goes on after the number belongs to one that the server has not
 /// finished.
 fn checkpoint_of(text: &str) -> Option<Name>
-    ensures { IfSome result (λ name. IsCheckpointName text.now name.number) }
+    ensures number { MatchOption result ((n : ℕ) → n < 2 ^ 64 → IsCheckpointName text.now n → ⊥)
+        (λ name. IsCheckpointName text.now name.number) }
+    ensures digits { IfSome result (λ name. length text.now ≡ 11 + name.digits) }
 {
     match text.strip_prefix("checkpoint.") {
         Some(rest) => name_of(rest),
