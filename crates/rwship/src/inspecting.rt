@@ -250,7 +250,7 @@ fn print_damage(rt: &HostRuntime, dir: LogDir<'_>) {
 }
 
 /// Returns why a file cannot be opened, or its first byte not be read, if that is so.
-fn read_error(rt: &HostRuntime, path: &Path) -> Option<Error> {
+fn read_error(rt: &HostRuntime, path: &str) -> Option<Error> {
     match fs::open(rt, path) {
         Ok(file) => {
             let mut file = file;
@@ -263,7 +263,7 @@ fn read_error(rt: &HostRuntime, path: &Path) -> Option<Error> {
 /// Prints why a file of a folder cannot be read, and returns whether that is so.
 fn print_closed(rt: &HostRuntime, dir: LogDir<'_>, name: &str) -> Result<bool, AllocError> {
     let path = Path::new(dir.path).join(rt.alloc(), name)?;
-    match read_error(rt, path.as_path()) {
+    match read_error(rt, path.as_path().as_str()) {
         None => Ok(false),
         Some(error) => {
             print_device_error(rt, "read", path.as_path().as_str(), &error);
