@@ -372,6 +372,44 @@ fn misplaced_stop_file<'a>(rt: &HostRuntime, sending: &Sending<'a>) -> Option<&'
     }
 }
 
+/// Ships what was prepared, and reports how that ended. Returns the exit status.
+fn ship<R: Threads + Wait + Clock + Copy + Send + 'static>(
+    rt: &HostRuntime,
+    threads: &R,
+    settings: Settings,
+    sending: &Sending<'_>,
+    shipment: Shipment,
+    is_explained: bool,
+) -> ExitCode {
+    let Shipment {
+        log,
+        connect,
+        stop,
+        counters,
+    } = shipment;
+    let has_nothing = is_empty(&log);
+    if has_nothing {
+        note_nothing(rt, sending, is_explained);
+    }
+    let options = SendOptions {
+        connect,
+        counters: &counters,
+        max_batch_bytes: sending.max_batch_bytes,
+        stop,
+    };
+    let mut output = Std::new(rt.stdout());
+    let outcome = ship_log(rt, threads, settings, log, options, &mut output);
+    finish(
+        rt,
+        sending,
+        counters,
+        has_nothing,
+        outcome,
+        &mut output,
+        is_explained,
+    )
+}
+
 /// Ships a folder by the settings in a file.
 pub fn send<R: Threads + Wait + Clock + Copy + Send + 'static>(
     rt: &HostRuntime,
@@ -388,36 +426,7 @@ pub fn send<R: Threads + Wait + Clock + Copy + Send + 'static>(
     };
     let timeout_ms = settings.config.fields().timeout_ms;
     match start(rt, threads, sending, timeout_ms, file.is_explained) {
-        Ok(
-            Shipment {
-                log,
-                connect,
-                stop,
-                counters,
-            },
-        ) => {
-            let has_nothing = is_empty(&log);
-            if has_nothing {
-                note_nothing(rt, sending, file.is_explained);
-            }
-            let options = SendOptions {
-                connect,
-                counters: &counters,
-                max_batch_bytes: sending.max_batch_bytes,
-                stop,
-            };
-            let mut output = Std::new(rt.stdout());
-            let outcome = ship_log(rt, threads, settings, log, options, &mut output);
-            finish(
-                rt,
-                sending,
-                counters,
-                has_nothing,
-                outcome,
-                &mut output,
-                file.is_explained,
-            )
-        }
+        Ok(shipment) => ship(rt, threads, settings, sending, shipment, file.is_explained),
         Err(status) => status,
     }
 }
