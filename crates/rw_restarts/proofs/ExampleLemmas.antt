@@ -162,7 +162,7 @@ nothing_earlier i run l ys at = each_run (λ (r : SenderRun). Begins (r.earlier 
 pub receiver-is : IsReceiverOf limits runs events states
 receiver-is = record {
   within = λ i n run x sent. each_message (λ i n (x : SentMessage). AreWithinLimits limits x.message) (taken_series, tt) (taken_series, tt) (taken_series, tt) (taken_series, tt) i n run x sent.exists sent.is;
-  begins = refl;
+  begins = λ l. (list_of-empty l, list_of-empty l);
   happens = happens;
   answers = record {
     all = answered;
