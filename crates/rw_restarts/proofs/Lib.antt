@@ -3,6 +3,7 @@ mod AnswerLemmas
 mod BatchLemmas
 mod ExampleLemmas
 mod KeptReceiverLemmas
+mod KeptWireLemmas
 mod ListedLemmas
 mod LogLemmas
 mod PartLemmas

@@ -1,5 +1,6 @@
 pub mod Examples
 pub mod KeptReceivers
+pub mod KeptWireReceivers
 pub mod Logs
 pub mod Parts
 pub mod Receivers
