@@ -16,5 +16,6 @@ mod SenderLemmas
 mod ShardLemmas
 mod StoppedLemmas
 mod TurnLemmas
+mod WireExampleLemmas
 mod WireLemmas
 mod WorkerLemmas

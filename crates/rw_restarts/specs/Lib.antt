@@ -10,5 +10,6 @@ pub mod Runs
 pub mod Senders
 pub mod Shards
 pub mod Stopped
+pub mod WireExamples
 pub mod WireReceivers
 pub mod Workers

@@ -12,7 +12,7 @@ mod stopped;
 mod wire;
 mod workers;
 
-pub use examples::a_small_history_is_allowed;
+pub use examples::{a_small_history_is_allowed, a_small_history_over_the_wire_is_allowed};
 pub use logs::{a_run_over_a_part_is_a_run_over_the_log, many_runs_hold_one_log};
 pub use receivers::{a_kept_head_is_such_a_receiver, an_endpoint_is_such_a_receiver};
 pub use relay::{
