@@ -125,9 +125,9 @@ module _ {J : Type 0} (seen : J → Segments) (may_leave : J → Segments → Ty
       pub more : ℕ
       pub asked : IsAskedMore more after now
 
-    -- A crash since the head was asked for a body: before it answered (`after` is what it would have
-    -- come to), or later if a call of the journal had failed. No checksum is right by chance in what
-    -- the crash left.
+    -- A crash since the head was asked for a body: before it answered (`after` is then what it
+    -- would have come to), or later if a call of the journal had failed. No checksum is right by
+    -- chance in what the crash left.
     pub record IsCrash (states : ℕ → KeptState J) (at : ℕ) (body : List ℕ) (left : Segments)
         : Type 0 where
       pub since : ℕ
