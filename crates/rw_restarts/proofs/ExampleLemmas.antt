@@ -43,7 +43,7 @@ each_run P a b zero run at = subst P (same_Some killed_run run at) a
 each_run P a b (suc zero) run at = subst P (same_Some second_run run at) b
 each_run P a b (suc (suc i)) run at = absurd (nothing_at run i at)
 
-itself : labels_eq example_series example_series ≡ true
+pub itself : labels_eq example_series example_series ≡ true
 itself = equal_if_same example_series example_series refl
 
 pub points-of-first : points_in example_series (message_of first) ≡ first ∷ []
@@ -73,14 +73,14 @@ pub runs-are-over : AreRunsOver whole runs
 runs-are-over = each_run (IsRunOver whole) (in_order killed_run None refl) (in_order second_run (Some Done) refl)
 
 -- ---- what the receiver does
-list_is : (xs : List Point) (store : Store) → list_of (with_list example_series xs store) example_series ≡ xs
+pub list_is : (xs : List Point) (store : Store) → list_of (with_list example_series xs store) example_series ≡ xs
 list_is xs store = list_of-with_list example_series xs store example_series ∙ ap (λ b. cond b xs (list_of store example_series)) itself
 
 -- the label set is not refused
-taken_series : refusal limits example_series ≡ None
+pub taken_series : refusal limits example_series ≡ None
 taken_series = refl
 
-takes : (p : Point) (store : Store) (xs ys : List Point) → list_of store example_series ≡ xs → accept (Some xs) (p ∷ []) ≡ Some ys → taken_all limits (Ok store) (message_of p) ≡ Ok (with_list example_series ys store)
+pub takes : (p : Point) (store : Store) (xs ys : List Point) → list_of store example_series ≡ xs → accept (Some xs) (p ∷ []) ≡ Some ys → taken_all limits (Ok store) (message_of p) ≡ Ok (with_list example_series ys store)
 takes p store xs ys has gives =
     ap (λ o. taken_unless o store (record { labels = example_series; samples = (p.1, p.0) ∷ [] })) taken_series
     ∙ ap (λ zs. accepted example_series store (accept (Some zs) (p ∷ []))) has ∙ ap (accepted example_series store) gives
@@ -162,7 +162,7 @@ nothing_earlier i run l ys at = each_run (λ (r : SenderRun). Begins (r.earlier 
 pub receiver-is : IsReceiverOf limits runs events states
 receiver-is = record {
   within = λ i n run x sent. each_message (λ i n (x : SentMessage). AreWithinLimits limits x.message) (taken_series, tt) (taken_series, tt) (taken_series, tt) (taken_series, tt) i n run x sent.exists sent.is;
-  begins = refl;
+  begins = λ l. (list_of-empty l, list_of-empty l);
   happens = happens;
   answers = record {
     all = answered;

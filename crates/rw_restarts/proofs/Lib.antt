@@ -3,6 +3,7 @@ mod AnswerLemmas
 mod BatchLemmas
 mod ExampleLemmas
 mod KeptReceiverLemmas
+mod KeptWireLemmas
 mod ListedLemmas
 mod LogLemmas
 mod PartLemmas
@@ -15,5 +16,6 @@ mod SenderLemmas
 mod ShardLemmas
 mod StoppedLemmas
 mod TurnLemmas
+mod WireExampleLemmas
 mod WireLemmas
 mod WorkerLemmas

@@ -1,6 +1,6 @@
 -- What came over the wire is an answer to a message.
 use Rattle.std.proofs.Common.{◌≡◌, ◌≢◌, inl, inr, ℕ, nat_lt, Bool, true, false, map, length, Ok, refl, sym, ap, ◌∙◌, subst, arith}
-use Rattle.std.proofs.lemmas.Bool.{cond-true, cond-false}
+use Rattle.std.proofs.lemmas.Bool.{cond-true, cond-false, le-ltb}
 use Rattle.rw_write_request.specs.Message.{WriteRequest}
 use Rattle.rw_retry.specs.Judgements.{judgement_of}
 use Rattle.rw_batch.specs.Grouping.{message}
@@ -17,6 +17,7 @@ use Rattle.rw_restarts.specs.Runs.{SentMessage}
 use Rattle.rw_restarts.specs.Workers.{IsExchangeOfMessage}
 use Rattle.rw_restarts.specs.Receivers.{AnswersAs, state_of}
 use Rattle.rw_restarts.specs.KeptReceivers.{IsAdmission, acknowledged_after}
+use Rattle.rw_restarts.specs.WireReceivers.{HasShortBody}
 use Rattle.rw_restarts.proofs.AnswerLemmas.{answers-known}
 use Rattle.rw_restarts.proofs.KeptReceiverLemmas.{admission-answers}
 
@@ -67,24 +68,30 @@ module _ (c : Setup) (e : Exchange) (x : SentMessage) (old : State) (status : �
 
 -- if the body was too long, the head is as it was
 module _ (c : Setup) (e : Exchange) (x : SentMessage) (old : State) (status : ℕ) (new : State) (is : IsExchangeOfMessage c.target e x) where
+  -- a body that is not too long is not answered so
+  short_fits : endpoint_answer c old is.batch ≡ record { status = status; head = new } → nat_lt c.max_body (length (body_of is.batch)) ≡ false → status ≢ 413
+  short_fits answered short same =
+      let status_is : (answer_to old (Ok (message (map labelled is.batch)))).status ≡ 413 =
+      ap (λ (a : Answer). a.status) (sym (cond-false (nat_lt c.max_body (length (body_of is.batch))) (record { status = 413; head = old }) (answer_to old (Ok (message (map labelled is.batch)))) short) ∙ answered) ∙ same in
+      elim (answers-known old (message (map labelled is.batch))) [
+        | inl f ↦ omega (arith, status_is, f)
+        | inr (inl f) ↦ omega (arith, status_is, f)
+        | inr (inr f) ↦ omega (arith, status_is, f)
+      ]
+
   long_keeps : endpoint_answer c old is.batch ≡ record { status = status; head = new } → status ≡ 413 → new.store ≡ old.store
   long_keeps answered same = by_length (nat_lt c.max_body (length (body_of is.batch))) refl
     where
-      m : WriteRequest
-      m = message (map labelled is.batch)
-
       by_length : (b : Bool) → nat_lt c.max_body (length (body_of is.batch)) ≡ b → new.store ≡ old.store
-      by_length true long = ap (λ (a : Answer). a.head.store) (sym answered ∙ cond-true (nat_lt c.max_body (length (body_of is.batch))) (record { status = 413; head = old }) (answer_to old (Ok m)) long)
-      by_length false short =
-          let status_is : (answer_to old (Ok m)).status ≡ 413 =
-          ap (λ (a : Answer). a.status) (sym (cond-false (nat_lt c.max_body (length (body_of is.batch))) (record { status = 413; head = old }) (answer_to old (Ok m)) short) ∙ answered) ∙ same in
-          elim (answers-known old m) [
-            | inl f ↦ absurd (omega (arith, status_is, f))
-            | inr (inl f) ↦ absurd (omega (arith, status_is, f))
-            | inr (inr f) ↦ absurd (omega (arith, status_is, f))
-          ]
+      by_length true long = ap (λ (a : Answer). a.head.store) (sym answered ∙ cond-true (nat_lt c.max_body (length (body_of is.batch))) (record { status = 413; head = old }) (answer_to old (Ok (message (map labelled is.batch)))) long)
+      by_length false short = absurd (short_fits answered short same)
 
   pub too-long-keeps : (how : How) → Receives c how e.request old status new → status ≡ 413 → new.store ≡ old.store
   too-long-keeps Plain h same = long_keeps (h is.batch is.reads is.request) same
   too-long-keeps Busy h same = ap (λ (s : State). s.store) h.1
   too-long-keeps OutOfMemory h same = ap (λ (s : State). s.store) h.1
+
+  pub never-too-long : (how : How) → Receives c how e.request old status new → HasShortBody c e.request → status ≢ 413
+  never-too-long Plain h short same = short_fits (h is.batch is.reads is.request) (le-ltb c.max_body (length (body_of is.batch)) (short is.batch is.reads is.request)) same
+  never-too-long Busy h short same = omega (arith, h.0, same)
+  never-too-long OutOfMemory h short same = omega (arith, h.0, same)

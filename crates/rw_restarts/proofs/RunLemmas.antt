@@ -1,6 +1,5 @@
 -- A receiver of many runs of a sender.
 use Rattle.std.proofs.Common.{◌≡◌, ◌≢◌, ⊎_elim, ℕ, zero, suc, ◌<◌, ◌≤◌, List, [], ◌∷◌, ◌++◌, length, take, slice_get, append-nil, append_assoc, Option, Some, None, Result, Ok, Err, refl, sym, ap, ◌∙◌, subst, arith}
-use Rattle.std.specs.FinMap.{empty}
 use Rattle.std.proofs.lemmas.Bool.{cases_lt}
 use Rattle.std.proofs.lemmas.List.{take_all}
 use Rattle.std.proofs.lemmas.Option.{same_Some, slice_get_within}
@@ -13,7 +12,6 @@ use Rattle.rw_head.specs.declared.verdict.Verdict.{Verdict}
 use Rattle.rw_head.specs.Order.{Point}
 use Rattle.rw_head.specs.Store.{Store, list_of}
 use Rattle.rw_head.specs.Verdicts.{LabelLimits, taken_all}
-use Rattle.rw_head.proofs.shared.StoreLemmas.{list_of-empty}
 use Rattle.rw_restarts.specs.Parts.{EachListRises, points_in, IsNextPart, TakesAllPoints}
 use Rattle.rw_restarts.specs.Runs.{SentMessage, SenderRun, acknowledged_by, acknowledged_in, acknowledged_before, NoneRefused, AreRunsOver, IsSentBy}
 use Rattle.rw_restarts.specs.Receivers.{ReceiverEvent, Answers, Restarts, RestartsDuring, ReceiverState, IsRestarted, Brings, IsAnsweredAmong, IsReceiverOf, HoldsPrefixes}
@@ -69,8 +67,8 @@ module _ (limits : LabelLimits) (whole : Labels → List Point) (runs : List Sen
 
   start : Inv 0
   start = record {
-    holds = λ l. subst (λ (h : ReceiverState). Begins (list_of h.store l) (whole l)) (sym r.begins) (subst (λ ys. Begins ys (whole l)) (sym (list_of-empty l)) (whole l, refl));
-    acknowledged = λ l. subst (λ (h : ReceiverState). Begins (list_of h.acknowledged l) (list_of h.store l)) (sym r.begins) (begins_itself (list_of empty l));
+    holds = λ l. subst (λ ys. Begins ys (whole l)) (sym (r.begins l).0) (whole l, refl);
+    acknowledged = λ l. subst (λ ys. Begins ys (list_of (states 0).store l)) (sym (r.begins l).1) (list_of (states 0).store l, refl);
     none_refused = λ s i n lt e. absurd (omega (arith, lt));
     reached = λ s i n run x l lt e is some. absurd (omega (arith, lt));
     based = λ s i n m run x l lt e b is. absurd (omega (arith, lt));

@@ -1,6 +1,5 @@
 -- What comes over the wire to a receiver is what happens to such a receiver.
-use Rattle.std.proofs.Common.{◌≡◌, ◌≢◌, inl, inr, ℕ, suc, ◌+◌, ◌<◌, List, [], map, length, Option, Some, Result, Ok, Err, slice_get, refl, sym, ap, ◌∙◌, subst, arith}
-use Rattle.std.specs.FinMap.{empty}
+use Rattle.std.proofs.Common.{◌≡◌, ◌≢◌, inl, inr, ℕ, suc, ◌+◌, ◌<◌, ◌≤◌, List, [], map, length, Option, Some, Result, Ok, Err, slice_get, refl, sym, ap, ◌∙◌, subst, arith}
 use Rattle.std.proofs.lemmas.List.{length-map}
 use Rattle.std.proofs.lemmas.Bool.{cases_lt}
 use Rattle.std.proofs.lemmas.Option.{none-some, same_Some, slice_get_within}
@@ -36,6 +35,7 @@ use Rattle.rw_restarts.specs.WireReceivers.{RunOfWorkers, run_of, ExchangePlace,
 use Rattle.rw_restarts.specs.Stopped.{first_of_epoch}
 use Rattle.rw_restarts.proofs.AdditionLemmas.{set_up_at}
 use Rattle.rw_restarts.proofs.ListedLemmas.{joined_at}
+use Rattle.rw_restarts.proofs.ReceivedLemmas.{never-too-long}
 use Rattle.rw_restarts.proofs.PlaceLemmas.{IsMessageAt, in_shards, part_of_epoch, of_epochs, length_of_shards, apart_in_shards, within_epoch, grows_by_epoch, order_in_epoch}
 
 replied_as : (answer : Result Reply Lost) (j : Judgement) → judgement_by answer ≡ Some j → (r : Reply) × (answer ≡ Ok r) × (judgement_of r.status ≡ j)
@@ -48,7 +48,7 @@ module _ (c : Setup) (runs : List RunOfWorkers) (events : List WireEvent) (state
   -- ---- the message of an exchange
   sent_at : (p : ExchangePlace) (w : RunOfWorkers) (x : Exchange) → IsExchangeAt runs p w x → IsMessageAt c.target x w.run.sent (number_by (Some w) p)
   sent_at p w x is =
-      let of = r.workers p.run w is.exists in
+      let of = r.runs_are.workers p.run w is.exists in
       let part = part_of_epoch 0 w.epochs w.steps w.run.sent of.messages p.epoch p.epoch is.shards (omega arith) is.epoch in
       let own = in_shards 0 is.shards (w.steps p.epoch) part.part part.messages p.shard p.number p.shard is.shard x (omega arith) is.at is.is in
       record {
@@ -80,7 +80,7 @@ module _ (c : Setup) (runs : List RunOfWorkers) (events : List WireEvent) (state
   place_of : (i n : ℕ) (run : SenderRun) (x : SentMessage) → IsSentBy (map run_of runs) i n run x → HasPlace i n run x
   place_of i n run x s =
       let found = map_get run_of runs i run s.exists in
-      let of = r.workers i found.0 found.1 in
+      let of = r.runs_are.workers i found.0 found.1 in
       let at : slice_get found.0.run.sent n ≡ Some x = ap (λ (y : SenderRun). slice_get y.sent n) found.2 ∙ s.is in
       let m = of_epochs 0 found.0.epochs found.0.steps found.0.run.sent of.messages n x at in
       let same : m.i ≡ m.e = (let was : 0 + m.e ≡ m.i = m.i_is in omega (arith, was)) in
@@ -96,21 +96,22 @@ module _ (c : Setup) (runs : List RunOfWorkers) (events : List WireEvent) (state
       }
 
   -- ---- what happens
-  came : (at : ℕ) (e : WireEvent) → HappensOnWire c runs e (states at) (states (suc at)) → Happens c.limits (map run_of runs) (receiver_event runs e) (receiver_state (states at)) (receiver_state (states (suc at)))
-  came at (Comes p how status) h =
+  came : (at : ℕ) (e : WireEvent) → at ≤ length events → HappensOnWire c runs e (states at) (states (suc at)) → Happens c.limits (map run_of runs) (receiver_event runs e) (receiver_state (states at)) (receiver_state (states (suc at)))
+  came at (Comes p how status) le h =
       let m = sent_at p h.w h.x h.is in
       let old = states at in
       let new = states (suc at) in
-      let raw = answers c how h.x m.x old.head status new.head old.acknowledged m.carries h.received h.short in
+      let fits = never-too-long c h.x m.x old.head status new.head m.carries how h.received (r.runs_are.short p h.w h.x h.is) in
+      let raw = answers c how h.x m.x old.head status new.head old.acknowledged m.carries h.received fits in
       record {
         run = h.w.run;
         x = m.x;
         is = is_sent p h.w h.x h.is;
-        judged = subst (λ (limits : LabelLimits). AnswersAs limits m.x.message (judgement_of status) (receiver_state old) (receiver_state new)) (r.limits at)
+        judged = subst (λ (limits : LabelLimits). AnswersAs limits m.x.message (judgement_of status) (receiver_state old) (receiver_state new)) (r.limits at le)
             (subst (λ (a : Store). AnswersAs old.head.limits m.x.message (judgement_of status) (receiver_state old) (state_of new.head.store a)) (sym h.acknowledged) raw);
       }
-  came at Reopens h = h
-  came at (ReopensDuring p) h =
+  came at Reopens le h = h
+  came at (ReopensDuring p) le h =
       let m = sent_at p h.w h.x h.is in
       record {
         run = h.w.run;
@@ -124,7 +125,7 @@ module _ (c : Setup) (runs : List RunOfWorkers) (events : List WireEvent) (state
   happens_so : (at : ℕ) (event : ReceiverEvent) → slice_get (receiver_events runs events) at ≡ Some event → Happens c.limits (map run_of runs) event (receiver_state (states at)) (receiver_state (states (suc at)))
   happens_so at event is =
       let found = map_get (receiver_event runs) events at event is in
-      subst (λ (e : ReceiverEvent). Happens c.limits (map run_of runs) e (receiver_state (states at)) (receiver_state (states (suc at)))) found.2 (came at found.0 (r.happens at found.0 found.1))
+      subst (λ (e : ReceiverEvent). Happens c.limits (map run_of runs) e (receiver_state (states at)) (receiver_state (states (suc at)))) found.2 (let within = slice_get_within events at found.0 found.1 in came at found.0 (omega (arith, within)) (r.happens at found.0 found.1))
 
   -- ---- what comes
   record HasBrought (e : WireEvent) (i n : ℕ) : Type 0 where
@@ -171,7 +172,7 @@ module _ (c : Setup) (runs : List RunOfWorkers) (events : List WireEvent) (state
     -- two shards of one epoch share no label set
     one_shard : p.epoch ≡ q.epoch → p.shard < q.shard → ⊥
     one_shard same lt =
-        let of = r.workers q.run w qb.exists in
+        let of = r.runs_are.workers q.run w qb.exists in
         let part = part_of_epoch 0 w.epochs w.steps w.run.sent of.messages q.epoch q.epoch qb.shards (omega arith) qb.epoch in
         let size : length part.part ≡ exchanges_before 0 (w.steps q.epoch) (length qb.shards) = length_of_shards 0 qb.shards (w.steps q.epoch) part.part part.messages in
         let shards : pa.shards ≡ qb.shards = same_Some pa.shards qb.shards (sym pa.epoch ∙ ap (λ e. slice_get w.epochs e) same ∙ qb.epoch) in
@@ -241,8 +242,8 @@ module _ (c : Setup) (runs : List RunOfWorkers) (events : List WireEvent) (state
 
   pub receiver_of : IsReceiverOf c.limits (map run_of runs) (receiver_events runs events) (λ (at : ℕ). receiver_state (states at))
   receiver_of = record {
-    within = r.within;
-    begins = ap (λ (s : Store). state_of s (states 0).acknowledged) r.empty_first.0 ∙ ap (λ (s : Store). state_of empty s) r.empty_first.1;
+    within = r.runs_are.within;
+    begins = r.begins;
     happens = happens_so;
     answers = record {
       all = all_answered;

@@ -1,5 +1,6 @@
 pub mod Examples
 pub mod KeptReceivers
+pub mod KeptWireReceivers
 pub mod Logs
 pub mod Parts
 pub mod Receivers
@@ -9,5 +10,6 @@ pub mod Runs
 pub mod Senders
 pub mod Shards
 pub mod Stopped
+pub mod WireExamples
 pub mod WireReceivers
 pub mod Workers

@@ -31,6 +31,10 @@ state_of store acknowledged = record { store = store; acknowledged = acknowledge
 abbrev pub empty_receiver : ReceiverState
 empty_receiver = state_of empty empty
 
+-- it holds no sample, and has acknowledged none
+abbrev pub HoldsNothing : ReceiverState → Type 0
+HoldsNothing s = (l : Labels) → (list_of s.store l ≡ []) × (list_of s.acknowledged l ≡ [])
+
 -- It answers as a head does: it acknowledges a message that it takes whole, and refuses one that it
 -- cannot take. Else it may ask for the message again.
 abbrev pub AnswersAs : LabelLimits → WriteRequest → Judgement → ReceiverState → ReceiverState → Type 0
@@ -105,7 +109,7 @@ pub record IsReceiverOf (limits : LabelLimits) (runs : List SenderRun) (events :
     (states : ℕ → ReceiverState) : Type 0 where
   pub within : (i n : ℕ) (run : SenderRun) (x : SentMessage) → IsSentBy runs i n run x
       → AreWithinLimits limits x.message
-  pub begins : states 0 ≡ empty_receiver
+  pub begins : HoldsNothing (states 0)
   pub happens : (at : ℕ) (event : ReceiverEvent) → slice_get events at ≡ Some event
       → Happens limits runs event (states at) (states (suc at))
   pub answers : AreRealAnswers runs events

@@ -1,6 +1,5 @@
 -- What comes over the wire to a receiver that is started again, of the workers of many runs.
-use Rattle.std.specs.Prelude.{◌≡◌, ◌≢◌, ◌⊎◌, ℕ, zero, suc, ◌+◌, ◌<◌, List, [], ◌∷◌, length, map, Option, None, Some, Ok, slice_get}
-use Rattle.std.specs.FinMap.{empty}
+use Rattle.std.specs.Prelude.{◌≡◌, ◌⊎◌, ℕ, zero, suc, ◌+◌, ◌<◌, ◌≤◌, List, [], ◌∷◌, length, map, Option, None, Some, Ok, slice_get}
 use Rattle.rw_types.specs.Beginnings.{Begins}
 use Rattle.rw_types.specs.Labels.{Labels}
 use Rattle.rw_types.specs.declared.entry.Entry.{Entry}
@@ -8,7 +7,7 @@ use Rattle.rw_relabel.specs.declared.choice.Choice.{Choice}
 use Rattle.rw_retry.specs.Judgements.{judgement_of}
 use Rattle.rw_plain_queue.specs.Items.{Placed}
 use Rattle.rw_batch.specs.Grouping.{message}
-use Rattle.rw_shard_core.specs.Shard.{IsReadAgain, labelled}
+use Rattle.rw_shard_core.specs.Shard.{IsReadAgain, body_of, labelled}
 use Rattle.rw_shard_core.specs.declared.config.Target.{Target}
 use Rattle.rw_worker.specs.declared.transport.Reply.{Reply}
 use Rattle.rw_worker.specs.Steps.{Step, exchanges_of}
@@ -24,7 +23,7 @@ use Rattle.rw_machine.specs.declared.event.How.{How}
 use Rattle.rw_simulation.specs.Arrivals.{Receives}
 use Rattle.rw_restarts.specs.Parts.{AreWithinLimits}
 use Rattle.rw_restarts.specs.Runs.{SentMessage, SenderRun, IsSentBy}
-use Rattle.rw_restarts.specs.Receivers.{ReceiverEvent, Answers, Restarts, RestartsDuring, ReceiverState, state_of, IsRestarted, IsReceiverOf}
+use Rattle.rw_restarts.specs.Receivers.{ReceiverEvent, Answers, Restarts, RestartsDuring, ReceiverState, state_of, HoldsNothing, IsRestarted, IsReceiverOf}
 use Rattle.rw_restarts.specs.KeptReceivers.{acknowledged_after}
 use Rattle.rw_restarts.specs.Logs.{AreRunsOverLog, HoldsLog}
 use Rattle.rw_restarts.specs.Shards.{AreMessagesOfEpochs}
@@ -108,15 +107,18 @@ pub record WireState : Type 0 where
 abbrev pub receiver_state : WireState → ReceiverState
 receiver_state s = state_of s.head.store s.acknowledged
 
--- The request has come, and was answered as the endpoint answers it, which did not find its body
--- too long.
+-- the endpoint takes a body as long as that of this request
+abbrev pub HasShortBody : Setup → List ℕ → Type 0
+HasShortBody c request = (batch : List Placed) → IsReadAgain batch
+    → request ≡ batch_request c.target batch → length (body_of batch) ≤ c.max_body
+
+-- the request has come, and was answered as the endpoint answers it
 pub record HasCome (c : Setup) (runs : List RunOfWorkers) (p : ExchangePlace) (how : How)
     (status : ℕ) (old new : WireState) : Type 0 where
   pub w : RunOfWorkers
   pub x : Exchange
   pub is : IsExchangeAt runs p w x
   pub received : Receives c how x.request old.head status new.head
-  pub short : status ≢ 413
   pub acknowledged : new.acknowledged
       ≡ acknowledged_after (judgement_of status) old.acknowledged new.head.store
 
@@ -164,23 +166,32 @@ pub record AreReadAnswers (runs : List RunOfWorkers) (events : List WireEvent) :
       → IsEarlierExchange p q → IsExchangeAt runs p w x → x.answer ≡ Ok r
       → IsAnsweredOnWire events at p r.status
 
--- One receiver, which began empty. The requests of the workers of these runs come to it, each once,
--- often, late or never, and it is started again any number of times. Its limits take all label sets
--- that are sent (`within`). When a request of a run comes, all that is earlier than the log of this
--- run is acknowledged (`covered`).
-pub record IsWireReceiver (c : Setup) (runs : List RunOfWorkers) (events : List WireEvent)
-    (states : ℕ → WireState) : Type 0 where
+-- These are runs of workers to one receiver, whose limits take all label sets and all bodies that
+-- they send (`within`, `short`).
+pub record AreRunsTo (c : Setup) (runs : List RunOfWorkers) : Type 0 where
   pub workers : (i : ℕ) (w : RunOfWorkers) → slice_get runs i ≡ Some w → IsRunOfWorkers c.target w
   pub within : (i n : ℕ) (run : SenderRun) (x : SentMessage) → IsSentBy (map run_of runs) i n run x
       → AreWithinLimits c.limits x.message
-  pub empty_first : ((states 0).head.store ≡ empty) × ((states 0).acknowledged ≡ empty)
-  pub limits : (at : ℕ) → (states at).head.limits ≡ c.limits
+  pub short : (p : ExchangePlace) (w : RunOfWorkers) (x : Exchange) → IsExchangeAt runs p w x
+      → HasShortBody c x.request
+
+-- when a request of a run comes, all that is earlier than the log of this run is acknowledged
+abbrev pub IsCoveredBy : List RunOfWorkers → List WireEvent → (ℕ → Store) → Type 0
+IsCoveredBy runs events acknowledged = (at : ℕ) (event : WireEvent) (p : ExchangePlace)
+    (w : RunOfWorkers) (l : Labels) → slice_get events at ≡ Some event → BringsExchange event p
+    → slice_get runs p.run ≡ Some w → Begins (w.run.earlier l) (list_of (acknowledged at) l)
+
+-- One receiver, which began empty. The requests of the workers of these runs come to it, each once,
+-- often, late or never, and it is started again any number of times.
+pub record IsWireReceiver (c : Setup) (runs : List RunOfWorkers) (events : List WireEvent)
+    (states : ℕ → WireState) : Type 0 where
+  pub runs_are : AreRunsTo c runs
+  pub begins : HoldsNothing (receiver_state (states 0))
+  pub limits : (at : ℕ) → at ≤ length events → (states at).head.limits ≡ c.limits
   pub happens : (at : ℕ) (event : WireEvent) → slice_get events at ≡ Some event
       → HappensOnWire c runs event (states at) (states (suc at))
   pub answers : AreReadAnswers runs events
-  pub covered : (at : ℕ) (event : WireEvent) (p : ExchangePlace) (w : RunOfWorkers) (l : Labels)
-      → slice_get events at ≡ Some event → BringsExchange event p → slice_get runs p.run ≡ Some w
-      → Begins (w.run.earlier l) (list_of (states at).acknowledged l)
+  pub covered : IsCoveredBy runs events (λ (at : ℕ). (states at).acknowledged)
 
 -- ---- as messages and events
 abbrev pub receiver_event : List RunOfWorkers → WireEvent → ReceiverEvent

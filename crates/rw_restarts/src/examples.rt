@@ -1,14 +1,25 @@
-//! Worked rows of the definitions. The function has an empty body: its contract is the rows.
+//! Worked rows of the definitions. Each function has no body but the law that it rests on: its
+//! contract is the rows.
 
 ghost use Rattle.std.specs.Prelude.{◌≡◌, pos, [], ◌∷◌, Some};
+ghost use Rattle.std.specs.declared.alloc.Global.{Global};
+ghost use Rattle.std.specs.declared.sync.Arc.{Arc};
+ghost use Rattle.rw_types.specs.Labels.{Labels};
+ghost use Rattle.rw_worker.specs.Setups.{WorkerSetup, start_of};
+ghost use Rattle.rw_worker.specs.Steps.{AreSteps};
 ghost use Rattle.rw_fleet.specs.ShardHistories.{ShardHistory};
 ghost use Rattle.rw_retry.specs.declared.judgement.Judgement.TheVariants.{Done, Again};
+ghost use Rattle.rw_head.specs.Store.{list_of};
 ghost use Rattle.rw_checkpoint.specs.Owed.{rising};
 ghost use Rattle.rw_restarts.specs.Parts.{points_in};
 ghost use Rattle.rw_restarts.specs.Runs.{AreRunsOver, acknowledged_in};
 ghost use Rattle.rw_restarts.specs.Receivers.{IsReceiverOf};
 ghost use Rattle.rw_restarts.specs.Stopped.{first_of_epoch};
+ghost use Rattle.rw_restarts.specs.WireReceivers.{IsWireReceiver};
 ghost use Rattle.rw_restarts.specs.Examples as examples;
+ghost use Rattle.rw_restarts.specs.WireExamples as wire;
+
+use rw_write_request::canonical_is_read;
 
 /// Law: of samples at the times 10, 5 and 20 the first and the last rise. A message that is
 /// answered with 429 and then with 204 is acknowledged once. A small history, of two runs and a
@@ -27,3 +38,17 @@ pub fn a_small_history_is_allowed()
     ensures places { (a b c : ShardHistory)
         → first_of_epoch ((a ∷ b ∷ []) ∷ (c ∷ []) ∷ []) 1 ≡ 2 }
 {}
+
+/// Law: so can the premises on what comes over the wire be met. A worker takes one sample, cuts a
+/// batch and sends it (`steps`). The request comes to a receiver, which answers 204 and is started
+/// again (`receiver`). It then holds the sample (`held`).
+pub fn a_small_history_over_the_wire_is_allowed()
+    ensures steps { (worker : WorkerSetup) (shared : Arc Labels Global)
+        → AreSteps (start_of (wire.setup worker shared)) (wire.steps worker shared) }
+    ensures receiver { (worker : WorkerSetup) (shared : Arc Labels Global)
+        → IsWireReceiver wire.receiver (wire.run worker shared ∷ []) wire.events wire.states }
+    ensures held { list_of (wire.states 2).head.store examples.example_series
+        ≡ examples.first ∷ [] }
+{
+    canonical_is_read();
+}

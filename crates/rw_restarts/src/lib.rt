@@ -12,7 +12,7 @@ mod stopped;
 mod wire;
 mod workers;
 
-pub use examples::a_small_history_is_allowed;
+pub use examples::{a_small_history_is_allowed, a_small_history_over_the_wire_is_allowed};
 pub use logs::{a_run_over_a_part_is_a_run_over_the_log, many_runs_hold_one_log};
 pub use receivers::{a_kept_head_is_such_a_receiver, an_endpoint_is_such_a_receiver};
 pub use relay::{
@@ -26,6 +26,7 @@ pub use runs::{
 pub use senders::{a_sender_is_a_run, what_is_put_is_what_is_owed};
 pub use stopped::{a_stopped_shipper_adds_its_samples, a_stopped_shipper_is_such_a_sender};
 pub use wire::{
-    a_stopped_shipper_is_a_run_of_workers, what_comes_over_the_wire_is_such_a_receiver,
+    a_kept_receiver_is_such_a_receiver, a_stopped_shipper_is_a_run_of_workers,
+    what_comes_over_the_wire_is_such_a_receiver,
 };
 pub use workers::{a_batch_has_its_samples, a_worker_sends_in_order, a_worker_sends_its_samples};

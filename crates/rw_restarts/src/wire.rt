@@ -9,9 +9,12 @@ ghost use Rattle.rw_sender.specs.Shipping.{Shipping};
 ghost use Rattle.rw_sender.specs.declared.report.Report.{Report};
 ghost use Rattle.rw_restarts.specs.WireReceivers.{RunOfWorkers, WireEvent, WireState};
 ghost use Rattle.rw_restarts.specs.WireReceivers.{IsReceiverByWire, HoldsLogByWire, StopsAsWorkers};
+ghost use Rattle.rw_restarts.specs.KeptWireReceivers.{KeptState, IsWireReceiverKept, HoldsLogKept};
 
 use crate::logs::many_runs_hold_one_log;
 use crate::receivers::an_endpoint_is_such_a_receiver;
+use rw_journal::Journal;
+use rw_kept_head::laws::what_is_left_lies_between;
 use rw_worker::Transport;
 
 /// Law: a receiver to which the requests of the workers of many runs come over the wire is one of
@@ -30,6 +33,26 @@ pub fn what_comes_over_the_wire_is_such_a_receiver()
 {
     an_endpoint_is_such_a_receiver();
     many_runs_hold_one_log();
+}
+
+/// Law: a receiver whose head is kept in a journal is such a receiver (`receiver`), from its first
+/// start to its last. It is killed at any moment, and opened again from what the crash left of the
+/// log that the head before it wrote. So it holds what the laws say of the log that the runs are
+/// over (`holds`).
+///
+/// Of the head it is asked what `KeptHead::admit` and `KeptHead::open` ensure. Of the disk it is
+/// asked that a folder which is opened has what the crash left, and that no checksum in this is
+/// right by chance.
+pub fn a_kept_receiver_is_such_a_receiver<J: Journal>()
+    ensures receiver { (c : Setup) (runs : List RunOfWorkers) (events : List WireEvent)
+        (states : ℕ → KeptState J) → IsWireReceiverKept J.seen J.may_leave J.moment J.left_since
+        J.tears c runs events states }
+    ensures holds { (c : Setup) (runs : List RunOfWorkers) (events : List WireEvent)
+        (states : ℕ → KeptState J) (choice : Choice) (log : List Entry) → HoldsLogKept J.seen
+        J.may_leave J.moment J.left_since J.tears c runs events states choice log }
+{
+    what_is_left_lies_between::<J>();
+    what_comes_over_the_wire_is_such_a_receiver();
 }
 
 /// Law: a shipper that was stopped is such a run of workers, by the steps that they report.

@@ -1,0 +1,15 @@
+use Rattle.std.proofs.Common.{[], ◌∷◌}
+use Rattle.std.specs.FinMap.{empty}
+use Rattle.rw_restarts.specs.Examples.{first}
+use Rattle.rw_restarts.proofs.ExampleLemmas.{list_is}
+use Rattle.rw_restarts.proofs.WireExampleLemmas.{steps-allowed, wire-receiver-is}
+use Rattle.rw_restarts.proofs.examples.a_small_history_over_the_wire_is_allowed.Goals as goal
+
+pub returns-clause-steps : goal.returns-clause-steps
+returns-clause-steps c = steps-allowed c.canonical_is_read.ensures
+
+pub returns-clause-receiver : goal.returns-clause-receiver
+returns-clause-receiver c = wire-receiver-is c.canonical_is_read.ensures
+
+pub returns-clause-held : goal.returns-clause-held
+returns-clause-held c = list_is (first ∷ []) empty
