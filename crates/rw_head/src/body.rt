@@ -22,7 +22,7 @@ const MOST_WHOLE_BYTES: usize = 65_536;
 fn stage_whole(
     table: &mut Table,
     bounds: &LabelBounds,
-    bytes: &[u8],
+    bytes: &[u8], // of one series
 ) -> Result<(), Verdict>
     requires within { HoldsNoneRefused bounds.now table.old.staged }
     requires few { HasFewLabels bounds.now (read_series bytes.now) }
@@ -40,7 +40,7 @@ fn stage_whole(
 fn stage_in_parts(
     table: &mut Table,
     bounds: &LabelBounds,
-    bytes: &[u8],
+    bytes: &[u8], // of one series
 ) -> Result<(), Verdict>
     requires within { HoldsNoneRefused bounds.now table.old.staged }
     requires few { HasFewLabels bounds.now (read_series bytes.now) }
@@ -66,7 +66,7 @@ fn stage_in_parts(
 fn stage_read(
     table: &mut Table,
     bounds: &LabelBounds,
-    bytes: &[u8],
+    bytes: &[u8], // of one series
 ) -> Result<(), Verdict>
     requires within { HoldsNoneRefused bounds.now table.old.staged }
     requires few { HasFewLabels bounds.now (read_series bytes.now) }
@@ -85,7 +85,7 @@ fn stage_read(
 fn stage_series(
     table: &mut Table,
     bounds: &LabelBounds,
-    bytes: &[u8],
+    bytes: &[u8], // of one series
 ) -> Result<(), Verdict>
     requires { HoldsNoneRefused bounds.now table.old.staged }
     ensures kept { table.new.kept ≡ table.old.kept }
@@ -108,7 +108,7 @@ fn stage_series(
 fn stage_parts(
     table: &mut Table,
     bounds: &LabelBounds,
-    body: &[u8],
+    body: &[u8], // of a request
 ) -> Result<(), Verdict>
     requires { HoldsNoneRefused bounds.now table.old.staged }
     ensures kept { table.new.kept ≡ table.old.kept }

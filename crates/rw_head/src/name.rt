@@ -57,7 +57,10 @@ fn key_of(alloc: Global, labels: &LabelSet) -> Result<Vec<u8>, AllocError>
     ensures { IfOk result (λ k. k.items ≡ labels_key labels.now) }
 {
     let texts = labels.as_slice();
-    let room = labels.fields().len().saturating_sub(texts.len().saturating_mul(4));
+    let room = labels
+        .fields()
+        .len()
+        .saturating_sub(texts.len().saturating_mul(4));
     let mut key = Vec::with_capacity(alloc, room)?;
     for (name, value) in texts {
         put_text(&mut key, name)?;

@@ -98,7 +98,7 @@ impl Head {
                 let head = Head {
                     alloc,
                     table,
-                        bounds,
+                    bounds,
                     busy,
                 };
                 Err((head, status_of(verdict)))
