@@ -214,17 +214,27 @@ static BY_TYPE: [(&str, u64); 9] = [
     ("metadata", 1),
 ];
 
-/// Returns the report of a segment of records that are skipped.
-fn report_of_skipped(alloc: Global) -> Result<Report, ReadFault> {
+/// Returns a segment of records that are skipped.
+fn skipped_segment(alloc: Global) -> Result<Vec<u8>, AllocError> {
     let mut writer = SegmentWriter::new(Room::new(alloc, 4096)?, 1);
     let _ = writer.log(&[]);
     for kind in &SKIPPED {
-        let _ = writer.log(&[*kind, 0]);
+        let record = [*kind, 0];
+        let _ = writer.log(&record);
     }
-    let segment = writer.into_inner().into_bytes();
+    Ok(writer.into_inner().into_bytes())
+}
+
+/// Returns the readers of one segment.
+fn alone(alloc: Global, text: &[u8]) -> Result<Vec<Named<&[u8]>>, AllocError> {
     let mut segments = Vec::with_capacity(alloc, 1)?;
-    segments.push_reserved(named(alloc, "0", &segment)?);
-    inspect(alloc, segments)
+    segments.push_reserved(named(alloc, "0", text)?);
+    Ok(segments)
+}
+
+/// Returns the report of a segment.
+fn report_of_one(alloc: Global, text: &[u8]) -> Result<Report, ReadFault> {
+    inspect(alloc, alone(alloc, text)?)
 }
 
 /// Returns the first type of `BY_TYPE` whose number is wrong in a report.
@@ -244,7 +254,8 @@ fn wrong_type(report: &Report) -> Option<&'static str> {
 
 #[test]
 fn skipped_records_by_type(rt: HostRuntime) -> Result<(), Fail> {
-    let report = report_of_skipped(rt.alloc())?;
+    let segment = skipped_segment(rt.alloc())?;
+    let report = report_of_one(rt.alloc(), &segment)?;
     none_is_wrong(&rt, wrong_type(&report));
     Ok(())
 }
