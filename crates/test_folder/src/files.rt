@@ -22,7 +22,7 @@ struct Row {
     missing: Option<u64>,
 }
 
-static ROWS: [Row; 8] = [
+static ROWS: [Row; 9] = [
     Row {
         name: "no checkpoint",
         folders: &[],
@@ -81,6 +81,13 @@ static ROWS: [Row; 8] = [
         name: "nothing after the checkpoint",
         folders: &["checkpoint.00000003"],
         files: &["checkpoint.00000003/00000000"],
+        text: "checkpoint.00000003/00000000 ",
+        missing: None,
+    },
+    Row {
+        name: "old segments, and none after the checkpoint",
+        folders: &["checkpoint.00000003"],
+        files: &["00000002", "00000003", "checkpoint.00000003/00000000"],
         text: "checkpoint.00000003/00000000 ",
         missing: None,
     },
