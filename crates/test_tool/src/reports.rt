@@ -197,17 +197,16 @@ fn entries_at_positions(rt: HostRuntime) -> Result<(), Fail> {
     Ok(())
 }
 
-/// The first bytes of records that hold neither series nor samples (wal.md). A record of no byte is
-/// skipped, too.
+/// The first bytes of records that hold neither series nor samples (wal.md).
 static SKIPPED: [u8; 12] = [3, 4, 5, 6, 7, 8, 9, 10, 11, 7, 255, 3];
 
-/// How many of them, and of the one of no byte, are of each type.
+/// How many of them are of each type.
 static BY_TYPE: [(&str, u64); 9] = [
     ("histogram_samples", 2),
     ("float_histogram_samples", 1),
     ("custom_buckets_histogram_samples", 1),
     ("custom_buckets_float_histogram_samples", 1),
-    ("unknown", 3),
+    ("unknown", 2),
     ("tombstones", 2),
     ("exemplars", 1),
     ("mmapmarkers", 1),
@@ -217,7 +216,6 @@ static BY_TYPE: [(&str, u64); 9] = [
 /// Returns a segment of records that are skipped.
 fn skipped_segment(alloc: Global) -> Result<Vec<u8>, AllocError> {
     let mut writer = SegmentWriter::new(Room::new(alloc, 4096)?, 1);
-    let _ = writer.log(&[]);
     for kind in &SKIPPED {
         let record = [*kind, 0];
         let _ = writer.log(&record);
