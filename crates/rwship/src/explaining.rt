@@ -66,7 +66,7 @@ fn print_input_fault(
     }
 }
 
-/// Says that a folder, or standard output if there is none, could not be written.
+/// Says that a folder, or without one standard output, could not be written.
 fn print_unwritten(rt: &HostRuntime, dir: Option<&str>) {
     let Some(dir) = dir else {
         print_output_error(rt);

@@ -88,8 +88,8 @@ pub fn note_empty(rt: &HostRuntime, dir: LogDir<'_>, is_asked_for: bool) {
     }
 }
 
-/// Returns the files of the log in a folder, each with its name. If there is none, that is reported
-/// as `note_empty` does.
+/// Returns the files of the log in a folder, each with its name. That a folder has no segment is
+/// reported as `note_empty` does.
 fn files_to_print(
     rt: &HostRuntime,
     dir: LogDir<'_>,
