@@ -1,15 +1,15 @@
 //! A receiver in the same process.
 
-ghost use Rattle.std.specs.Prelude.{◌≡◌, ◌+◌, ◌<◌, [], All, IfOk};
+ghost use Rattle.std.specs.Prelude.{◌≡◌, ◌+◌, ◌<◌, [], All, IfOk, Some};
 
 use rw_head::{Head, Limits};
-use rw_recv_head::{Blank, Naming, Seat, SharedHead};
+use rw_recv_head::{Blank, Holding, Seat, SharedHead};
 use std::alloc::{AllocError, Global};
 use std::marker::{Brand, Model};
 
 /// Which receiver it is: its head, the path of its endpoint, and the most bytes of a body that the
 /// endpoint reads. Each call of a program picks it.
-pub trait Endpoint: Naming {
+pub trait Endpoint: Holding<Head> {
     ghost use Rattle.std.specs.Prelude.{ℕ, List};
 
     ghost path: { List ℕ };
@@ -59,6 +59,7 @@ impl<L: Endpoint> Receiver<L> {
         requires parts { (blank.parts ≡ seats + 1) × (L.parts ≡ seats + 1) }
         requires table { blank.table ≡ L.table }
         requires opening { head ≡ L.opening }
+        requires first { L.first ≡ Some head }
         requires path { limits.path ≡ L.path }
         requires limit { limits.max_body_bytes ≡ L.limit }
         ensures seats { IfOk result (λ r. r.0.seats ≡ seats) }

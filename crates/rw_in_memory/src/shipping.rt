@@ -1,6 +1,6 @@
 //! Ships a log to a head in the same process.
 
-ghost use Rattle.std.specs.Prelude.{◌≡◌, ◌+◌, [], None, map, All, length, IfOk};
+ghost use Rattle.std.specs.Prelude.{◌≡◌, ◌+◌, [], None, map, All, length, IfOk, Some};
 ghost use Rattle.std.specs.Arc.{arc_value};
 ghost use Rattle.std.specs.FinMap.{empty};
 ghost use Rattle.rw_sender.specs.Feeders.{HasRead};
@@ -188,6 +188,7 @@ fn ship_shared<
     requires parts { (blank.parts ≡ count + 1) × (L.parts ≡ count + 1) }
     requires table { blank.table ≡ L.table }
     requires opening { head ≡ L.opening }
+    requires first { L.first ≡ Some head }
     requires empty { head.store ≡ empty }
     requires path { limits.path ≡ L.path }
     requires limit { limits.max_body_bytes ≡ L.limit }

@@ -6,7 +6,7 @@ use Rattle.rw_head.specs.declared.limits.Limits.{Limits}
 use Rattle.rw_head.specs.Head.{State}
 use Rattle.rw_head.specs.Store.{Store}
 use Rattle.rw_head.specs.Growth.{EachRises}
-use Rattle.rw_recv_head.specs.Seats.{Seated, HasGathered}
+use Rattle.rw_recv_head.specs.Seats.{Seated, HasAdmitted, HasGathered}
 use Rattle.rw_state_text.specs.StateText.{store_text}
 
 -- a prefix of the text was written
@@ -28,6 +28,12 @@ pub record HasReceived (opening : State) (count : ℕ) (store : Store) : Type 0 
   pub all : length seats ≡ count
   pub gathered : HasGathered opening seats store
   pub rises : EachRises store
+
+-- What had that head, `first`, was asked so from that many seats, one question after the other, and
+-- came to `last`.
+pub record HasServed {H : Type 0} (state : H → State) (admits : H → List ℕ → ℕ → H → Type 0) (opening : State) (first : Option H) (count : ℕ) (last : H) : Type 0 where
+  pub received : HasReceived opening count (state last).store
+  pub admitted : HasAdmitted admits first received.gathered.asked last
 
 -- a new head with these limits has received these
 abbrev pub IsReceived : Limits → ℕ → Store → Type 0

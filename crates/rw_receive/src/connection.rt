@@ -1,7 +1,7 @@
 //! A connection that is served in a thread, or that has ended.
 
 use crate::serving::{ServerContext, serve_connection};
-use rw_recv_head::{Admit, Naming, Seat, SharedHead};
+use rw_recv_head::{Admit, Holding, Naming, Seat, SharedHead};
 use std::alloc::Global;
 use std::net::TcpStream;
 use std::sync::atomic::{AtomicBool, Ordering};
@@ -32,7 +32,7 @@ pub(crate) enum Connection<L: Naming> {
 pub(crate) fn start_connection<
     's,
     E,
-    L: Naming + Send + Sync + 's,
+    L: Holding<H> + Send + Sync + 's,
     H: Admit + Drop + Send + 's,
     R: Wait + Clock + Sync,
 >(

@@ -1,12 +1,12 @@
 //! Connections, each served in its own thread.
 
-ghost use Rattle.std.specs.Prelude.{◌≡◌, ◌+◌, ◌<◌, ◌⊎◌, IfOk, IfErr, vec_len};
-ghost use Rattle.rw_receive.specs.Receiving.{HasReceived};
+ghost use Rattle.std.specs.Prelude.{◌≡◌, ◌+◌, ◌<◌, ◌⊎◌, IfOk, IfErr, vec_len, Some};
+ghost use Rattle.rw_receive.specs.Receiving.{HasServed};
 ghost use Rattle.rw_text.specs.declared.tool_fault.ToolFault.TheVariants.{OutOfMemory, Device};
 
 use crate::final_head::FinalHead;
 use crate::serving::{ServerContext, serve_connection};
-use rw_recv_head::{Admit, Blank, Naming, Seat, SharedHead};
+use rw_recv_head::{Admit, Blank, Holding, Naming, Seat, SharedHead};
 use rw_text::ToolFault;
 use std::alloc::{AllocError, Global};
 use std::net::{TcpListener, TcpStream};
@@ -29,7 +29,7 @@ fn accept(listener: &TcpListener) -> Result<TcpStream, ToolFault>
 fn spawn_connection<
     's,
     E,
-    L: Naming + Send + Sync + 's,
+    L: Holding<H> + Send + Sync + 's,
     H: Admit + Drop + Send + 's,
     R: Wait + Clock + Sync,
 >(
@@ -52,7 +52,7 @@ fn spawn_connection<
 fn start_each<
     's,
     E,
-    L: Naming + Send + Sync + 's,
+    L: Holding<H> + Send + Sync + 's,
     H: Admit + Drop + Send + 's,
     R: Wait + Clock + Sync,
 >(
@@ -92,7 +92,11 @@ fn join_each<L: Naming, R: Threads>(
 /// Serves one connection from each seat, each in its own thread, and returns the seats. The
 /// listener is closed once the last connection has come, or none can be served any more: whoever
 /// comes then is refused at once, and does not wait for those being served.
-fn serve_each<L: Naming + Send + Sync, H: Admit + Drop + Send, R: Threads + Wait + Clock + Sync>(
+fn serve_each<
+    L: Holding<H> + Send + Sync,
+    H: Admit + Drop + Send,
+    R: Threads + Wait + Clock + Sync,
+>(
     rt: &R,
     listener: TcpListener,
     context: &ServerContext<'_>,
@@ -118,7 +122,7 @@ fn serve_each<L: Naming + Send + Sync, H: Admit + Drop + Send, R: Threads + Wait
 
 /// Serves `connections` connections over one head. Returns the head that they leave.
 pub(crate) fn receive_all<
-    L: Naming + Send + Sync,
+    L: Holding<H> + Send + Sync,
     H: Admit + Drop + Send,
     R: Threads + Wait + Clock + Sync,
 >(
@@ -134,7 +138,9 @@ pub(crate) fn receive_all<
     requires parts { (blank.parts ≡ connections + 1) × (L.parts ≡ connections + 1) }
     requires table { blank.table ≡ L.table }
     requires opening { H.state head ≡ L.opening }
-    ensures received { IfOk result (λ head. HasReceived L.opening connections (H.state head).store) }
+    requires first { L.first ≡ Some head }
+    ensures received { IfOk result
+        (HasServed H.state H.admits L.opening L.first connections) }
     ensures faults { IfErr result (λ e. (e ≡ OutOfMemory) ⊎ (e ≡ Device)) }
 {
     let Ok((shared, seats)) = SharedHead::<L, H>::seats(context.alloc, blank, head, connections)

@@ -2,13 +2,13 @@
 
 use rw_endpoint::Answer;
 use rw_metrics::ReceiveCounters;
-use rw_recv_head::{Admit, Naming, Seat, SharedHead};
+use rw_recv_head::{Admit, Holding, Seat, SharedHead};
 use std::sync::Wait;
 
 /// A seat that is lent to answer the bodies of a connection's requests. Each answer may wait for
 /// the lock, and is counted.
 #[derive(Drop)]
-pub(crate) struct CountingSeat<'a, R, L: Naming, H: Admit> {
+pub(crate) struct CountingSeat<'a, R, L: Holding<H>, H: Admit> {
     pub(crate) rt: &'a R,
     pub(crate) shared: &'a SharedHead<L, H>,
     /// A seat of that shared head.
@@ -16,7 +16,7 @@ pub(crate) struct CountingSeat<'a, R, L: Naming, H: Admit> {
     pub(crate) counters: &'a ReceiveCounters,
 }
 
-impl<R: Wait, L: Naming, H: Admit> Answer for CountingSeat<'_, R, L, H> {
+impl<R: Wait, L: Holding<H>, H: Admit> Answer for CountingSeat<'_, R, L, H> {
     ghost use Rattle.std.specs.Prelude.{◌≡◌};
     ghost use Rattle.rw_recv_head.specs.Seats.{HasAsked};
 

@@ -6,10 +6,10 @@ ghost use Rattle.rw_text.specs.declared.tool_fault.ToolFault.TheVariants.{OutOfM
 ghost use Rattle.rw_head.specs.Growth.{EachRises};
 ghost use Rattle.rw_head.specs.Store.{total};
 ghost use Rattle.rw_receive.specs.Receiving.{AppendsPart};
-ghost use Rattle.rw_recv_head.specs.Seats.{HasGathered};
+ghost use Rattle.rw_recv_head.specs.Seats.{HasAdmitted, HasGathered};
 ghost use Rattle.rw_state_text.specs.StateText.{store_text};
 
-use rw_recv_head::{Admit, Naming, Seat, SharedHead};
+use rw_recv_head::{Admit, Holding, Seat, SharedHead};
 use rw_state_text::push_store;
 use rw_text::ToolFault;
 use rw_types::{Sink, write_all};
@@ -32,9 +32,10 @@ impl<H: Admit> Model for FinalHead<H> {
 impl<H: Admit> FinalHead<H> {
     /// Returns the head once all seats were returned. It holds what it held at first, and what was
     /// stored from each seat over all its connections.
-    pub(crate) fn gather<L: Naming>(shared: SharedHead<L, H>, seats: Vec<Seat<L>>) -> FinalHead<H>
+    pub(crate) fn gather<L: Holding<H>>(shared: SharedHead<L, H>, seats: Vec<Seat<L>>) -> FinalHead<H>
         requires { vec_len seats ≡ shared.seats }
-        ensures gathered { HasGathered L.opening seats.items (H.state result).store }
+        ensures gathered { (all : HasGathered L.opening seats.items (H.state result).store)
+            × HasAdmitted H.admits L.first all.asked result }
         ensures adds_up { total (H.state result).store
             ≡ shared.start + sum_by (λ s. s.stored) seats.items }
         ensures rises { EachRises (H.state result).store }

@@ -1,7 +1,7 @@
 //! The command `receive`, over any listener and writer.
 
-ghost use Rattle.std.specs.Prelude.{◌≡◌, ◌⊎◌, true, false, Err, IfErr, IfOk, OnOk};
-ghost use Rattle.rw_receive.specs.Receiving.{HasReceived, WritesHeld, WritesHeldPart};
+ghost use Rattle.std.specs.Prelude.{◌≡◌, ◌⊎◌, true, false, Err, IfErr, IfOk, OnOk, Some};
+ghost use Rattle.rw_receive.specs.Receiving.{HasServed, WritesHeld, WritesHeldPart};
 ghost use Rattle.rw_text.specs.declared.tool_fault.ToolFault.TheVariants.{OutOfMemory, Device};
 
 use crate::connections::receive_all;
@@ -51,7 +51,7 @@ pub fn serve_connections<R: Threads + Wait + Clock + Sync, H: Admit + Drop + Sen
     holder: H,
 ) -> Result<FinalHead<H>, ToolFault>
     ensures received { IfOk result
-        (λ head. HasReceived (H.state holder) service.entry.most (H.state head).store) }
+        (HasServed H.state H.admits (H.state holder) (Some holder) service.entry.most) }
     ensures faults { IfErr result (λ e. (e ≡ OutOfMemory) ⊎ (e ≡ Device)) }
 {
     let count = service.most.get();
@@ -83,7 +83,7 @@ pub fn serve_until_stop<R: Threads + Wait + Clock + Sync, H: Admit + Drop + Send
     holder: H,
 ) -> Result<FinalHead<H>, ToolFault>
     ensures received { IfOk result
-        (λ head. HasReceived (H.state holder) service.entry.most (H.state head).store) }
+        (HasServed H.state H.admits (H.state holder) (Some holder) service.entry.most) }
     ensures faults { IfErr result (λ e. (e ≡ OutOfMemory) ⊎ (e ≡ Device)) }
 {
     let most = service.most.get();

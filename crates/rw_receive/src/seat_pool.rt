@@ -6,7 +6,7 @@ use crate::accepting::next_connection;
 use crate::connection::{ActiveConnection, Connection, start_connection};
 use crate::serving::ServerContext;
 use rw_follow::StopRequest;
-use rw_recv_head::{Admit, Naming, Seat, SharedHead};
+use rw_recv_head::{Admit, Holding, Naming, Seat, SharedHead};
 use std::alloc::{AllocError, Global};
 use std::collections::VecDeque;
 use std::marker::Model;
@@ -113,7 +113,7 @@ impl<L: Naming> SeatPool<L> {
 fn serve_next<
     's,
     E,
-    L: Naming + Send + Sync + 's,
+    L: Holding<H> + Send + Sync + 's,
     H: Admit + Drop + Send + 's,
     R: Threads + Wait + Clock + Sync,
 >(
@@ -144,7 +144,7 @@ fn serve_next<
 pub fn serve_until_stopped<
     's,
     E,
-    L: Naming + Send + Sync + 's,
+    L: Holding<H> + Send + Sync + 's,
     H: Admit + Drop + Send + 's,
     R: Threads + Wait + Clock + Sync,
 >(

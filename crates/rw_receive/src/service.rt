@@ -1,14 +1,14 @@
 //! Connections that are served until a stop is requested.
 
-ghost use Rattle.std.specs.Prelude.{◌≡◌, ◌+◌, ◌<◌, ◌⊎◌, IfOk, IfErr, vec_len};
-ghost use Rattle.rw_receive.specs.Receiving.{HasReceived};
+ghost use Rattle.std.specs.Prelude.{◌≡◌, ◌+◌, ◌<◌, ◌⊎◌, IfOk, IfErr, vec_len, Some};
+ghost use Rattle.rw_receive.specs.Receiving.{HasServed};
 ghost use Rattle.rw_text.specs.declared.tool_fault.ToolFault.TheVariants.{OutOfMemory, Device};
 
 use crate::accepting::accept_in_ticks;
 use crate::final_head::FinalHead;
 use crate::seat_pool::{SeatPool, serve_until_stopped};
 use crate::serving::ServerContext;
-use rw_recv_head::{Admit, Blank, Naming, Seat, SharedHead};
+use rw_recv_head::{Admit, Blank, Holding, Seat, SharedHead};
 use rw_text::ToolFault;
 use std::alloc::AllocError;
 use std::net::TcpListener;
@@ -19,7 +19,11 @@ use std::time::Clock;
 
 /// Serves from all seats until a stop is requested, waits for the connections being served, and
 /// returns the seats. The listener is closed first.
-fn serve_until<L: Naming + Send + Sync, H: Admit + Drop + Send, R: Threads + Wait + Clock + Sync>(
+fn serve_until<
+    L: Holding<H> + Send + Sync,
+    H: Admit + Drop + Send,
+    R: Threads + Wait + Clock + Sync,
+>(
     rt: &R,
     listener: TcpListener,
     context: &ServerContext<'_>,
@@ -45,7 +49,7 @@ fn serve_until<L: Naming + Send + Sync, H: Admit + Drop + Send, R: Threads + Wai
 /// Serves at most `most` connections at once over one head, until a stop is requested. Returns the
 /// head that they leave.
 pub(crate) fn receive_until<
-    L: Naming + Send + Sync,
+    L: Holding<H> + Send + Sync,
     H: Admit + Drop + Send,
     R: Threads + Wait + Clock + Sync,
 >(
@@ -61,7 +65,8 @@ pub(crate) fn receive_until<
     requires parts { (blank.parts ≡ most + 1) × (L.parts ≡ most + 1) }
     requires table { blank.table ≡ L.table }
     requires opening { H.state head ≡ L.opening }
-    ensures received { IfOk result (λ head. HasReceived L.opening most (H.state head).store) }
+    requires first { L.first ≡ Some head }
+    ensures received { IfOk result (HasServed H.state H.admits L.opening L.first most) }
     ensures faults { IfErr result (λ e. (e ≡ OutOfMemory) ⊎ (e ≡ Device)) }
 {
     if accept_in_ticks(&listener).is_err() {

@@ -8,7 +8,7 @@ use rw_endpoint::serve;
 use rw_follow::StopSignal;
 use rw_head::Limits;
 use rw_metrics::ReceiveCounters;
-use rw_recv_head::{Admit, Naming, Seat, SharedHead};
+use rw_recv_head::{Admit, Holding, Seat, SharedHead};
 use rw_types::{Bounded, Std};
 use std::alloc::Global;
 use std::cell::Cell;
@@ -37,7 +37,7 @@ pub struct ServerContext<'a> {
 
 /// Serves a connection until it closes, shuts it down gracefully and returns its seat. The
 /// connection is counted as open meanwhile.
-pub fn serve_connection<L: Naming, H: Admit, R: Wait + Clock>(
+pub fn serve_connection<L: Holding<H>, H: Admit, R: Wait + Clock>(
     rt: &R,
     context: &ServerContext<'_>,
     shared: &SharedHead<L, H>,
@@ -52,7 +52,7 @@ pub fn serve_connection<L: Naming, H: Admit, R: Wait + Clock>(
 
 /// Serves a connection until it closes, and returns its seat. It is not counted here. A connection
 /// that took too long is closed at once, without waiting for its client.
-fn serve_to_end<L: Naming, H: Admit, R: Wait + Clock>(
+fn serve_to_end<L: Holding<H>, H: Admit, R: Wait + Clock>(
     rt: &R,
     context: &ServerContext<'_>,
     shared: &SharedHead<L, H>,

@@ -44,7 +44,7 @@ each_differs n [] e = tt
 each_differs n (m ∷ ns) e = let t = or_parts (eqb n m) (list_any (eqb n) ns) e in (t.0, each_differs n ns t.1)
 
 -- as many different numbers below n as n are all of them
-all_there : (ns : List ℕ) (n : ℕ) → IsDistinct eqb ns → ((m : ℕ) → list_any (eqb m) ns ≡ true → m < n) → length ns ≡ n
+pub all_there : (ns : List ℕ) (n : ℕ) → IsDistinct eqb ns → ((m : ℕ) → list_any (eqb m) ns ≡ true → m < n) → length ns ≡ n
     → (m : ℕ) → m < n → (b : Bool) → list_any (eqb m) ns ≡ b → b ≡ true
 all_there ns n distinct below count m less true e = refl
 all_there ns n distinct below count m less false e =
@@ -113,7 +113,7 @@ one_more_back known seats s h i =
     }
 
 -- all are back
-pub gathers : (opening : State) (known : Known) (seats : List Seated) (store : Store) → AreBack known seats → length seats ≡ known.given
+abbrev pub gathers : (opening : State) (known : Known) (seats : List Seated) (store : Store) → AreBack known seats → length seats ≡ known.given
     → store ≡ store_after opening (bodies_of known.asked) → ((n : ℕ) (q : Question) → slice_get known.asked n ≡ Some q → q.seat < known.given)
     → HasGathered opening seats store
 gathers opening known seats store h count holds given = record {

@@ -1,3 +1,4 @@
+mod AdmittedLemmas
 mod CapacityLemmas
 mod GatheringLemmas
 mod HoldingLemmas

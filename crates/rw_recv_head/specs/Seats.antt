@@ -1,6 +1,6 @@
 -- What a request through a seat does: to what the head holds, and to what the seat has stored and
 -- seen.
-use Rattle.std.specs.Prelude.{◌≡◌, ◌≢◌, ℕ, ◌+◌, ◌^◌, ◌-◌, ◌≤◌, ◌==◌, if◌then◌else◌, List, [], ◌∷◌, ◌++◌, filter, Some, slice_get, Ok, true}
+use Rattle.std.specs.Prelude.{◌≡◌, ◌≢◌, ℕ, ◌+◌, ◌^◌, ◌-◌, ◌≤◌, ◌==◌, if◌then◌else◌, List, [], ◌∷◌, ◌++◌, filter, Option, Some, slice_get, Ok, true}
 use Rattle.atomic_table.specs.Seated.{TableId}
 use Rattle.rw_types.specs.Beginnings.{Begins}
 use Rattle.rw_write_request.specs.Message.{WriteRequest}
@@ -65,6 +65,16 @@ pub record HasAsked (opening : State) (old : Seated) (body : List ℕ) (status :
   pub stored : status ≡ 204 → HasStored body old.stored new.stored
   pub nothing : status ≢ 204 → new.stored ≡ old.stored
   pub counted : total (store_after opening (bodies_of new.asked)) + old.stored ≡ total (store_after opening (bodies_of before)) + new.stored
+
+-- These questions, one after the other, led from the first holder of a head to the last one.
+abbrev pub AreAdmitted : {H : Type 0} → (H → List ℕ → ℕ → H → Type 0) → H → List Question → H → Type 0
+AreAdmitted admits first [] last = last ≡ first
+AreAdmitted {H} admits first (q ∷ later) last =
+    (next : H) × admits first q.body q.status next × AreAdmitted admits next later last
+
+-- so did these to what held the head when it was shared
+abbrev pub HasAdmitted : {H : Type 0} → (H → List ℕ → ℕ → H → Type 0) → Option H → List Question → H → Type 0
+HasAdmitted {H} admits opening asked last = (first : H) × (opening ≡ Some first) × AreAdmitted admits first asked last
 
 -- What a head holds once all seats were returned: what it takes of all that it was asked, in one
 -- order. Each seat knew the first of these questions, and all of its own; and each question is of

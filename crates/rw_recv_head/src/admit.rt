@@ -1,6 +1,6 @@
 //! What may be under the lock: a head, or something that has one.
 
-ghost use Rattle.std.specs.Prelude.{◌≡◌, ◌≢◌, ◌≤◌, true};
+ghost use Rattle.std.specs.Prelude.{◌≡◌, ◌≢◌, ℕ, ◌≤◌, List, true};
 ghost use Rattle.rw_head.specs.declared.capacity.Admission.TheVariants.{Full};
 ghost use Rattle.rw_head.specs.Capacity.{exceeds, status_of_admission, unlimited, StaysWithin};
 ghost use Rattle.rw_head.specs.Growth.{EachRises, HasStoredBody};
@@ -14,6 +14,10 @@ use rw_head::{Admission, Capacity, Head};
 pub trait Admit {
     /// The head.
     ghost state: { Self → State };
+
+    /// What an answer to a body with a status does to it beside the head, from what it was to what
+    /// it is then.
+    ghost admits: { Self → List ℕ → ℕ → Self → Type 0 };
 
     /// Answers the body of a request, as `Head::admit` does.
     fn admit(&mut self, body: &[u8], capacity: &Capacity) -> Admission
@@ -34,7 +38,8 @@ pub trait Admit {
         ensures within { StaysWithin capacity.now (state self.old).store (state self.new).store }
         ensures full { result ≡ Full → exceeds capacity.now (state self.old).store
             (answer (state self.old) body.now).head.store ≡ true }
-        ensures limited { result ≡ Full → capacity.now ≢ unlimited };
+        ensures limited { result ≡ Full → capacity.now ≢ unlimited }
+        ensures admits { admits self.old body.now (status_of_admission result) self.new };
 
     /// Returns the head.
     fn head(&self) -> &Head
@@ -43,6 +48,8 @@ pub trait Admit {
 
 impl Admit for Head {
     ghost state = { λ h. h };
+
+    ghost admits = { λ old body status new. Unit {0} };
 
     fn admit(&mut self, body: &[u8], capacity: &Capacity) -> Admission {
         Head::admit(self, body, capacity)

@@ -17,7 +17,7 @@ mod shared_head;
 pub use admit::Admit;
 pub use blank::Blank;
 pub use laws::{what_is_answered_204_is_held, what_is_stored_stays};
-pub use naming::Naming;
+pub use naming::{Holding, Naming};
 pub use question::Question;
 pub use rw_head::{
     AddedSeries, Admission, AllAdded, AllSeries, Block, Capacity, Head, HeldSeries, LabelSets,

@@ -6,11 +6,11 @@ ghost use Rattle.rw_head.specs.Capacity.{status_of_admission, unlimited, StaysWi
 ghost use Rattle.rw_head.specs.Head.{answer, IsStatus};
 ghost use Rattle.rw_head.specs.Store.{total, label_sets};
 ghost use Rattle.rw_head.specs.Growth.{EachRises};
-ghost use Rattle.rw_recv_head.specs.Seats.{most, bodies_of, store_after, HasAsked, FindsFull};
+ghost use Rattle.rw_recv_head.specs.Seats.{most, bodies_of, store_after, HasAdmitted, HasAsked, FindsFull};
 ghost use Rattle.rw_recv_head.specs.declared.question.Question.{Question};
 
 use crate::admit::Admit;
-use crate::naming::Naming;
+use crate::naming::Holding;
 use crate::questions::Questions;
 use crate::seat::Seat;
 use rw_head::{Admission, Capacity};
@@ -20,18 +20,19 @@ use std::sync::ledger::{Share, Total};
 /// A head, what it was asked, and the rest of its ledger: how many samples could still be stored.
 /// Contracts see the head and the questions.
 #[derive(Drop)]
-pub(crate) struct Locked<L: Naming, H: Admit> {
+pub(crate) struct Locked<L: Holding<H>, H: Admit> {
     holder: H,
     questions: Questions<L>,
     rest: Share<L>,
     capacity: Capacity,
 }
 
-impl<L: Naming, H: Admit> Model for Locked<L, H> {
+impl<L: Holding<H>, H: Admit> Model for Locked<L, H> {
     ghost use Rattle.std.specs.Coded.{codes};
     ghost use Rattle.std.specs.FinMap as map;
     ghost use Rattle.std.specs.Prelude.{◌≡◌};
     ghost use Rattle.rw_head.specs.Capacity.{StaysWithin};
+    ghost use Rattle.rw_recv_head.specs.Seats.{HasAdmitted};
     ghost use Rattle.rw_recv_head.specs.inner.Seats.{Held, IsKept};
 
     ghost Value = { Held };
@@ -43,10 +44,11 @@ impl<L: Naming, H: Admit> Model for Locked<L, H> {
     ghost invariant = { λ l. IsKept L.opening L.parts
         (record { head = H.state l.holder; questions = l.questions }) l.rest.parts l.rest.amount
         × StaysWithin L.table.capacity L.opening.store (H.state l.holder).store
-        × (l.capacity ≡ L.table.capacity) };
+        × (l.capacity ≡ L.table.capacity)
+        × HasAdmitted H.admits L.first l.questions.asked l.holder };
 }
 
-impl<L: Naming, H: Admit> Locked<L, H> {
+impl<L: Holding<H>, H: Admit> Locked<L, H> {
     /// Returns a head that was not asked anything yet, with the number of samples that could still
     /// be stored, and with its capacity.
     pub(crate) fn new(
@@ -56,6 +58,7 @@ impl<L: Naming, H: Admit> Locked<L, H> {
         capacity: Capacity,
     ) -> Locked<L, H>
         requires opening { H.state holder ≡ L.opening }
+        requires first { L.first ≡ Some holder }
         requires capacity { capacity ≡ L.table.capacity }
         requires nothing { questions.asked ≡ [] }
         requires all_given { L.parts ≡ questions.given + 1 }
@@ -88,6 +91,7 @@ impl<L: Naming, H: Admit> Locked<L, H> {
         ensures adds_up { total self.head.store + result.2.amount ≡ most }
         ensures rises { EachRises self.head.store }
         ensures within { StaysWithin L.table.capacity L.opening.store (H.state result.0).store }
+        ensures admitted { HasAdmitted H.admits L.first result.1.asked result.0 }
     {
         (self.holder, self.questions, self.rest)
     }
@@ -108,6 +112,7 @@ impl<L: Naming, H: Admit> Locked<L, H> {
         ensures full { result ≡ Full
             → FindsFull L.table.capacity L.opening seat.new.asked body.now }
         ensures limited { result ≡ Full → L.table.capacity ≢ unlimited }
+        ensures admitted { (last : H) × HasAdmitted H.admits L.first seat.new.asked last }
     {
         let old = self.holder.head();
         let before = old.total();

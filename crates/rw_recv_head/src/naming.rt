@@ -14,10 +14,24 @@ pub trait Naming: Ledger {
     ghost table: { HeadTable };
 }
 
+/// What had the head when it was shared: a head, or something that has one. `None` if no call picks
+/// it.
+pub trait Holding<H>: Naming {
+    ghost use Rattle.std.specs.Prelude.{Option};
+
+    ghost first: { Option H };
+}
+
 impl Naming for Brand {
     ghost use Rattle.rw_recv_head.specs.Questions.{no_head, no_table};
 
     ghost opening = { no_head };
 
     ghost table = { no_table };
+}
+
+impl<H> Holding<H> for Brand {
+    ghost use Rattle.std.specs.Prelude.{None};
+
+    ghost first = { None };
 }

@@ -5,10 +5,10 @@ ghost use Rattle.rw_head.specs.Capacity.{unlimited, StaysWithin};
 ghost use Rattle.rw_head.specs.Head.{IsStatus};
 ghost use Rattle.rw_head.specs.Store.{total, label_sets};
 ghost use Rattle.rw_recv_head.specs.inner.Questions.{IsSeat};
-ghost use Rattle.rw_recv_head.specs.Seats.{most, bodies_of, store_after, HasAsked, FindsFull};
+ghost use Rattle.rw_recv_head.specs.Seats.{most, bodies_of, store_after, HasAdmitted, HasAsked, FindsFull};
 
 use crate::admit::Admit;
-use crate::naming::Naming;
+use crate::naming::{Holding, Naming};
 use crate::questions::{Questions, Seen};
 use crate::shared_head::SharedHead;
 use std::marker::Model;
@@ -112,8 +112,11 @@ impl<L: Naming> Seat<L> {
         shared: &SharedHead<L, H>,
         body: &[u8],
     ) -> u16
+    where
+        L: Holding<H>,
         ensures statuses { IsStatus result }
         ensures asked { HasAsked L.opening self.old body.now result self.new }
+        ensures admitted { (last : H) × HasAdmitted H.admits L.first self.new.asked last }
     {
         self.ask(rt, shared, body).status
     }
@@ -126,6 +129,8 @@ impl<L: Naming> Seat<L> {
         shared: &SharedHead<L, H>,
         body: &[u8],
     ) -> Asked
+    where
+        L: Holding<H>,
         ensures statuses { IsStatus result.status }
         ensures asked { HasAsked L.opening self.old body.now result.status self.new }
         ensures label_sets { result.label_sets
@@ -137,6 +142,7 @@ impl<L: Naming> Seat<L> {
         ensures full { IsTrue result.is_full → (result.status ≡ 503)
             × FindsFull L.table.capacity L.opening self.new.asked body.now }
         ensures limited { IsTrue result.is_full → L.table.capacity ≢ unlimited }
+        ensures admitted { (last : H) × HasAdmitted H.admits L.first self.new.asked last }
     {
         shared.ask(rt, self, body)
     }

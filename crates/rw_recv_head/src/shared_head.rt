@@ -5,12 +5,12 @@ ghost use Rattle.rw_head.specs.Capacity.{unlimited, StaysWithin};
 ghost use Rattle.rw_head.specs.Head.{IsStatus};
 ghost use Rattle.rw_head.specs.Store.{total, label_sets};
 ghost use Rattle.rw_head.specs.Growth.{EachRises};
-ghost use Rattle.rw_recv_head.specs.Seats.{bodies_of, store_after, Seated, HasAsked, HasGathered, FindsFull};
+ghost use Rattle.rw_recv_head.specs.Seats.{bodies_of, store_after, Seated, HasAdmitted, HasAsked, HasGathered, FindsFull};
 
 use crate::admit::Admit;
 use crate::blank::Blank;
 use crate::locked::Locked;
-use crate::naming::Naming;
+use crate::naming::Holding;
 use crate::seat::{Asked, Seat};
 use rw_head::Head;
 use std::alloc::{AllocError, Global};
@@ -24,12 +24,12 @@ use std::sync::{Mutex, Wait};
 /// Whenever the lock is free, the timestamps of each list rise strictly, and the head's total is
 /// that at the start with what the seats stored.
 #[derive(Drop)]
-pub struct SharedHead<L: Naming, H: Admit = Head> {
+pub struct SharedHead<L: Holding<H>, H: Admit = Head> {
     locked: Mutex<Locked<L, H>>,
     all: Total<L>,
 }
 
-impl<L: Naming, H: Admit> Model for SharedHead<L, H> {
+impl<L: Holding<H>, H: Admit> Model for SharedHead<L, H> {
     ghost use Rattle.std.specs.Prelude.{◌≡◌, ◌-◌, ◌<◌, ◌≤◌};
     ghost use Rattle.rw_recv_head.specs.Seats.{Opening, most};
 
@@ -40,7 +40,7 @@ impl<L: Naming, H: Admit> Model for SharedHead<L, H> {
     ghost invariant = { λ s. (s.all.amount ≤ most) × (0 < s.all.parts) × (s.all.parts ≡ L.parts) };
 }
 
-impl<L: Naming, H: Admit> SharedHead<L, H> {
+impl<L: Holding<H>, H: Admit> SharedHead<L, H> {
     /// Shares a head among `n` seats, which are numbered from 0, over a blank of `n` + 1 parts: one
     /// for each seat and one for the lock. The head has the capacity of the blank. If memory runs
     /// out, the head comes back as it was.
@@ -55,6 +55,7 @@ impl<L: Naming, H: Admit> SharedHead<L, H> {
         requires parts { (blank.parts ≡ n + 1) × (L.parts ≡ n + 1) }
         requires table { blank.table ≡ L.table }
         requires opening { H.state head ≡ L.opening }
+        requires first { L.first ≡ Some head }
         ensures shared { IfOk result (λ r. r.0 ≡ record {
           start = total (H.state head).store;
           seats = n;
@@ -94,6 +95,7 @@ impl<L: Naming, H: Admit> SharedHead<L, H> {
         ensures full { IsTrue result.is_full → (result.status ≡ 503)
             × FindsFull L.table.capacity L.opening seat.new.asked body.now }
         ensures limited { IsTrue result.is_full → L.table.capacity ≢ unlimited }
+        ensures admitted { (last : H) × HasAdmitted H.admits L.first seat.new.asked last }
     {
         let mut locked = self.locked.lock(rt);
         let admission = locked.answer(&self.all, seat, body);
@@ -107,10 +109,12 @@ impl<L: Naming, H: Admit> SharedHead<L, H> {
 
     /// Returns the head, once all seats were returned. It holds what was reported to each of them
     /// as stored, has taken nothing that none of them was asked, and takes label sets by the limits
-    /// that it had. This takes no memory and never waits.
+    /// that it had. What was under the lock was asked these questions one after the other, and
+    /// nothing else. This takes no memory and never waits.
     pub fn gather(self, seats: Vec<Seat<L>>) -> H
         requires { vec_len seats ≡ self.seats }
-        ensures gathered { HasGathered L.opening seats.items (H.state result).store }
+        ensures gathered { (all : HasGathered L.opening seats.items (H.state result).store)
+            × HasAdmitted H.admits L.first all.asked result }
         ensures limits { (H.state result).limits ≡ L.opening.limits }
         ensures total { total (H.state result).store
             ≡ self.start + sum_by (λ s. s.stored) seats.items }

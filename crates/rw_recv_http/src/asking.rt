@@ -1,20 +1,20 @@
 //! A seat that answers bodies.
 
 use rw_endpoint::Answer;
-use rw_recv_head::{Admit, Head, Naming, Seat, SharedHead};
+use rw_recv_head::{Admit, Head, Holding, Seat, SharedHead};
 use std::sync::Wait;
 
 /// A seat that is lent to answer the bodies of a connection's requests. Each answer may wait for
 /// the lock.
 #[derive(Drop)]
-pub struct Asking<'a, R, L: Naming, H: Admit = Head> {
+pub struct Asking<'a, R, L: Holding<H>, H: Admit = Head> {
     pub rt: &'a R,
     pub shared: &'a SharedHead<L, H>,
     /// A seat of that shared head.
     pub seat: &'a mut Seat<L>,
 }
 
-impl<R: Wait, L: Naming, H: Admit> Answer for Asking<'_, R, L, H> {
+impl<R: Wait, L: Holding<H>, H: Admit> Answer for Asking<'_, R, L, H> {
     ghost use Rattle.std.specs.Prelude.{◌≡◌};
     ghost use Rattle.rw_recv_head.specs.Seats.{HasAsked};
 

@@ -1,10 +1,13 @@
 -- A receiver whose head is kept in a journal is one of those to which requests come over the wire.
-use Rattle.std.proofs.Common.{◌≡◌, ◌≢◌, ◌⊎◌, inl, inr, ℕ, zero, suc, ◌≤◌, nat_lt, Bool, true, false, List, length, map, None, Some, Result, Ok, Err, refl, sym, ap, ◌∙◌, subst, arith}
+use Rattle.std.proofs.Common.{◌≡◌, ◌≢◌, ◌⊎◌, inl, inr, ℕ, zero, suc, ◌≤◌, ◌<◌, ◌^◌, nat_lt, Bool, true, false, List, ◌++◌, append-nil, length, length-append, map, None, Some, Result, Ok, Err, refl, sym, ap, ◌∙◌, subst, arith}
 use Rattle.std.specs.List.{AllByRecursion}
 use Rattle.std.proofs.lemmas.Bool.{cond-false, le-ltb}
 use Rattle.std.proofs.lemmas.Bool.Decides.{eqb_tells}
 use Rattle.std.proofs.lemmas.Option.{slice_get_within}
+use Rattle.std.proofs.lemmas.List.{nil_from_length}
+use Rattle.httparse.proofs.GrammarLemmas.{request_unique}
 use Rattle.rw_types.specs.Beginnings.{Begins}
+use Rattle.rw_types.specs.Requests.{is_host_name, is_request_path}
 use Rattle.rw_types.proofs.shared.BeginningLemmas.{begins_itself, begins_twice}
 use Rattle.rw_types.specs.Labels.{Labels}
 use Rattle.rw_types.specs.declared.entry.Entry.{Entry}
@@ -18,7 +21,12 @@ use Rattle.rw_retry.specs.declared.judgement.Judgement.{Judgement}
 use Rattle.rw_retry.specs.declared.judgement.Judgement.TheVariants.{Done, Again, Refused}
 use Rattle.rw_plain_queue.specs.Items.{Placed}
 use Rattle.rw_batch.specs.Grouping.{message}
+use Rattle.rw_shard_core.specs.SentRequest.{request_of}
 use Rattle.rw_shard_core.specs.Shard.{IsReadAgain, body_of, labelled}
+use Rattle.rw_worker.specs.Transcript.{batch_request}
+use Rattle.rw_endpoint.specs.Alone.{IsOneRequest}
+use Rattle.rw_endpoint.specs.Judgement.{finding_of}
+use Rattle.rw_endpoint.specs.declared.finding.Finding.TheVariants.{Body}
 use Rattle.rw_head.specs.Head.{State, answer, answer_to}
 use Rattle.rw_head.specs.Store.{Store, list_of}
 use Rattle.rw_head.specs.Verdicts.{LabelLimits, taken_all}
@@ -30,12 +38,13 @@ use Rattle.rw_journal.specs.Journal.{Segments}
 use Rattle.rw_journal.specs.Logs.{entries_of, IsWholeText}
 use Rattle.rw_journal.specs.declared.journal.JournalError.{JournalError}
 use Rattle.rw_wal_append.specs.Additions.{samples_of_labels}
+use Rattle.rw_kept_head.specs.Answered.{KeepsHead, IsKeptAnswer}
 use Rattle.rw_kept_head.specs.Kept.{Kept, SaysWhat, LiesBetween, IsLeft, HasNoChance}
 use Rattle.rw_simulation.specs.Arrivals.{Receives}
 use Rattle.rw_restarts.specs.Receivers.{IsRestarted, state_of}
 use Rattle.rw_restarts.specs.KeptReceivers.{acknowledged_after}
 use Rattle.rw_restarts.specs.WireReceivers.{RunOfWorkers, WireEvent, Comes, Reopens, ReopensDuring, receiver_state, HasShortBody, HappensOnWire, HoldsLogByWire}
-use Rattle.rw_restarts.specs.KeptWireReceivers.{KeptState, wire_state, KeepsHead, IsKeptAnswer, IsOpenedFrom, IsAskedFor, IsAnsweredKept, IsAskedMore, IsCrash, IsIdleCrash, IsCrashAtRefused, HasReopened, HappensToKept, IsKeptReceiver, IsWireReceiverKept, HoldsLogKept}
+use Rattle.rw_restarts.specs.KeptWireReceivers.{KeptState, wire_state, ReadsBody, IsSound, IsOpenedFrom, IsAskedFor, IsAnsweredKept, IsAskedMore, IsCrash, IsIdleCrash, IsCrashAtRefused, HasReopened, HappensToKept, IsKeptReceiver, IsWireReceiverKept, HoldsLogKept}
 use Rattle.rw_restarts.proofs.AnswerLemmas.{answers-taken, answers-kept}
 use Rattle.rw_restarts.proofs.KeptReceiverLemmas.{opened-again}
 use Rattle.rw_restarts.proofs.RunLemmas.{get_some}
@@ -55,6 +64,26 @@ answer-kept h (Err fault) other = by_busy (nat_lt 0 h.busy) refl
     by_busy : (b : Bool) → nat_lt 0 h.busy ≡ b → (answer_to h (Err fault)).head.store ≡ h.store
     by_busy true e = rw e refl
     by_busy false e = rw e refl
+
+-- ---- the body of a request
+-- what `requests_are_read` says of the bytes that a sender makes
+abbrev pub RequestsAreRead : Type 0
+RequestsAreRead = (host path body : List ℕ) (limit : ℕ) → is_host_name host ≡ true → is_request_path path ≡ true
+    → length body < 2 ^ 63 → length body ≤ limit → IsOneRequest path limit (request_of host path body) body
+
+-- two fronts of one length, of one list, of which the first has nothing after it
+whole_front : (whole front left : List ℕ) → front ++ left ≡ whole → length front ≡ length whole → front ≡ whole
+whole_front whole front left e len =
+    sym (append-nil front) ∙ ap (λ (l : List ℕ). front ++ l) (sym (nil_from_length left (let all = ap length e in omega (arith, all, len, length-append front left)))) ∙ e
+
+carries : RequestsAreRead → (c : Setup) → IsSound c → (request body : List ℕ) → ReadsBody c.target.path c.max_body request body
+    → (batch : List Placed) → request ≡ batch_request c.target batch → length (body_of batch) ≤ c.max_body → body ≡ body_of batch
+carries requests c sound request body reads batch is short =
+    let small = sound.limit in
+    let one = subst (λ (bytes : List ℕ). IsOneRequest c.target.path c.max_body bytes (body_of batch)) (sym is) (requests c.target.host c.target.path (body_of batch) c.max_body sound.host sound.path (omega (arith, short, small)) short) in
+    let same = request_unique request reads.head one.head (body ++ reads.left) (body_of batch) reads.begins.0 one.begins.0 in
+    let found : Body (length body) reads.closes ≡ Body (length (body_of batch)) true = sym reads.finding ∙ ap (finding_of c.target.path c.max_body) same.0 ∙ one.finding in
+    whole_front (body_of batch) body reads.left same.1 (let len : length body ≡ length (body_of batch) = cc in len)
 
 -- ---- a log and a store
 lies-still : (store : Store) (left : Segments) → SaysWhat left store → LiesBetween store store left
@@ -119,11 +148,11 @@ module _ {J : Type 0} (seen : J → Segments) (may_leave : J → Segments → Ty
       let closed = a.closed error fault in
       asked-more n next new error (closed.2 ∙ fault) later ∙ a.refused closed.0
 
-  module _ (c : Setup) (request : List ℕ) (old new : Kept J) (status : ℕ) where
+  module _ (requests : RequestsAreRead) (c : Setup) (sound : IsSound c) (request : List ℕ) (old new : Kept J) (status : ℕ) where
     asked_plain : HasShortBody c request → IsAskedFor seen may_leave moment left_since tears c request old status new → status ≢ 503 → Receives c Plain request old.head status new.head
     asked_plain short asked up batch again is =
         cond-false (nat_lt c.max_body (length (body_of batch))) (record { status = 413; head = old.head }) (answer_to old.head (Ok (message (map labelled batch)))) (le-ltb c.max_body (length (body_of batch)) (short batch again is))
-        ∙ ap (answer_to old.head) (sym (ap read (asked.carries batch again is) ∙ again))
+        ∙ ap (answer_to old.head) (sym (ap read (carries requests c sound request asked.body asked.reads batch is (short batch again is)) ∙ again))
         ∙ let status_is = sym (asked.answered.status_is up) in let head_is = sym (asked.answered.head up) in
         λ i. record { status = status_is i; head = head_is i }
 
@@ -133,6 +162,7 @@ module _ {J : Type 0} (seen : J → Segments) (may_leave : J → Segments → Ty
     received OutOfMemory short (is, inl same) = (is, ap (λ (k : Kept J). k.head) same)
     received OutOfMemory short (is, inr asked) = (is, asked.answered.unavailable is)
 
+  module _ (c : Setup) (request : List ℕ) (old new : Kept J) (status : ℕ) where
     -- what is so of the head as it was, and after an answer, is so then
     after-answer : (P : Kept J → Type 0) → P old → ((body : List ℕ) → Answered old body status new → P new) → (how : How) → IsAnsweredKept seen may_leave moment left_since tears c how request old status new → P new
     after-answer P before next Plain (asked, up) = next asked.body asked.answered
@@ -140,7 +170,7 @@ module _ {J : Type 0} (seen : J → Segments) (may_leave : J → Segments → Ty
     after-answer P before next OutOfMemory (is, inl same) = subst P (sym same) before
     after-answer P before next OutOfMemory (is, inr asked) = next asked.body asked.answered
 
-  module _ (between : (old new : Store) (segments left : Segments) → SaysWhat segments old → AllByRecursion (IsWholeText page_size) segments → ((l : Labels) → Begins (list_of old l) (list_of new l)) → (x : IsLeft tears new segments left) → HasNoChance tears new x.base left x.is → LiesBetween old new left)
+  module _ (requests : RequestsAreRead) (between : (old new : Store) (segments left : Segments) → SaysWhat segments old → AllByRecursion (IsWholeText page_size) segments → ((l : Labels) → Begins (list_of old l) (list_of new l)) → (x : IsLeft tears new segments left) → HasNoChance tears new x.base left x.is → LiesBetween old new left)
       (c : Setup) (runs : List RunOfWorkers) (events : List WireEvent) (states : ℕ → KeptState J) (r : IsKeptReceiver seen may_leave moment left_since tears c runs events states) where
     -- ---- what is so after the first t events, whatever crashes left
     record Sound (t : ℕ) : Type 0 where
@@ -220,7 +250,7 @@ module _ {J : Type 0} (seen : J → Segments) (may_leave : J → Segments → Ty
         w = h.w;
         x = h.x;
         is = h.is;
-        received = received c h.x.request (states t).kept (states (suc t)).kept status how (r.runs_are.short p h.w h.x h.is) h.answered;
+        received = received requests c r.sound h.x.request (states t).kept (states (suc t)).kept status how (r.runs_are.short p h.w h.x h.is) h.answered;
         acknowledged = h.acknowledged;
       }
       happens Reopens h = reopens h
@@ -229,7 +259,7 @@ module _ {J : Type 0} (seen : J → Segments) (may_leave : J → Segments → Ty
         x = h.x;
         is = h.is;
         most = most t le h.body h.left h.crash;
-        judged = λ batch again is. most-taken t le h.body h.left h.crash batch again (h.carries batch again is) h.taken;
+        judged = λ batch again is. most-taken t le h.body h.left h.crash batch again (carries requests c r.sound h.x.request h.body h.reads batch is (r.runs_are.short p h.w h.x h.is batch again is)) h.taken;
         restarted = restarted (states t).kept.head.store (most t le h.body h.left h.crash) (states (suc t)).kept.head.store (states t).acknowledged (states (suc t)).acknowledged h.left h.acknowledged had (left-between t le h.body h.left h.crash)
             (started c.limits h.tries h.left (states (suc t)).kept h.opened).says;
       }
@@ -265,11 +295,11 @@ module _ {J : Type 0} (seen : J → Segments) (may_leave : J → Segments → Ty
       covered = r.covered;
     }
 
-  pub kept-on-wire : ((old new : Store) (segments left : Segments) → SaysWhat segments old → AllByRecursion (IsWholeText page_size) segments → ((l : Labels) → Begins (list_of old l) (list_of new l)) → (x : IsLeft tears new segments left) → HasNoChance tears new x.base left x.is → LiesBetween old new left)
+  pub kept-on-wire : RequestsAreRead → ((old new : Store) (segments left : Segments) → SaysWhat segments old → AllByRecursion (IsWholeText page_size) segments → ((l : Labels) → Begins (list_of old l) (list_of new l)) → (x : IsLeft tears new segments left) → HasNoChance tears new x.base left x.is → LiesBetween old new left)
       → (c : Setup) (runs : List RunOfWorkers) (events : List WireEvent) (states : ℕ → KeptState J) → IsWireReceiverKept seen may_leave moment left_since tears c runs events states
-  kept-on-wire between c runs events states r = wire_receiver between c runs events states r r
+  kept-on-wire requests between c runs events states r = wire_receiver requests between c runs events states r r
 
-  pub kept-holds : ((old new : Store) (segments left : Segments) → SaysWhat segments old → AllByRecursion (IsWholeText page_size) segments → ((l : Labels) → Begins (list_of old l) (list_of new l)) → (x : IsLeft tears new segments left) → HasNoChance tears new x.base left x.is → LiesBetween old new left)
+  pub kept-holds : RequestsAreRead → ((old new : Store) (segments left : Segments) → SaysWhat segments old → AllByRecursion (IsWholeText page_size) segments → ((l : Labels) → Begins (list_of old l) (list_of new l)) → (x : IsLeft tears new segments left) → HasNoChance tears new x.base left x.is → LiesBetween old new left)
       → (c : Setup) (runs : List RunOfWorkers) (events : List WireEvent) (states : ℕ → KeptState J) (choice : Choice) (log : List Entry)
       → HoldsLogByWire c runs events (λ (at : ℕ). wire_state (states at)) choice log → HoldsLogKept seen may_leave moment left_since tears c runs events states choice log
-  kept-holds between c runs events states choice log holds r over = holds (wire_receiver between c runs events states r r) over
+  kept-holds requests between c runs events states choice log holds r over = holds (wire_receiver requests between c runs events states r r) over

@@ -13,6 +13,7 @@ mod RefusalLemmas
 mod RelayLemmas
 mod RunLemmas
 mod SenderLemmas
+mod ServedLemmas
 mod ShardLemmas
 mod StoppedLemmas
 mod TurnLemmas

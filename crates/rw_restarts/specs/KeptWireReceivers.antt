@@ -1,19 +1,21 @@
 -- A receiver whose head is kept in a journal, from its first start to its last one. The requests of
 -- the workers of many runs come to it, and after each crash it is opened from what this left.
-use Rattle.std.specs.Prelude.{◌≡◌, ◌≢◌, ◌⊎◌, ℕ, zero, suc, ◌≤◌, List, [], length, map, None, Some, slice_get}
+use Rattle.std.specs.Prelude.{◌≡◌, ◌≢◌, ◌⊎◌, ℕ, zero, suc, ◌<◌, ◌≤◌, ◌^◌, Bool, true, List, [], ◌++◌, length, map, None, Some, slice_get}
+use Rattle.httparse.specs.Grammar.{RequestHead}
 use Rattle.std.specs.FinMap.{empty}
-use Rattle.rw_types.specs.Beginnings.{Begins}
 use Rattle.rw_types.specs.Labels.{Labels}
+use Rattle.rw_types.specs.Requests.{is_host_name, is_request_path}
 use Rattle.rw_types.specs.declared.entry.Entry.{Entry}
 use Rattle.rw_wal_format.specs.Pieces.{page_size}
 use Rattle.rw_relabel.specs.declared.choice.Choice.{Choice}
 use Rattle.rw_retry.specs.Judgements.{judgement_of}
-use Rattle.rw_plain_queue.specs.Items.{Placed}
-use Rattle.rw_shard_core.specs.Shard.{IsReadAgain, body_of}
-use Rattle.rw_worker.specs.Transcript.{Exchange, batch_request}
-use Rattle.rw_head.specs.Head.{IsStatus, answer}
-use Rattle.rw_head.specs.Store.{Store, list_of}
+use Rattle.rw_worker.specs.Transcript.{Exchange}
+use Rattle.rw_head.specs.Head.{answer}
+use Rattle.rw_head.specs.Store.{Store}
 use Rattle.rw_head.specs.Verdicts.{LabelLimits}
+use Rattle.rw_endpoint.specs.Judgement.{finding_of}
+use Rattle.rw_endpoint.specs.Reading.{BeginsWithHead}
+use Rattle.rw_endpoint.specs.declared.finding.Finding.TheVariants.{Body}
 use Rattle.rw_machine.specs.Worlds.{Setup}
 use Rattle.rw_machine.specs.declared.event.How.{How}
 use Rattle.rw_machine.specs.declared.event.How.TheVariants.{Plain, Busy, OutOfMemory}
@@ -21,7 +23,8 @@ use Rattle.rw_journal.specs.Journal.{Segments, Only, LeavesOnly}
 use Rattle.rw_journal.specs.Logs.{entries_of}
 use Rattle.rw_journal.specs.declared.journal.JournalError.{JournalError}
 use Rattle.rw_wal_append.specs.Additions.{samples_of_labels}
-use Rattle.rw_kept_head.specs.Kept.{Kept, SaysWhat, KeepsStore, IsLeft, HasNoChance}
+use Rattle.rw_kept_head.specs.Answered.{KeepsHead, IsKeptAnswer}
+use Rattle.rw_kept_head.specs.Kept.{Kept, SaysWhat, HasNoChance}
 use Rattle.rw_kept_head.specs.Opening.{HasSameEntries}
 use Rattle.rw_restarts.specs.KeptReceivers.{acknowledged_after}
 use Rattle.rw_restarts.specs.Logs.{AreRunsOverLog, HoldsLog}
@@ -35,36 +38,38 @@ pub record KeptState (J : Type 0) : Type 0 where
 abbrev pub wire_state : {J : Type 0} → KeptState J → WireState
 wire_state s = record { head = s.kept.head; acknowledged = s.acknowledged }
 
+-- The endpoint reads this body in the bytes of a request, as `serve` says of each request that it
+-- answers (`IsRequestAnswered`): they begin with a head that refuses nothing and asks for so many
+-- bytes, and these follow.
+pub record ReadsBody (path : List ℕ) (limit : ℕ) (request body : List ℕ) : Type 0 where
+  pub head : RequestHead
+  pub left : List ℕ
+  pub closes : Bool
+  pub begins : BeginsWithHead request head (body ++ left)
+  pub finding : finding_of path limit head ≡ Body (length body) closes
+
+-- what the types of the settings say: the target is one to which requests can be made, and a body
+-- that the receiver takes has fewer than 2^63 bytes
+pub record IsSound (c : Setup) : Type 0 where
+  pub host : is_host_name c.target.host ≡ true
+  pub path : is_request_path c.target.path ≡ true
+  pub limit : c.max_body < 2 ^ 63
+
 module _ {J : Type 0} (seen : J → Segments) (may_leave : J → Segments → Type 0) (moment : J → ℕ)
     (left_since : J → ℕ → Segments → Type 0) (tears : List ℕ → List ℕ → Type 0)
   where
     -- ---- what the calls say
-    -- the log keeps what the head holds
-    abbrev pub KeepsHead : Kept J → Type 0
-    KeepsHead k = KeepsStore (may_leave k.journal) (seen k.journal) k.head.store
+    -- what `KeptHead::admit` says of an answer
+    abbrev pub Answers : Kept J → List ℕ → ℕ → Kept J → Type 0
+    Answers = IsKeptAnswer seen may_leave moment left_since tears
 
-    -- what `KeptHead::admit` says of an answer, by the names of its clauses
-    pub record IsKeptAnswer (old : Kept J) (body : List ℕ) (status : ℕ) (new : Kept J) : Type 0
-      where
-        pub status_is : status ≢ 503 → status ≡ (answer old.head body).status
-        pub head : status ≢ 503 → new.head ≡ (answer old.head body).head
-        pub unavailable : status ≡ 503 → new.head ≡ old.head
-        pub statuses : IsStatus status
-        pub refused : status ≢ 204 → new.head.store ≡ old.head.store
-        pub acknowledged : status ≡ 204 → KeepsHead new
-        pub kept : new.fault ≡ None → KeepsHead new
-        pub any_moment : old.fault ≡ None
-            → LeavesOnly moment left_since old.journal new.journal
-            (IsLeft tears (answer old.head body).head.store (seen old.journal))
-        pub begins : (l : Labels) → Begins (list_of old.head.store l)
-            (list_of (answer old.head body).head.store l)
-        pub closed : (e : JournalError) → old.fault ≡ Some e
-            → (status ≢ 204) × (new.journal ≡ old.journal) × (new.fault ≡ old.fault)
+    abbrev pub Keeps : Kept J → Type 0
+    Keeps = KeepsHead seen may_leave moment left_since tears
 
     -- what `KeptHead::open` says of a head that it opened from this journal
     pub record IsOpened (limits : LabelLimits) (journal : J) (new : Kept J) : Type 0 where
       pub says : SaysWhat (seen journal) new.head.store
-      pub kept : KeepsHead new
+      pub kept : Keeps new
       pub no_fault : new.fault ≡ None
       pub limits_are : new.head.limits ≡ limits
 
@@ -84,13 +89,12 @@ module _ {J : Type 0} (seen : J → Segments) (may_leave : J → Segments → Ty
         × left_since ended (moment journal) again × IsOpenedFrom limits n again new
 
     -- ---- a request
-    -- the head was asked for the body that the request carries
+    -- the head was asked for the body that the endpoint read
     pub record IsAskedFor (c : Setup) (request : List ℕ) (old : Kept J) (status : ℕ) (new : Kept J)
         : Type 0 where
       pub body : List ℕ
-      pub carries : (batch : List Placed) → IsReadAgain batch
-          → request ≡ batch_request c.target batch → body ≡ body_of batch
-      pub answered : IsKeptAnswer old body status new
+      pub reads : ReadsBody c.target.path c.max_body request body
+      pub answered : Answers old body status new
 
     -- The request was answered: by the head, or without asking it.
     abbrev pub IsAnsweredKept : Setup → How → List ℕ → Kept J → ℕ → Kept J → Type 0
@@ -114,7 +118,7 @@ module _ {J : Type 0} (seen : J → Segments) (may_leave : J → Segments → Ty
     abbrev pub IsAskedMore : ℕ → Kept J → Kept J → Type 0
     IsAskedMore zero old new = new ≡ old
     IsAskedMore (suc n) old new = (body : List ℕ) × (status : ℕ) × (next : Kept J)
-        × IsKeptAnswer old body status next × IsAskedMore n next new
+        × Answers old body status next × IsAskedMore n next new
 
     -- A call of the journal failed before a body was answered, not with 204, and then the head was
     -- asked for more.
@@ -135,7 +139,7 @@ module _ {J : Type 0} (seen : J → Segments) (may_leave : J → Segments → Ty
       pub no_fault : (states since).kept.fault ≡ None
       pub status : ℕ
       pub after : Kept J
-      pub answered : IsKeptAnswer (states since).kept body status after
+      pub answered : Answers (states since).kept body status after
       pub now : (at ≡ since) ⊎ HasFailed status after (states at).kept
       pub leaves : left_since after.journal (moment (states since).kept.journal) left
       pub no_chance : HasNoChance tears (answer (states since).kept.head body).head.store
@@ -145,7 +149,7 @@ module _ {J : Type 0} (seen : J → Segments) (may_leave : J → Segments → Ty
     -- A crash between two requests, when the log kept what the head holds: no call of the journal
     -- had failed, or `acknowledged` said so.
     abbrev pub IsIdleCrash : Kept J → Segments → Type 0
-    IsIdleCrash k left = ((k.fault ≡ None) ⊎ KeepsHead k) × may_leave k.journal left
+    IsIdleCrash k left = ((k.fault ≡ None) ⊎ Keeps k) × may_leave k.journal left
 
     -- a crash since the head was asked for a body that it does not take
     abbrev pub IsCrashAtRefused : (ℕ → KeptState J) → ℕ → Segments → Type 0
@@ -168,8 +172,7 @@ module _ {J : Type 0} (seen : J → Segments) (may_leave : J → Segments → Ty
       pub x : Exchange
       pub is : IsExchangeAt runs p w x
       pub body : List ℕ
-      pub carries : (batch : List Placed) → IsReadAgain batch
-          → x.request ≡ batch_request c.target batch → body ≡ body_of batch
+      pub reads : ReadsBody c.target.path c.max_body x.request body
       pub left : Segments
       pub crash : IsCrash states at body left
       pub taken : (answer (states crash.since).kept.head body).status ≡ 204
@@ -188,6 +191,7 @@ module _ {J : Type 0} (seen : J → Segments) (may_leave : J → Segments → Ty
     -- what each crash left of the log that the head before it wrote (`happens`).
     pub record IsKeptReceiver (c : Setup) (runs : List RunOfWorkers) (events : List WireEvent)
         (states : ℕ → KeptState J) : Type 0 where
+      pub sound : IsSound c
       pub runs_are : AreRunsTo c runs
       pub fresh : Segments
       pub no_samples : (l : Labels) → samples_of_labels (entries_of page_size fresh) l ≡ []

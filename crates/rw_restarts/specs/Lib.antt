@@ -8,6 +8,7 @@ pub mod Refusals
 pub mod Relay
 pub mod Runs
 pub mod Senders
+pub mod ServedReceivers
 pub mod Shards
 pub mod Stopped
 pub mod WireExamples

@@ -26,7 +26,7 @@ pub use runs::{
 pub use senders::{a_sender_is_a_run, what_is_put_is_what_is_owed};
 pub use stopped::{a_stopped_shipper_adds_its_samples, a_stopped_shipper_is_such_a_sender};
 pub use wire::{
-    a_kept_receiver_is_such_a_receiver, a_stopped_shipper_is_a_run_of_workers,
-    what_comes_over_the_wire_is_such_a_receiver,
+    a_kept_receiver_is_such_a_receiver, a_served_receiver_is_asked_in_order,
+    a_stopped_shipper_is_a_run_of_workers, what_comes_over_the_wire_is_such_a_receiver,
 };
 pub use workers::{a_batch_has_its_samples, a_worker_sends_in_order, a_worker_sends_its_samples};

@@ -9,12 +9,16 @@ ghost use Rattle.rw_sender.specs.Shipping.{Shipping};
 ghost use Rattle.rw_sender.specs.declared.report.Report.{Report};
 ghost use Rattle.rw_restarts.specs.WireReceivers.{RunOfWorkers, WireEvent, WireState};
 ghost use Rattle.rw_restarts.specs.WireReceivers.{IsReceiverByWire, HoldsLogByWire, StopsAsWorkers};
+ghost use Rattle.rw_head.specs.Store.{Store};
+ghost use Rattle.rw_kept_head.specs.Kept.{Kept};
 ghost use Rattle.rw_restarts.specs.KeptWireReceivers.{KeptState, IsWireReceiverKept, HoldsLogKept};
+ghost use Rattle.rw_restarts.specs.ServedReceivers.{ServedRequest, ServesInOrder};
 
 use crate::logs::many_runs_hold_one_log;
 use crate::receivers::an_endpoint_is_such_a_receiver;
 use rw_journal::Journal;
 use rw_kept_head::laws::what_is_left_lies_between;
+use rw_roundtrip::requests_are_read;
 use rw_worker::Transport;
 
 /// Law: a receiver to which the requests of the workers of many runs come over the wire is one of
@@ -40,9 +44,10 @@ pub fn what_comes_over_the_wire_is_such_a_receiver()
 /// log that the head before it wrote. So it holds what the laws say of the log that the runs are
 /// over (`holds`).
 ///
-/// Of the head it is asked what `KeptHead::admit` and `KeptHead::open` ensure. Of the disk it is
-/// asked that a folder which is opened has what the crash left, and that no checksum in this is
-/// right by chance.
+/// Of the endpoint it is asked that it asks the head for the body that it reads (`ReadsBody`, by
+/// `serve`); by `requests_are_read` this is the body that the request carries. Of the head it is
+/// asked what `KeptHead::admit` and `KeptHead::open` ensure. Of the disk it is asked that a folder
+/// which is opened has what the crash left, and that no checksum in this is right by chance.
 pub fn a_kept_receiver_is_such_a_receiver<J: Journal>()
     ensures receiver { (c : Setup) (runs : List RunOfWorkers) (events : List WireEvent)
         (states : ℕ → KeptState J) → IsWireReceiverKept J.seen J.may_leave J.moment J.left_since
@@ -51,9 +56,20 @@ pub fn a_kept_receiver_is_such_a_receiver<J: Journal>()
         (states : ℕ → KeptState J) (choice : Choice) (log : List Entry) → HoldsLogKept J.seen
         J.may_leave J.moment J.left_since J.tears c runs events states choice log }
 {
+    requests_are_read();
     what_is_left_lies_between::<J>();
     what_comes_over_the_wire_is_such_a_receiver();
 }
+
+/// Law: what a receiver with a journal was asked between a start and an end that was no crash came
+/// to it one request after the other, as the events of such a receiver do. That its head was asked
+/// these questions in this order, and nothing else, is what `SharedHead::gather` ensures; that each
+/// is the body that the endpoint read in a request is what `serve` ensures (`AreServed`).
+pub fn a_served_receiver_is_asked_in_order<J: Journal>()
+    ensures { (c : Setup) (runs : List RunOfWorkers) (requests : List ServedRequest)
+        (first last : Kept J) (acknowledged : Store) → ServesInOrder J.seen J.may_leave J.moment
+        J.left_since J.tears c runs requests first last acknowledged }
+{}
 
 /// Law: a shipper that was stopped is such a run of workers, by the steps that they report.
 pub fn a_stopped_shipper_is_a_run_of_workers<T: Transport>()

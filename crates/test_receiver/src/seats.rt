@@ -1,6 +1,6 @@
 //! Seats of one head, in one thread and in two.
 
-ghost use Rattle.std.specs.Prelude.{◌≡◌, ◌+◌, IfOk};
+ghost use Rattle.std.specs.Prelude.{◌≡◌, ◌+◌, IfOk, Some};
 ghost use Rattle.rw_head.specs.Store.{total};
 
 use crate::bodies::TWO;
@@ -9,7 +9,7 @@ use crate::messages::{Samples, UP, has_samples, standard};
 use crate::store::is_served_by;
 use rw_endpoint::{Answer, ServeEnd};
 use rw_head::{Capacity, Head};
-use rw_recv_head::{Asked, Blank, Naming, Seat, SharedHead};
+use rw_recv_head::{Asked, Blank, Holding, Seat, SharedHead};
 use rw_recv_http::Asking;
 use rw_test_parts::{UP_MESSAGE as ONE, WORD_OF_ONE};
 use std::alloc::{AllocError, Global};
@@ -37,7 +37,7 @@ struct Outcome {
     head: Head,
 }
 
-fn asked<L: Naming, R: Wait>(
+fn asked<L: Holding<Head>, R: Wait>(
     rt: &R,
     shared: &SharedHead<L>,
     seat: Seat<L>,
@@ -49,7 +49,7 @@ fn asked<L: Naming, R: Wait>(
 }
 
 /// Asks with one body from two seats at once.
-fn asked_at_once<L: Naming + Send + Sync, R: Threads + Wait + Sync>(
+fn asked_at_once<L: Holding<Head> + Send + Sync, R: Threads + Wait + Sync>(
     rt: &R,
     alloc: Global,
     blank: Blank,
@@ -60,6 +60,7 @@ fn asked_at_once<L: Naming + Send + Sync, R: Threads + Wait + Sync>(
     requires parts { (blank.parts ≡ 3) × (L.parts ≡ 3) }
     requires table { blank.table ≡ L.table }
     requires opening { head ≡ L.opening }
+    requires first { L.first ≡ Some head }
     ensures { IfOk result (λ o. total o.head.store ≡ total head.store + o.stored.0 + o.stored.1) }
 {
     let Ok((shared, mut seats)) = SharedHead::<L>::seats(alloc, blank, head, 2) else {
@@ -114,7 +115,7 @@ pub(crate) enum Talk<'a> {
 
 /// Returns the status of a body, asked for again if memory ran out and the seat has stored as much
 /// as before.
-fn answered_at_last<L: Naming, R: Wait>(
+fn answered_at_last<L: Holding<Head>, R: Wait>(
     asking: &mut Asking<'_, R, L>,
     body: &[u8],
     before: u64,
@@ -128,7 +129,7 @@ fn answered_at_last<L: Naming, R: Wait>(
 }
 
 /// Returns whether each body has its status, and the seat then has stored this much.
-fn answers<L: Naming, R: Wait>(
+fn answers<L: Holding<Head>, R: Wait>(
     asking: &mut Asking<'_, R, L>,
     bodies: &[(&[u8], u16, u64)],
 ) -> bool {
@@ -144,7 +145,7 @@ fn answers<L: Naming, R: Wait>(
 }
 
 /// Returns whether a seat answers as expected.
-fn is_answered<L: Naming, R: Wait>(
+fn is_answered<L: Holding<Head>, R: Wait>(
     alloc: Global,
     asking: &mut Asking<'_, R, L>,
     talk: Talk<'_>,
@@ -161,7 +162,7 @@ fn is_answered<L: Naming, R: Wait>(
 
 /// Asks from the one seat of a head. Returns whether it answers as expected, and the head. If no
 /// seat could be made there is no answer, and the head is as it was.
-pub(crate) fn answered<L: Naming, R: Wait>(
+pub(crate) fn answered<L: Holding<Head>, R: Wait>(
     rt: &R,
     alloc: Global,
     blank: Blank,
@@ -172,6 +173,7 @@ pub(crate) fn answered<L: Naming, R: Wait>(
     requires parts { (blank.parts ≡ 2) × (L.parts ≡ 2) }
     requires table { blank.table ≡ L.table }
     requires opening { head ≡ L.opening }
+    requires first { L.first ≡ Some head }
 {
     let (shared, mut seats) = match SharedHead::<L>::seats(alloc, blank, head, 1) {
         Ok(shared) => shared,
@@ -247,7 +249,7 @@ fn limited(alloc: Global, max_samples: u64) -> Result<Blank, AllocError>
 
 /// Returns whether the one seat of a head that holds a sample finds it full for two more, and then
 /// has a repeat acknowledged, and the head.
-fn finds_full<L: Naming, R: Wait>(
+fn finds_full<L: Holding<Head>, R: Wait>(
     rt: &R,
     alloc: Global,
     blank: Blank,
@@ -257,6 +259,7 @@ fn finds_full<L: Naming, R: Wait>(
     requires parts { (blank.parts ≡ 2) × (L.parts ≡ 2) }
     requires table { blank.table ≡ L.table }
     requires opening { head ≡ L.opening }
+    requires first { L.first ≡ Some head }
 {
     let Ok((shared, mut seats)) = SharedHead::<L>::seats(alloc, blank, head, 1) else {
         return Err(AllocError);

@@ -1,6 +1,6 @@
 //! What a head has of the samples that a shipper sent it.
 
-ghost use Rattle.std.specs.Prelude.{◌≡◌, ◌<◌, ◌+◌, [], All, IfOk};
+ghost use Rattle.std.specs.Prelude.{◌≡◌, ◌<◌, ◌+◌, [], All, IfOk, Some};
 ghost use Rattle.std.specs.Arc.{arc_value};
 
 use crate::logs::{FOUR, ONE, TWO, UP, segment};
@@ -47,6 +47,7 @@ fn opened<L: Endpoint>(
     requires parts { (blank.parts ≡ count + 1) × (L.parts ≡ count + 1) }
     requires table { blank.table ≡ L.table }
     requires opening { head ≡ L.opening }
+    requires first { L.first ≡ Some head }
     requires path { limits.path ≡ L.path }
     requires limit { limits.max_body_bytes ≡ L.limit }
     ensures seats { IfOk result (λ r. (arc_value r.0).seats ≡ count) }
@@ -87,6 +88,7 @@ fn shipped<R: Threads + Wait + Copy + Send + 'static, L: Endpoint + Send + Sync 
     requires parts { (blank.parts ≡ count + 1) × (L.parts ≡ count + 1) }
     requires table { blank.table ≡ L.table }
     requires opening { head ≡ L.opening }
+    requires first { L.first ≡ Some head }
     requires path { limits.path ≡ L.path }
     requires limit { limits.max_body_bytes ≡ L.limit }
 {

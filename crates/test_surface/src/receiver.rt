@@ -2,7 +2,7 @@
 
 use rw_recv_head::{
     AddedSeries, Admission, Admit, AllAdded, Blank, Block, Capacity, Head, HeldSeries, LabelSets,
-    Limits, Naming, Seat, SharedHead, StagedHead, Verdict,
+    Holding, Limits, Seat, SharedHead, StagedHead, Verdict,
 };
 use rw_recv_http::{Answer, Asking, ServeEnd, serve};
 use rw_types::{Sink, Source};
@@ -34,7 +34,7 @@ pub fn of_staged_messages() {
 }
 
 /// The calls of a head under a lock.
-pub fn of_shared_heads<R: Wait, L: Naming, H: Admit>() {
+pub fn of_shared_heads<R: Wait, L: Holding<H>, H: Admit>() {
     let _ = (Blank::new, Blank::with_capacity);
     let _ = (SharedHead::<L, H>::seats, SharedHead::<L, H>::gather);
     let _ = (Seat::<L>::answer::<R, H>, Seat::<L>::ask::<R, H>);

@@ -32,7 +32,7 @@ returns g c =
         parts_are = refl;
         filter_count = refl;
         each = each_of (λ (f : Finished SeatLine). IsSeatLine g.L.Naming.opening g.L.Endpoint.path g.L.Endpoint.limit f.transport) stop.result.workers.items c.in_ok-seats.ensures.lines;
-        gathered = subst (λ ss. HasGathered g.L.Naming.opening ss c.gather-head.result.store) c.in_ok-seats.ensures.seats c.gather-head.ensures.gathered;
+        gathered = subst (λ ss. HasGathered g.L.Naming.opening ss c.gather-head.result.store) c.in_ok-seats.ensures.seats c.gather-head.ensures.gathered.0;
       },
       refl,
     )

@@ -1,3 +1,4 @@
+use Rattle.std.proofs.Common.{Some}
 use Rattle.rw_in_memory.proofs.shipping.ship.Given as goal
 
 abbrev pub ghosts-ship_shared-L-Ledger : goal.ghosts-ship_shared-L-Ledger
@@ -8,3 +9,6 @@ ghosts-ship_shared-L-Naming g a = record { opening = a.head; table = a.blank.tab
 
 abbrev pub ghosts-ship_shared-L-Endpoint : goal.ghosts-ship_shared-L-Endpoint
 ghosts-ship_shared-L-Endpoint g a = record { path = a.limits.path; limit = a.limits.max_body_bytes }
+
+abbrev pub ghosts-ship_shared-L-Holding : goal.ghosts-ship_shared-L-Holding
+ghosts-ship_shared-L-Holding g a = record { first = Some a.head }

@@ -1,7 +1,7 @@
-use Rattle.std.proofs.Common.{IfOk, subst}
-use Rattle.rw_receive.specs.Receiving.{HasReceived}
+use Rattle.std.proofs.Common.{IfOk, Some, subst}
+use Rattle.rw_receive.specs.Receiving.{HasServed}
 use Rattle.rw_receive.proofs.receive.serve_connections.Goals as goal
 
 pub returns-clause-received : goal.returns-clause-received
 returns-clause-received g c =
-    subst (λ count. IfOk c.receive_all.result (λ head. HasReceived (g.H.Admit.state c.args.holder) count (g.H.Admit.state head).store)) c.get-count.ensures.number c.receive_all.ensures.received
+    subst (λ count. IfOk c.receive_all.result (HasServed g.H.Admit.state g.H.Admit.admits (g.H.Admit.state c.args.holder) (Some c.args.holder) count)) c.get-count.ensures.number c.receive_all.ensures.received

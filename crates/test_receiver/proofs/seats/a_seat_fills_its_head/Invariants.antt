@@ -1,3 +1,4 @@
+use Rattle.std.proofs.Common.{Some}
 use Rattle.test_receiver.proofs.seats.a_seat_fills_its_head.Given as goal
 
 abbrev pub ghosts-answered-L-Ledger : goal.ghosts-answered-L-Ledger
@@ -5,3 +6,6 @@ ghosts-answered-L-Ledger g a = record { name = a.blank.name; parts = a.blank.par
 
 abbrev pub ghosts-answered-L-Naming : goal.ghosts-answered-L-Naming
 ghosts-answered-L-Naming g a = record { opening = a.head; table = a.blank.table }
+
+abbrev pub ghosts-answered-L-Holding : goal.ghosts-answered-L-Holding
+ghosts-answered-L-Holding g a = record { first = Some a.head }

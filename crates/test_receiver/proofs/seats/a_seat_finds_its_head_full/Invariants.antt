@@ -1,3 +1,4 @@
+use Rattle.std.proofs.Common.{Some}
 use Rattle.test_receiver.proofs.seats.a_seat_finds_its_head_full.Given as goal
 
 abbrev pub ghosts-finds_full-L-Ledger : goal.ghosts-finds_full-L-Ledger
@@ -5,3 +6,6 @@ ghosts-finds_full-L-Ledger g a = record { name = a.blank.name; parts = a.blank.p
 
 abbrev pub ghosts-finds_full-L-Naming : goal.ghosts-finds_full-L-Naming
 ghosts-finds_full-L-Naming g a = record { opening = a.head; table = a.blank.table }
+
+abbrev pub ghosts-finds_full-L-Holding : goal.ghosts-finds_full-L-Holding
+ghosts-finds_full-L-Holding g a = record { first = Some a.head }

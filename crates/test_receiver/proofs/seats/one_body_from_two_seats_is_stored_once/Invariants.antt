@@ -1,3 +1,4 @@
+use Rattle.std.proofs.Common.{Some}
 use Rattle.test_receiver.proofs.seats.one_body_from_two_seats_is_stored_once.Given as goal
 
 abbrev pub ghosts-asked_at_once-L-Ledger : goal.ghosts-asked_at_once-L-Ledger
@@ -5,3 +6,6 @@ ghosts-asked_at_once-L-Ledger g a = record { name = a.blank.name; parts = a.blan
 
 abbrev pub ghosts-asked_at_once-L-Naming : goal.ghosts-asked_at_once-L-Naming
 ghosts-asked_at_once-L-Naming g a = record { opening = a.head; table = a.blank.table }
+
+abbrev pub ghosts-asked_at_once-L-Holding : goal.ghosts-asked_at_once-L-Holding
+ghosts-asked_at_once-L-Holding g a = record { first = Some a.head }

@@ -1,10 +1,12 @@
-use Rattle.std.proofs.Common.{◌≡◌, ◌≢◌, refl, ap, subst, ◌∙◌, arith}
+use Rattle.std.proofs.Common.{◌≡◌, ◌≢◌, List, refl, sym, ap, subst, ◌∙◌, arith}
 use Rattle.rw_head.specs.declared.capacity.Capacity.{Capacity}
 use Rattle.rw_head.specs.Head.{State}
 use Rattle.rw_head.specs.Store.{total}
 use Rattle.rw_head.specs.Capacity.{status_of_admission, unlimited, StaysWithin}
 use Rattle.rw_recv_head.proofs.CapacityLemmas.{stays_twice}
-use Rattle.rw_recv_head.specs.Seats.{Seated}
+use Rattle.rw_recv_head.specs.declared.question.Question.{Question}
+use Rattle.rw_recv_head.specs.Seats.{Seated, HasAdmitted}
+use Rattle.rw_recv_head.proofs.AdmittedLemmas.{one_more_admitted}
 use Rattle.rw_recv_head.proofs.StoredLemmas.{Gives, noted_as, kept_again, asked, finds_full}
 use Rattle.rw_recv_head.proofs.locked.Locked.answer.Given.{Over}
 use Rattle.rw_recv_head.proofs.locked.Locked.answer.Goals as goal
@@ -25,6 +27,11 @@ gives g c = record {
   refused = c.admit-admission.ensures.refused;
 }
 
+-- what is under the lock was asked this, too
+admitted : (g : Over) (c : goal.After-take g) → HasAdmitted g.H.Admit.admits g.L.Holding.first c.note.new.questions.asked c.admit-admission.new.self
+admitted g c =
+    one_more_admitted _ _ _ _ _ _ _ c.self.invariant.3 (noted_as _ _ _ _ _ _ c.status.ensures c.note.ensures.questions) c.admit-admission.ensures.admits
+
 pub invariant_of-self : goal.invariant_of-self
 invariant_of-self g c =
     let i = c.self.invariant.0 in
@@ -35,6 +42,7 @@ invariant_of-self g c =
       stays_twice _ _ _ _ c.self.invariant.1
           (subst (λ (k : Capacity). StaysWithin k (g.H.Admit.state c.self.inside.holder).store (g.H.Admit.state c.admit-admission.new.self).store) c.self.invariant.2 a.within),
       c.self.invariant.2,
+      admitted g c,
     )
 
 pub returns-clause-asked : goal.returns-clause-asked
@@ -59,3 +67,10 @@ returns-clause-full g c = λ full.
 pub returns-clause-limited : goal.returns-clause-limited
 returns-clause-limited g c = λ full.
     subst (λ (k : Capacity). k ≢ unlimited) c.self.invariant.2 (c.admit-admission.ensures.limited full)
+
+pub returns-clause-admitted : goal.returns-clause-admitted
+returns-clause-admitted g c =
+    let all = ap (λ (s : Seated). s.asked) c.take.ensures.stored ∙ ap (λ (s : Seated). s.asked) c.note.ensures.seat in (
+      c.admit-admission.new.self,
+      subst (λ (l : List Question). HasAdmitted g.H.Admit.admits g.L.Holding.first l c.admit-admission.new.self) (sym all) (admitted g c),
+    )

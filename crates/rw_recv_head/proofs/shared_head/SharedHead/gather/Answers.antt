@@ -1,8 +1,9 @@
-use Rattle.std.proofs.Common.{◌≡◌, ℕ, ◌∙◌, ◌<◌, Some, slice_get, rules, arith, [], ◌∷◌, ◌++◌, length, length-append, append_assoc, append-nil, subst, sym, ap}
+use Rattle.std.proofs.Common.{◌≡◌, ℕ, ◌∙◌, ◌<◌, Some, slice_get, rules, arith, List, [], ◌∷◌, ◌++◌, length, length-append, append_assoc, append-nil, subst, sym, ap}
 use Rattle.std.proofs.lemmas.List.{nil_from_length}
 use Rattle.std.proofs.lemmas.List.Sums.{sum_by_push}
 use Rattle.rw_recv_head.specs.declared.questions.Known.{Known}
-use Rattle.rw_recv_head.specs.Seats.{bodies_of, store_after, Seated, Opening}
+use Rattle.rw_recv_head.specs.declared.question.Question.{Question}
+use Rattle.rw_recv_head.specs.Seats.{bodies_of, store_after, Seated, HasAdmitted, Opening}
 use Rattle.rw_recv_head.specs.inner.Questions.{Sight, IsSeat}
 use Rattle.rw_recv_head.proofs.GatheringLemmas.{AreBack, none_are_back, one_more_back, gathers}
 use Rattle.rw_recv_head.proofs.shared_head.SharedHead.gather.Goals as goal
@@ -48,7 +49,8 @@ returns-clause-gathered g c =
     let known = c.loop-seat.questions in
     let none = nil_from_length _ (sym i.counted ∙ c.in-None.ensures.steps.0) in
     let whole = i.left ∙ ap (λ l. c.loop-seat.yielded ++ l) none ∙ append-nil c.loop-seat.yielded in
-    gathers _ known _ _ (subst (AreBack known) (sym whole) i.back)
+    (gathers _ known _ _ (subst (AreBack known) (sym whole) i.back)
     (omega (arith, c.requires, c.args.seats.ok.0, ap (λ (o : Opening). o.seats) c.self.view_is, c.self.invariant.2, parts.all_given, i.given))
     (parts.holds ∙ ap (λ l. store_after _ (bodies_of l)) (sym i.asked))
-    (λ n q e. subst (λ (k : ℕ). q.seat < k) (sym i.given) (parts.each n q (subst (λ l. slice_get l n ≡ Some q) i.asked e)))
+    (λ n q e. subst (λ (k : ℕ). q.seat < k) (sym i.given) (parts.each n q (subst (λ l. slice_get l n ≡ Some q) i.asked e))),
+    subst (λ (l : List Question). HasAdmitted g.H.Admit.admits g.L.Holding.first l c.into_parts-head.result.0) (sym i.asked) parts.admitted)
