@@ -13,7 +13,8 @@ use Rattle.rw_head.specs.Store.{list_of}
 use Rattle.rw_head.specs.Verdicts.{LabelLimits}
 use Rattle.rw_checkpoint.specs.Owed.{owed_of}
 use Rattle.rw_restarts.specs.Parts.{points_in}
-use Rattle.rw_restarts.specs.Runs.{SenderRun, acknowledged_in, acknowledged_before, IsRunOver}
+use Rattle.rw_restarts.specs.Stopped.{run_from_start}
+use Rattle.rw_restarts.specs.Runs.{SenderRun, SentMessage, acknowledged_in, acknowledged_before, IsRunOver}
 use Rattle.rw_restarts.specs.Receivers.{ReceiverEvent, ReceiverState, IsReceiverOf}
 use Rattle.rw_restarts.specs.Logs.{IsRunOverPart, AreRunsOverLog, HoldsLog}
 use Rattle.rw_restarts.proofs.RunLemmas.{many-runs}
@@ -26,6 +27,23 @@ pub part-is-run : (choice : Choice) (log : List Entry) (run : SenderRun) → IsR
 part-is-run choice log run s n x l is fine =
     begins_twice (acknowledged_before run l n ++ points_in l x.message) (run.earlier l ++ owed_of choice s.read l) (owed_of choice log l)
     (Begins-after (run.earlier l) (acknowledged_in l (take n run.sent)) (points_in l x.message) (owed_of choice s.read l) (s.sends n x l is fine)) (s.part l)
+
+begins-both : (first xs whole : List Point) → Begins xs whole → Begins (first ++ xs) (first ++ whole)
+begins-both first xs whole b = (b.0, ap (λ zs. first ++ zs) b.1 ∙ sym (append_assoc first xs b.0))
+
+-- what was fed is a log from a checkpoint on
+pub run-from-checkpoint : (choice : Choice) (log fed : List Entry) (sent : List SentMessage)
+    → ((l : Labels) → (earlier : List Point) × Begins (earlier ++ owed_of choice fed l) (owed_of choice log l))
+    → IsRunOverPart choice fed (run_from_start sent) → (earlier : Labels → List Point) × IsRunOverPart choice log (record { earlier = earlier; sent = sent })
+run-from-checkpoint choice log fed sent part r = (
+  λ l. (part l).0,
+  record {
+    read = r.read;
+    part = λ l. begins_twice ((part l).0 ++ owed_of choice r.read l) ((part l).0 ++ owed_of choice fed l) (owed_of choice log l)
+        (begins-both (part l).0 (owed_of choice r.read l) (owed_of choice fed l) (r.part l)) (part l).1;
+    sends = r.sends;
+  },
+)
 
 pub holds-log : ((choice : Choice) (log : List Entry) (l : Labels) → Rises IsEarlier (owed_of choice log l))
     → (limits : LabelLimits) (choice : Choice) (log : List Entry) (runs : List SenderRun) (events : List ReceiverEvent) (states : ℕ → ReceiverState) → AreRunsOverLog choice log runs

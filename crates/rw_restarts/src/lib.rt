@@ -13,7 +13,10 @@ mod wire;
 mod workers;
 
 pub use examples::{a_small_history_is_allowed, a_small_history_over_the_wire_is_allowed};
-pub use logs::{a_run_over_a_part_is_a_run_over_the_log, many_runs_hold_one_log};
+pub use logs::{
+    a_run_from_a_checkpoint_is_a_run_over_the_log, a_run_over_a_part_is_a_run_over_the_log,
+    many_runs_hold_one_log,
+};
 pub use receivers::{a_kept_head_is_such_a_receiver, an_endpoint_is_such_a_receiver};
 pub use relay::{
     a_relay_holds_what_the_first_receiver_holds, a_report_names_what_a_relay_lacks,
