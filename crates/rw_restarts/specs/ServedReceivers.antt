@@ -63,8 +63,8 @@ module _ {J : Type 0} (seen : J → Segments) (may_leave : J → Segments → Ty
       pub each : (n : ℕ) (r : ServedRequest) → slice_get requests n ≡ Some r
           → HappensToKept seen may_leave moment left_since tears c runs (event_of r) states n
 
-    -- That is so of what `SharedHead::gather` says of a head with a journal, which was asked from its
-    -- seats for these requests and nothing else.
+    -- That is so of what `SharedHead::gather` says of a head with a journal, which was asked from
+    -- its seats for these requests and nothing else.
     abbrev pub ServesInOrder : Setup → List RunOfWorkers → List ServedRequest → Kept J → Kept J
         → Store → Type 0
     ServesInOrder c runs requests first last acknowledged =
