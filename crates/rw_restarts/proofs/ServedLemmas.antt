@@ -36,7 +36,7 @@ module _ {J : Type 0} (seen : J → Segments) (may_leave : J → Segments → Ty
       subst (λ (s : ℕ). IsAnsweredAs c request old s old (how_served s)) (sym is) (refl, inl refl)
 
   -- what it was after a request, and what the later questions led to
-  next_of : (question : Option Question) (later : List Question) (first last : Kept J) → AreAdmitted Answered first (asked_for question ++ later) last
+  abbrev next_of : (question : Option Question) (later : List Question) (first last : Kept J) → AreAdmitted Answered first (asked_for question ++ later) last
       → (next : Kept J) × AreAdmitted Answered next later last
   next_of None later first last admitted = (first, admitted)
   next_of (Some q) later first last admitted = (admitted.0, admitted.2)
@@ -47,7 +47,7 @@ module _ {J : Type 0} (seen : J → Segments) (may_leave : J → Segments → Ty
   step_is c request status (Some q) later first last admitted served = answered_by_seat c request first admitted.0 status q (nat_eq status 503) refl served admitted.1
 
   -- ---- all of them
-  states_of : (requests : List ServedRequest) (first last : Kept J) (had : Store) → AreAdmitted Answered first (all_asked requests) last → ℕ → KeptState J
+  abbrev states_of : (requests : List ServedRequest) (first last : Kept J) (had : Store) → AreAdmitted Answered first (all_asked requests) last → ℕ → KeptState J
   states_of requests first last had admitted zero = record { kept = first; acknowledged = had }
   states_of [] first last had admitted (suc n) = record { kept = first; acknowledged = had }
   states_of (r ∷ later) first last had admitted (suc n) =
