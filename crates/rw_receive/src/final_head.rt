@@ -32,7 +32,10 @@ impl<H: Admit> Model for FinalHead<H> {
 impl<H: Admit> FinalHead<H> {
     /// Returns the head once all seats were returned. It holds what it held at first, and what was
     /// stored from each seat over all its connections.
-    pub(crate) fn gather<L: Holding<H>>(shared: SharedHead<L, H>, seats: Vec<Seat<L>>) -> FinalHead<H>
+    pub(crate) fn gather<L: Holding<H>>(
+        shared: SharedHead<L, H>,
+        seats: Vec<Seat<L>>,
+    ) -> FinalHead<H>
         requires { vec_len seats ≡ shared.seats }
         ensures gathered { (all : HasGathered L.opening seats.items (H.state result).store)
             × HasAdmitted H.admits L.first all.asked result }

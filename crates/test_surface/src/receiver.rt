@@ -1,8 +1,8 @@
 //! The receiver: its head, alone and under a lock, and its endpoint.
 
 use rw_recv_head::{
-    AddedSeries, Admission, Admit, AllAdded, Blank, Block, Capacity, Head, HeldSeries, LabelSets,
-    Holding, Limits, Seat, SharedHead, StagedHead, Verdict,
+    AddedSeries, Admission, Admit, AllAdded, Blank, Block, Capacity, Head, HeldSeries, Holding,
+    LabelSets, Limits, Seat, SharedHead, StagedHead, Verdict,
 };
 use rw_recv_http::{Answer, Asking, ServeEnd, serve};
 use rw_types::{Sink, Source};

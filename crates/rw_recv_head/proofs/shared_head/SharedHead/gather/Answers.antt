@@ -48,9 +48,10 @@ returns-clause-gathered g c =
     let parts = c.into_parts-head.ensures in
     let known = c.loop-seat.questions in
     let none = nil_from_length _ (sym i.counted ∙ c.in-None.ensures.steps.0) in
-    let whole = i.left ∙ ap (λ l. c.loop-seat.yielded ++ l) none ∙ append-nil c.loop-seat.yielded in
-    (gathers _ known _ _ (subst (AreBack known) (sym whole) i.back)
-    (omega (arith, c.requires, c.args.seats.ok.0, ap (λ (o : Opening). o.seats) c.self.view_is, c.self.invariant.2, parts.all_given, i.given))
-    (parts.holds ∙ ap (λ l. store_after _ (bodies_of l)) (sym i.asked))
-    (λ n q e. subst (λ (k : ℕ). q.seat < k) (sym i.given) (parts.each n q (subst (λ l. slice_get l n ≡ Some q) i.asked e))),
-    subst (λ (l : List Question). HasAdmitted g.H.Admit.admits g.L.Holding.first l c.into_parts-head.result.0) (sym i.asked) parts.admitted)
+    let whole = i.left ∙ ap (λ l. c.loop-seat.yielded ++ l) none ∙ append-nil c.loop-seat.yielded in (
+      gathers _ known _ _ (subst (AreBack known) (sym whole) i.back)
+          (omega (arith, c.requires, c.args.seats.ok.0, ap (λ (o : Opening). o.seats) c.self.view_is, c.self.invariant.2, parts.all_given, i.given))
+          (parts.holds ∙ ap (λ l. store_after _ (bodies_of l)) (sym i.asked))
+          (λ n q e. subst (λ (k : ℕ). q.seat < k) (sym i.given) (parts.each n q (subst (λ l. slice_get l n ≡ Some q) i.asked e))),
+      subst (λ (l : List Question). HasAdmitted g.H.Admit.admits g.L.Holding.first l c.into_parts-head.result.0) (sym i.asked) parts.admitted,
+    )
