@@ -1,7 +1,6 @@
 -- The requests that a receiver with a journal answered are events, one after the other.
-use Rattle.std.proofs.Common.{◌≡◌, ◌≢◌, ℕ, zero, suc, ◌==◌, nat_eq, eqb-true, eq-eqb, if◌then◌else◌, Bool, true, false, true≢false, List, [], ◌∷◌, ◌++◌, length, Option, None, Some, slice_get, inl, inr, refl, sym, ap, ◌∙◌, subst}
+use Rattle.std.proofs.Common.{◌≡◌, ℕ, zero, suc, nat_eq, eqb-true, eq-eqb, if◌then◌else◌, Bool, true, false, true≢false, List, [], ◌∷◌, ◌++◌, length, Option, None, Some, slice_get, inl, inr, refl, sym, ◌∙◌, subst}
 use Rattle.rw_retry.specs.Judgements.{judgement_of}
-use Rattle.rw_worker.specs.Transcript.{Exchange}
 use Rattle.rw_head.specs.Store.{Store}
 use Rattle.rw_recv_head.specs.declared.question.Question.{Question}
 use Rattle.rw_recv_head.specs.Seats.{AreAdmitted}
@@ -12,9 +11,9 @@ use Rattle.rw_journal.specs.Journal.{Segments}
 use Rattle.rw_kept_head.specs.Answered.{IsKeptAnswer}
 use Rattle.rw_kept_head.specs.Kept.{Kept}
 use Rattle.rw_restarts.specs.KeptReceivers.{acknowledged_after}
-use Rattle.rw_restarts.specs.WireReceivers.{RunOfWorkers, IsExchangeAt}
+use Rattle.rw_restarts.specs.WireReceivers.{RunOfWorkers}
 use Rattle.rw_restarts.specs.KeptWireReceivers.{KeptState, HasComeToKept, IsAnsweredKept}
-use Rattle.rw_restarts.specs.ServedReceivers.{ServedRequest, asked_for, all_asked, IsServedAs, AreServed, how_served, event_of, AreInOrder, ServesInOrder}
+use Rattle.rw_restarts.specs.ServedReceivers.{ServedRequest, asked_for, all_asked, IsServedAs, AreServed, how_served, ServesInOrder}
 
 module _ {J : Type 0} (seen : J → Segments) (may_leave : J → Segments → Type 0) (moment : J → ℕ) (left_since : J → ℕ → Segments → Type 0) (tears : List ℕ → List ℕ → Type 0) where
   abbrev Answered : Kept J → List ℕ → ℕ → Kept J → Type 0

@@ -1,7 +1,6 @@
 -- A receiver with a journal from a start to an end that was no crash: the requests that came to it,
 -- as its lock let them in.
 use Rattle.std.specs.Prelude.{◌≡◌, ℕ, ◌==◌, if◌then◌else◌, List, [], ◌∷◌, ◌++◌, length, Option, None, Some, slice_get}
-use Rattle.rw_retry.specs.Judgements.{judgement_of}
 use Rattle.rw_worker.specs.Transcript.{Exchange}
 use Rattle.rw_head.specs.Store.{Store}
 use Rattle.rw_recv_head.specs.declared.question.Question.{Question}
