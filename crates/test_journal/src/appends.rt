@@ -75,7 +75,7 @@ static ROWS: [Row; 6] = [
 ];
 
 /// Returns definitions of metric names.
-fn definitions_of(
+pub(crate) fn definitions_of(
     alloc: Global,
     names: &[(u64, &[u8])],
 ) -> Result<Vec<(u64, RawLabels)>, AppendError> {
@@ -98,7 +98,10 @@ fn put_definition(
 }
 
 /// Returns samples of the value 1.
-fn samples_at(alloc: Global, times: &[(u64, i64)]) -> Result<Vec<(u64, i64, Word)>, AllocError> {
+pub(crate) fn samples_at(
+    alloc: Global,
+    times: &[(u64, i64)],
+) -> Result<Vec<(u64, i64, Word)>, AllocError> {
     let mut samples = Vec::with_capacity(alloc, times.len())?;
     for (reference, time) in times {
         samples.push((*reference, *time, ONE))?;

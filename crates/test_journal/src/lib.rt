@@ -11,6 +11,8 @@ mod failed_calls;
 #[cfg(test)]
 mod failing_journal;
 #[cfg(test)]
+mod foreign_logs;
+#[cfg(test)]
 mod life;
 #[cfg(test)]
 mod long_messages;

@@ -4,6 +4,7 @@ use crate::plan::{Plan, Request};
 use rw_head::Admission;
 use rw_journal::{Journal, JournalError};
 use rw_kept_head::{KeptHead, OpenError};
+use rw_recv_head::Admit;
 use rw_reopen::ReopenError;
 use std::alloc::{AllocError, Global};
 
@@ -18,6 +19,8 @@ pub(crate) enum Wrong {
     HeldAtFirst,
     /// A request has another answer than in the plan.
     Answer,
+    /// A failed call of the journal is recorded as if memory had run out.
+    Fault,
     /// The head holds too little, too much, or something else after the requests.
     HeldAtLast,
     /// Another number of requests is answered, or of calls made.
@@ -73,9 +76,9 @@ impl Life {
     }
 }
 
-/// Asks a request, once more if memory may have run out and the plan says so: what is held is then
-/// as it was. Returns whether it has the answer of the plan, which is 503 after a fault of the
-/// journal.
+/// Asks a request as the threads of a receiver do, once more if memory may have run out and the
+/// plan says so: what is held is then as it was. Returns whether it has the answer of the plan,
+/// which is 503 after a fault of the journal.
 fn ask<J: Journal>(
     alloc: Global,
     plan: &Plan,
@@ -83,12 +86,12 @@ fn ask<J: Journal>(
     life: &Life,
     request: &Request,
 ) -> bool {
-    let mut admission = kept.admit(&request.body, &plan.capacity);
+    let mut admission = Admit::admit(kept, &request.body, &plan.capacity);
     if plan.asks_again && admission == Admission::Answered(503) && kept.fault().is_none() {
         if !plan.is_held(alloc, kept.head(), life.least, life.most) {
             return false;
         }
-        admission = kept.admit(&request.body, &plan.capacity);
+        admission = Admit::admit(kept, &request.body, &plan.capacity);
     }
     if kept.fault().is_some() {
         admission == Admission::Answered(503)
@@ -119,8 +122,11 @@ fn ask_each<J: Journal>(
             life = Life::whole(life.least.max(number.saturating_add(1)), life.end);
         }
     }
-    if kept.admit(b"no message", &plan.capacity) != Admission::Answered(400) {
+    if Admit::admit(kept, b"no message", &plan.capacity) != Admission::Answered(400) {
         return Err(Wrong::Answer);
+    }
+    if !plan.asks_again && kept.fault() == Some(JournalError::OutOfMemory) {
+        return Err(Wrong::Fault);
     }
     if plan.is_held(alloc, kept.head(), life.least, life.most) {
         Ok(life.least)
