@@ -15,7 +15,7 @@ use rw_wal_format::TailFault;
 use std::alloc::{AllocError, Global};
 use std::sync::Wait;
 use std::test::Fail;
-use std::thread::Threads;
+use std::thread::{self, Threads};
 use std::time::{Clock, Duration};
 
 /// A segment of a log, written as log text.
@@ -501,5 +501,85 @@ static SHARDS: [Row<'static>; 5] = [
 #[test]
 fn the_number_of_shards_follows_the_load(rt: HostRuntime) -> Result<(), Fail> {
     none_is_wrong(&rt, wrong_row(&rt, rt.alloc(), &SHARDS)?);
+    Ok(())
+}
+
+/// A receiver that is always busy, and takes some time to say so.
+const AWAY: Answers = Answers {
+    status: 503,
+    takes: 5,
+    requests: u64::MAX,
+    epochs: 1,
+};
+
+/// Sets the flag of the workers, later.
+fn set_later<R: Clock>(rt: &R, workers: &StopFlag) {
+    thread::sleep(rt, Duration::from_millis(200));
+    workers.set();
+}
+
+/// Ships a log to a receiver that is always busy, until the flag of the workers ends that.
+fn ship_in_vain<R: Threads + Wait + Clock + Copy + Send + 'static>(
+    rt: &R,
+    alloc: Global,
+    text: &[u8],
+    stop: StopFlag,
+    printed: &mut Room,
+) -> Result<Result<(), ToolFault>, AllocError> {
+    let mut readers = Vec::new(alloc);
+    put_readers(alloc, &mut readers, &[Whole(text)])?;
+    let counters = SendCounters::new(alloc)?;
+    let options = SendOptions {
+        connect: receivers_of(rt, AWAY)?,
+        counters: &counters,
+        max_batch_bytes: None,
+        stop,
+    };
+    match read_settings(alloc, NARROW) {
+        Ok(settings) => Ok(run_send(rt, alloc, settings, readers, options, printed)),
+        Err(_) => Err(AllocError),
+    }
+}
+
+/// Ships a log to a receiver that is always busy, while another thread sets the flag of the
+/// workers.
+fn ended_by_flag<R: Threads + Wait + Clock + Copy + Send + Sync + 'static>(
+    rt: &R,
+    alloc: Global,
+    text: &[u8],
+    printed: &mut Room,
+) -> Result<Result<(), ToolFault>, AllocError> {
+    let stop = StopFlag::new(alloc)?;
+    let workers = stop.share()?;
+    let (answer, ()) = thread::join(
+        rt,
+        || ship_in_vain(rt, alloc, text, stop, printed),
+        || set_later(rt, &workers),
+    );
+    answer
+}
+
+/// Returns whether the flag ends a run, with the first sample of its log abandoned.
+fn is_ended<R: Threads + Wait + Clock + Copy + Send + Sync + 'static>(
+    rt: &R,
+    alloc: Global,
+    text: &[u8],
+) -> Result<bool, AllocError> {
+    let mut printed = Room::new(alloc, 4096)?;
+    let answer = ended_by_flag(rt, alloc, text, &mut printed)?;
+    let is_printed = printed
+        .as_slice()
+        .starts_with(b"filtered 0\nabandoned 1\n".as_slice());
+    Ok(is_printed && answer == Err(ToolFault::OutOfMemory))
+}
+
+/// The flag that a run was given ends the wait for an answer, and the wait for room in a queue.
+#[test]
+fn a_set_flag_ends_a_run(rt: HostRuntime) -> Result<(), Fail> {
+    assert!(rt;
+        is_ended(&rt, rt.alloc(), UP)?,
+        "a sample waits for its answer"
+    );
+    assert!(rt; is_ended(&rt, rt.alloc(), FOUR)?, "a queue is full");
     Ok(())
 }

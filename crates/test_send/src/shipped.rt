@@ -423,3 +423,176 @@ fn a_receiver_that_is_away_hides_no_stop(rt: HostRuntime) -> Result<(), Fail> {
     assert!(rt; is_stopped(&rt, rt.alloc(), FOUR)?, "a queue is full");
     Ok(())
 }
+
+/// The sample of a second segment, after those of `FOUR`.
+const ONE_MORE: &[u8] = b"sample 1 50 1\n";
+
+const NARROW: &[u8] = b"[send]\ncapacity = 1\nbatch = 1\n";
+
+const ONE_SHARD: &[u8] = b"[send]\ncapacity = 1\nbatch = 1\nmax_shards = 1\n";
+
+const THREE_SHARDS: &[u8] =
+    b"[send]\ncapacity = 1\nbatch = 1\nshards = 3\nmin_shards = 3\nmax_shards = 3\n";
+
+/// What is set and what happens to a log, and how it is followed.
+struct ShardsRow<'a> {
+    name: &'static str,
+    settings: &'a [u8],
+    happens: &'a [Part<'a>],
+    /// Whether the clock asks for the number of shards at each turn.
+    asks: bool,
+    /// There is no memory for the shards of the epochs from this one on.
+    epochs: u64,
+    answer: Result<(), FollowFault>,
+    printed: &'a [u8],
+    /// How many shards the counters have at the end, if the load does not decide.
+    shards: Option<u64>,
+}
+
+/// Returns whether the counters have as many shards as a row says.
+fn has_shards(alloc: Global, counters: &SendCounters, row: &ShardsRow<'_>) -> bool {
+    let Some(shards) = row.shards else {
+        return true;
+    };
+    match counters.numbers(alloc) {
+        Ok(numbers) => numbers.shards == shards,
+        Err(_) => false,
+    }
+}
+
+/// Returns whether a log is followed as a row says, if its receivers are slow.
+fn has_its_shards<R: Threads + Wait + Clock + Copy + Send + 'static>(
+    rt: &R,
+    alloc: Global,
+    row: &ShardsRow<'_>,
+) -> Result<bool, AllocError> {
+    let settings = settings_of(alloc, row.settings)?;
+    let mut printed = Room::new(alloc, 4096)?;
+    let mut watch = Countdown {
+        looks: 9,
+        request: StopRequest::Finish,
+        flushes: false,
+        reshards: row.asks,
+        said: StopRequest::Continue,
+        sleeps: 0,
+    };
+    let counters = SendCounters::new(alloc)?;
+    let options = SendOptions {
+        connect: Receivers {
+            clock: *rt,
+            status: StatusCode::NO_CONTENT,
+            takes: Duration::from_millis(300),
+            requests: u64::MAX,
+            epochs: row.epochs,
+        },
+        counters: &counters,
+        max_batch_bytes: None,
+        stop: StopFlag::new(alloc)?,
+    };
+    let answer = follow(
+        rt,
+        alloc,
+        settings,
+        row.happens,
+        options,
+        &mut watch,
+        &mut printed,
+    )?;
+    let is_counted = has_shards(alloc, &counters, row);
+    Ok(answer == row.answer && printed.as_slice() == row.printed && is_counted)
+}
+
+static SHARDS: [ShardsRow<'static>; 7] = [
+    ShardsRow {
+        name: "a segment ends, and there is no memory for more shards",
+        settings: NARROW,
+        happens: &[More(FOUR), Quiet, Next(ONE_MORE)],
+        asks: false,
+        epochs: 1,
+        answer: Err(FollowFault::Tool(ToolFault::OutOfMemory)),
+        printed: b"filtered 0\nreport abandoned 5\n",
+        shards: Some(1),
+    },
+    ShardsRow {
+        name: "a segment ends, and more shards take over",
+        settings: NARROW,
+        happens: &[More(FOUR), Quiet, Next(ONE_MORE)],
+        asks: false,
+        epochs: 2,
+        answer: Ok(()),
+        printed: b"filtered 0\nreport complete 6\n",
+        shards: None,
+    },
+    ShardsRow {
+        name: "the clock asks, and there is no memory for more shards",
+        settings: NARROW,
+        happens: &[More(FOUR)],
+        asks: true,
+        epochs: 1,
+        answer: Err(FollowFault::Tool(ToolFault::OutOfMemory)),
+        printed: b"filtered 0\nreport abandoned 5\n",
+        shards: Some(1),
+    },
+    ShardsRow {
+        name: "the clock asks, and more shards take over",
+        settings: NARROW,
+        happens: &[More(FOUR)],
+        asks: true,
+        epochs: u64::MAX,
+        answer: Ok(()),
+        printed: b"filtered 0\nreport complete 5\n",
+        shards: None,
+    },
+    ShardsRow {
+        name: "no segment ends, and the clock does not ask",
+        settings: NARROW,
+        happens: &[More(FOUR)],
+        asks: false,
+        epochs: 1,
+        answer: Ok(()),
+        printed: b"filtered 0\nreport complete 5\n",
+        shards: Some(1),
+    },
+    ShardsRow {
+        name: "one shard alone is allowed",
+        settings: ONE_SHARD,
+        happens: &[More(FOUR), Quiet, Next(ONE_MORE)],
+        asks: true,
+        epochs: 1,
+        answer: Ok(()),
+        printed: b"filtered 0\nreport complete 6\n",
+        shards: Some(1),
+    },
+    ShardsRow {
+        name: "three shards alone are allowed",
+        settings: THREE_SHARDS,
+        happens: &[More(FOUR), Quiet, Next(ONE_MORE)],
+        asks: true,
+        epochs: 1,
+        answer: Ok(()),
+        printed: b"filtered 0\nreport complete 6\n",
+        shards: Some(3),
+    },
+];
+
+fn wrong_shards<R: Threads + Wait + Clock + Copy + Send + 'static>(
+    rt: &R,
+    alloc: Global,
+    rows: &[ShardsRow<'_>],
+) -> Result<Option<&'static str>, AllocError> {
+    for row in rows {
+        if !has_its_shards(rt, alloc, row)? {
+            return Ok(Some(row.name));
+        }
+    }
+    Ok(None)
+}
+
+/// A queue and a batch of one sample each: if the receiver is slow, two of four samples may wait,
+/// so one shard is to become more at the end of a segment, and if the clock asks. If there is no
+/// memory for them, the work ends.
+#[test]
+fn a_followed_log_has_as_many_shards_as_its_load_wants(rt: HostRuntime) -> Result<(), Fail> {
+    none_is_wrong(&rt, wrong_shards(&rt, rt.alloc(), &SHARDS)?);
+    Ok(())
+}
