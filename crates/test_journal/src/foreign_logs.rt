@@ -86,6 +86,15 @@ static ROWS: [Row; 9] = [
     },
 ];
 
+/// Returns what an error says of a log.
+fn refusal_of(error: &OpenError) -> Outcome {
+    match error {
+        OpenError::Foreign(at) => Foreign(*at),
+        OpenError::NoReferenceLeft => NoReferenceLeft,
+        OpenError::Log(_) => Outcome::Failed,
+    }
+}
+
 /// Opens a journal with the log of a row.
 fn outcome_of(alloc: Global, row: &Row) -> Result<Outcome, AppendError> {
     let definitions = definitions_of(alloc, row.names)?;
@@ -99,13 +108,10 @@ fn outcome_of(alloc: Global, row: &Row) -> Result<Outcome, AppendError> {
     let Ok(()) = journal.sync() else {
         return Ok(Outcome::Failed);
     };
-    let outcome = match KeptHead::open(alloc, &limits, journal, 1) {
-        Ok(opened) => Opened(opened.kept.head().total()),
-        Err((OpenError::Foreign(at), _)) => Foreign(at),
-        Err((OpenError::NoReferenceLeft, _)) => NoReferenceLeft,
-        Err(_) => Outcome::Failed,
-    };
-    Ok(outcome)
+    match KeptHead::open(alloc, &limits, journal, 1) {
+        Ok(opened) => Ok(Opened(opened.kept.head().total())),
+        Err((error, _journal)) => Ok(refusal_of(&error)),
+    }
 }
 
 /// Returns the first row with another outcome, and that outcome.
