@@ -8,7 +8,7 @@ ghost use Rattle.rw_reopen.specs.declared.error.ReopenError.TheVariants.{Failed}
 ghost use Rattle.rw_kept_head.specs.Kept.{SaysWhat, KeepsStore};
 ghost use Rattle.rw_head.specs.Store.{list_of};
 ghost use Rattle.rw_kept_head.specs.Admitted.{MayHold, label_limits};
-ghost use Rattle.rw_kept_head.specs.Opening.{HasOpeningCause, HasSameEntries, IsRefusedRightly};
+ghost use Rattle.rw_kept_head.specs.Opening.{HasForeignPlace, HasOpeningCause, HasSameEntries, IsRefusedRightly};
 ghost use Rattle.rw_kept_head.specs.declared.open_error.OpenError.TheVariants.{Log};
 
 use crate::kept_head::KeptHead;
@@ -49,6 +49,7 @@ fn open_log<J: Journal>(
         (HasSameEntries (J.seen journal.old)) }
     ensures refused { IfErr result (IsRefusedRightly (J.seen journal.old) (J.seen journal.new)) }
     ensures cause { IfErr result (HasOpeningCause (label_limits limits.now) (J.seen journal.old)) }
+    ensures place { IfErr result (HasForeignPlace (label_limits limits.now) (J.seen journal.old)) }
     ensures failed { IsErrOf result (Log Failed) → J.faults journal.old < J.faults journal.new }
 {
     an_empty_segment_ends_at_0();
@@ -133,6 +134,8 @@ impl<J: Journal> KeptHead<J> {
             (λ e. IsRefusedRightly (J.seen journal) (J.seen e.1) e.0) }
         ensures cause { IfErr result
             (λ e. HasOpeningCause (label_limits limits.now) (J.seen journal) e.0) }
+        ensures place { IfErr result
+            (λ e. HasForeignPlace (label_limits limits.now) (J.seen journal) e.0) }
         ensures failed { IfErr result
             (λ e. e.0 ≡ Log Failed → J.faults journal < J.faults e.1) }
     {
