@@ -1,6 +1,6 @@
 //! A head, opened from the log in a journal.
 
-ghost use Rattle.std.specs.Prelude.{◌≡◌, ◌<◌, ◌≤◌, ◌^◌, ◌++◌, [], ◌∷◌, length, take, None, IfOk, IfErr, IsErrOf};
+ghost use Rattle.std.specs.Prelude.{◌≡◌, ◌<◌, ◌≤◌, ◌^◌, ◌++◌, [], ◌∷◌, length, take, None, IfOk, OnOk, IfErr, IsErrOf};
 ghost use Rattle.rw_journal.specs.Journal.{on_last, Only, LeavesOnly};
 ghost use Rattle.rw_wal_append.specs.Ends.{EndsAt};
 ghost use Rattle.rw_reopen.specs.Reopening.{IsEnd};
@@ -43,6 +43,7 @@ fn open_log<J: Journal>(
     ensures end { IfOk result (λ r. IsEnd (J.seen journal.old) r.1) }
     ensures segments { IfOk result (λ r. J.seen journal.new
         ≡ on_last (take r.1.whole) (J.seen journal.old) ++ [] ∷ []) }
+    ensures entries { OnOk result (HasSameEntries (J.seen journal.old) (J.seen journal.new)) }
     ensures ends { IfOk result (λ r. EndsAt (J.seen journal.new) 0) }
     ensures synced { IfOk result (λ r. Only (J.seen journal.new) (J.may_leave journal.new)) }
     ensures any_moment { LeavesOnly J.moment J.left_since journal.old journal.new
@@ -111,6 +112,7 @@ impl<J: Journal> KeptHead<J> {
         ensures kept { IfOk result (λ o. KeepsStore (J.may_leave o.kept.journal)
             (J.seen o.kept.journal) o.kept.head.store) }
         ensures open { IfOk result (λ o. o.kept.fault ≡ None) }
+        ensures pages { IfOk result (λ o. o.kept.pages ≡ pages) }
 
         // The head has the limits that it was given, and holds what a head with them may hold.
         ensures limits { IfOk result (λ o. o.kept.head.limits ≡ label_limits limits.now) }
