@@ -1,6 +1,6 @@
 -- What a log says of a head: as it goes on, as it is written, and after a crash.
-use Rattle.std.proofs.Common.{◌≡◌, ◌⊎◌, ℕ, ℤ, ◌+◌, List, [], ◌∷◌, ◌++◌, length, map, refl, sym, ap, ◌∙◌, subst, append_assoc, append-nil, length-append, lit<, inl, inr, ⊎_elim, arith, if◌then◌else◌, Option, Some, None, is_some, true, false}
-use Rattle.std.proofs.lemmas.List.{take-take}
+use Rattle.std.proofs.Common.{◌≡◌, ◌≤◌, ◌*◌, ◌⊎◌, ℕ, ℤ, ◌+◌, List, [], ◌∷◌, ◌++◌, length, map, refl, sym, ap, ◌∙◌, subst, append_assoc, append-nil, length-append, lit<, inl, inr, ⊎_elim, arith, if◌then◌else◌, Option, Some, None, is_some, true, false}
+use Rattle.std.proofs.lemmas.List.{take-take, take_all}
 use Rattle.std.specs.List.{AllByRecursion}
 use Rattle.rw_types.specs.Beginnings.{Begins}
 use Rattle.rw_types.proofs.shared.BeginningLemmas.{begins_itself}
@@ -25,9 +25,10 @@ use Rattle.rw_wal_append.proofs.shared.AdditionLemmas.{samples_in-append}
 use Rattle.rw_wal_append.specs.References.{ReferenceTable, AreDefined, AreReferenced, StandFor, points_of, undefined, only_defined}
 use Rattle.rw_wal_append.specs.Ends.{EndsAt}
 use Rattle.rw_wal_append.proofs.shared.HoldLemmas.{before_all, more_last}
-use Rattle.rw_kept_head.specs.Kept.{SaysWhat, LiesBetween, IsLeft, IsTornWrite, HasNoChance}
-use Rattle.rw_kept_head.specs.inner.Inner.{GoesOn}
+use Rattle.rw_kept_head.specs.Kept.{SaysWhat, LiesBetween, IsLastWithin, IsLeft, IsTornWrite, HasNoChance}
+use Rattle.rw_kept_head.specs.inner.Inner.{GoesOn, IsWritable}
 use Rattle.rw_reopen.proofs.shared.OpeningLemmas.{last_is}
+use Rattle.rw_kept_head.proofs.WrittenLemmas.{later_undone}
 
 -- ---- runs of calls
 
@@ -150,6 +151,10 @@ is_begun tears new segments left begun = record { base = left; begun = begun; is
 pub offset_last : (segments : Segments) (offset : ℕ) → EndsAt segments offset → offset ≡ length (last_of segments)
 offset_last segments offset e = e.len ∙ ap length (sym (ap last_of e.folder ∙ last_is e.done (log_all page_size 0 e.records)))
 
+-- a segment that ends within its pages has no more of them
+pub last_within : (segments : Segments) (offset pages most : ℕ) → EndsAt segments offset → offset ≤ pages * page_size → pages ≡ most → IsLastWithin most segments
+last_within segments offset pages most e le same = subst (λ (n : ℕ). length (last_of segments) ≤ n * page_size) same (subst (λ (n : ℕ). n ≤ pages * page_size) (offset_last segments offset e) le)
+
 last_more : (segments : Segments) (offset : ℕ) (more : List ℕ) → EndsAt segments offset → last_of (with_more segments more) ≡ last_of segments ++ more
 last_more segments offset more e =
     ap (λ (ss : Segments). last_of (with_more ss more)) e.folder
@@ -197,9 +202,35 @@ pub still_defined : (es fs : List Entry) (n later : ReferenceTable) → fs ≡ e
 still_defined es fs n later same undone defined =
     subst (λ (x : List Entry). AreDefined x later) (sym same) (subst (λ (m : ReferenceTable). StandFor es m.first m.sets) (sym undone) defined)
 
-pub defined_after_abort : (es : List Entry) (n later : ReferenceTable) → later ≡ only_defined n → AreDefined es n → AreDefined es later
-defined_after_abort es n later aborted defined =
-    subst (AreDefined es) (sym aborted) (subst (StandFor es n.first) (sym (take-take n.defined n.defined n.sets (omega arith))) defined)
+only_known : (n : ReferenceTable) → n.defined ≡ length n.sets → (only_defined n).defined ≡ length (only_defined n).sets
+only_known n all = all ∙ ap length (sym (take_all n.defined n.sets (omega (arith, all))))
+
+-- a log in which nothing was changed
+pub goes_nowhere : (segments : Segments) (may_leave : Segments → Type 0) (n : ReferenceTable) (offset : ℕ) → IsWritable segments may_leave n offset → GoesOn segments segments may_leave offset
+goes_nowhere segments may_leave n offset w = record {
+  begun = inl refl;
+  entries = refl;
+  ends = w.ends;
+  synced = w.synced;
+}
+
+-- the label sets of a message that was not written are forgotten
+pub still_writable : (old new : Segments) (was may_leave : Segments → Type 0) (offset later : ℕ) (n more : ReferenceTable) → IsWritable old was n offset → GoesOn old new may_leave later
+    → only_defined more ≡ only_defined n → IsWritable new may_leave (only_defined more) later
+still_writable old new was may_leave offset later n more w on undone = record {
+  ends = on.ends;
+  defined =
+      subst (λ (m : ReferenceTable). AreDefined (entries_of page_size new) m) (sym undone)
+      (subst (λ (es : List Entry). AreDefined es (only_defined n)) (sym on.entries)
+      (subst (StandFor (entries_of page_size old) n.first) (sym (take-take n.defined n.defined n.sets (omega arith))) w.defined));
+  none_else = subst (λ (m : ReferenceTable). m.defined ≡ length m.sets) (sym undone) (only_known n w.none_else);
+  later = later_undone (entries_of page_size old) (entries_of page_size new) n more w.none_else undone on.entries w.later;
+  synced = on.synced;
+}
+
+pub aborted_writable : (segments : Segments) (may_leave : Segments → Type 0) (n later : ReferenceTable) (offset : ℕ) → later ≡ only_defined n → IsWritable segments may_leave (only_defined n) offset
+    → IsWritable segments may_leave later offset
+aborted_writable segments may_leave n later offset aborted w = subst (λ (m : ReferenceTable). IsWritable segments may_leave m offset) (sym aborted) w
 
 -- ---- what is collected
 

@@ -2,3 +2,4 @@ mod AdmittedLemmas
 mod CapacityLemmas
 mod KeptLemmas
 mod RestoringLemmas
+mod WrittenLemmas

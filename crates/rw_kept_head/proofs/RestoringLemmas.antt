@@ -1,7 +1,8 @@
 -- The head that the entries of a log say, entry by entry.
-use Rattle.std.proofs.Common.{◌≡◌, ◌≢◌, ℕ, ℤ, ◌+◌, ◌-◌, List, [], ◌∷◌, ◌++◌, length, map, Bool, true, false, not, ◌||◌, cond, Option, Some, None, refl, sym, ap, ◌∙◌, subst, arith, append-nil, nat_eq, eqb-true}
+use Rattle.std.proofs.Common.{◌≡◌, ◌≢◌, ℕ, suc, ℤ, ◌+◌, ◌-◌, ◌^◌, min, take, List, [], ◌∷◌, ◌++◌, length, map, Bool, true, false, not, ◌||◌, cond, Option, Some, None, refl, sym, ap, ◌∙◌, subst, arith, append-nil, nat_eq, eqb-true}
 use Rattle.std.specs.Prelude.{is_some, MatchOption}
-use Rattle.std.proofs.lemmas.List.{length_push}
+use Rattle.std.proofs.lemmas.List.{length_push, take_all, take-append-le}
+use Rattle.std.proofs.Math.Seq.{take-append_seam}
 use Rattle.rw_types.specs.Labels.{Labels, label_fault}
 use Rattle.rw_types.specs.LabelOrder.{labels_eq}
 use Rattle.rw_types.specs.inner.LabelOrder.{same_if_equal}
@@ -27,8 +28,8 @@ use Rattle.rw_head.proofs.shared.StoreLemmas.{list_of-with_list, total-with_list
 use Rattle.rw_head.proofs.shared.StagingLemmas.{push_has}
 use Rattle.rw_wal_append.specs.Additions.{without_position, samples_of_labels}
 use Rattle.rw_wal_append.proofs.shared.AdditionLemmas.{samples_in-append, no_sample}
-use Rattle.rw_kept_head.specs.Admitted.{MayHold}
-use Rattle.rw_kept_head.specs.inner.Restoring.{StandsFor, IsRestored, IsRestoring, IsRestoredOrRefused, IsSeriesOf, IsAdded, CannotFollow, AddsOne, Defines, AddsSample, TakesSample}
+use Rattle.rw_kept_head.specs.Admitted.{MayHold, IsRefusedAt}
+use Rattle.rw_kept_head.specs.inner.Restoring.{accepted_next, StandsFor, IsRestored, IsRestoring, IsRestoredOrRefused, IsSeriesOf, IsAdded, CannotFollow, AddsOne, Defines, AddsSample, TakesSample}
 use Rattle.rw_kept_head.proofs.AdmittedLemmas.{begin_held}
 use Rattle.rw_kept_head.proofs.KeptLemmas.{samples_begin}
 
@@ -185,23 +186,63 @@ still_refused : (limits : LabelLimits) (taken : List Entry) (e : Entry) → (May
 still_refused limits taken e refuses may =
     refuses (begin_held limits (samples_of_labels taken) (samples_of_labels (taken ++ e ∷ [])) (λ l. samples_begin taken (taken ++ e ∷ []) l (e ∷ [], refl)) may)
 
-pub restoring_next : (taken : List Entry) (e : Entry) (lookup later : ℕ → Option (Option TimeSeries)) (old new : State) (refused done : Bool) → new.limits ≡ old.limits → IsRestoring taken lookup old refused
-    → (IsRestored old.limits.names taken lookup old.store → IsRestoredOrRefused old.limits (taken ++ e ∷ []) later new.store done)
-    → (MayHold old.limits (list_of old.store) → MayHold old.limits (list_of new.store)) → IsRestoring (taken ++ e ∷ []) later new (refused || not done)
-restoring_next taken e lookup later old new true done same r next held = record {
+-- the first entry that is refused stays the first one
+first_stays : (limits : LabelLimits) (taken : List Entry) (e : Entry) (at : ℕ) → IsRefusedAt limits taken at → IsRefusedAt limits (taken ++ e ∷ []) at
+first_stays limits taken e at p = (
+  p.0,
+  p.1,
+  record {
+    within = omega (arith, p.2.within, length_push taken e);
+    before = subst (λ (es : List Entry). MayHold limits (samples_of_labels es)) (sym (take-append-le p.0 taken (e ∷ []) (omega (arith, p.2.within)))) p.2.before;
+    with_it = λ may. p.2.with_it (subst (λ (es : List Entry). MayHold limits (samples_of_labels es)) (take-append-le (suc p.0) taken (e ∷ []) (omega (arith, p.2.within))) may);
+  },
+)
+
+-- the entry that comes next is the first one that is refused
+first_now : (limits : LabelLimits) (taken : List Entry) (e : Entry) (at : ℕ) → at ≡ min (length taken) (2 ^ 64 - 1) → MayHold limits (samples_of_labels taken)
+    → (MayHold limits (samples_of_labels (taken ++ e ∷ [])) → ⊥) → IsRefusedAt limits (taken ++ e ∷ []) at
+first_now limits taken e at is before refuses = (
+  length taken,
+  is,
+  record {
+    within = omega (arith, length_push taken e);
+    before = subst (λ (es : List Entry). MayHold limits (samples_of_labels es)) (sym (take-append_seam taken (e ∷ []))) before;
+    with_it = λ may. refuses (subst (λ (es : List Entry). MayHold limits (samples_of_labels es)) (take_all (suc (length taken)) (taken ++ e ∷ []) (omega (arith, length_push taken e))) may);
+  },
+)
+
+-- the samples of the log, which the store has
+said_held : (limits : LabelLimits) (taken : List Entry) (store : Store) → ((l : Labels) → list_of store l ≡ samples_of_labels taken l) → MayHold limits (list_of store) → MayHold limits (samples_of_labels taken)
+said_held limits taken store says held = begin_held limits (samples_of_labels taken) (list_of store) (λ l. ([], says l ∙ sym (append-nil (samples_of_labels taken l)))) held
+
+counted_next : (n m : ℕ) → n ≡ min m (2 ^ 64 - 1) → min (n + 1) (2 ^ 64 - 1) ≡ min (m + 1) (2 ^ 64 - 1)
+counted_next n m is = omega (arith, is)
+
+pub restoring_next : (taken : List Entry) (e : Entry) (lookup later : ℕ → Option (Option TimeSeries)) (old new : State) (accepted : ℕ) (refused done : Bool) → new.limits ≡ old.limits
+    → IsRestoring taken lookup old accepted refused → (IsRestored old.limits.names taken lookup old.store → IsRestoredOrRefused old.limits (taken ++ e ∷ []) later new.store done)
+    → (MayHold old.limits (list_of old.store) → MayHold old.limits (list_of new.store)) → IsRestoring (taken ++ e ∷ []) later new (accepted_next accepted (refused || not done)) (refused || not done)
+restoring_next taken e lookup later old new accepted true done same r next held = record {
   restored = λ is. absurd cc;
   refuses = λ is. subst (λ (limits : LabelLimits). MayHold limits (samples_of_labels (taken ++ e ∷ [])) → ⊥) (sym same) (still_refused old.limits taken e (r.refuses refl));
   holds = subst (λ (limits : LabelLimits). MayHold limits (list_of new.store)) (sym same) (held r.holds);
+  all = λ is. absurd cc;
+  first = λ is. subst (λ (limits : LabelLimits). IsRefusedAt limits (taken ++ e ∷ []) accepted) (sym same) (first_stays old.limits taken e accepted (r.first refl));
 }
-restoring_next taken e lookup later old new false true same r next held = record {
+restoring_next taken e lookup later old new accepted false true same r next held = record {
   restored = λ is. subst (λ (limits : LabelLimits). IsRestored limits.names (taken ++ e ∷ []) later new.store) (sym same) (next (r.restored refl));
   refuses = λ is. absurd cc;
   holds = subst (λ (limits : LabelLimits). MayHold limits (list_of new.store)) (sym same) (held r.holds);
+  all = λ is. counted_next accepted (length taken) (r.all refl) ∙ ap (λ (n : ℕ). min n (2 ^ 64 - 1)) (sym (length_push taken e));
+  first = λ is. absurd cc;
 }
-restoring_next taken e lookup later old new false false same r next held = record {
+restoring_next taken e lookup later old new accepted false false same r next held = record {
   restored = λ is. absurd cc;
   refuses = λ is. subst (λ (limits : LabelLimits). MayHold limits (samples_of_labels (taken ++ e ∷ [])) → ⊥) (sym same) (next (r.restored refl));
   holds = subst (λ (limits : LabelLimits). MayHold limits (list_of new.store)) (sym same) (held r.holds);
+  all = λ is. absurd cc;
+  first = λ is.
+      subst (λ (limits : LabelLimits). IsRefusedAt limits (taken ++ e ∷ []) accepted) (sym same)
+      (first_now old.limits taken e accepted (r.all refl) (said_held old.limits taken old.store (r.restored refl).says r.holds) (next (r.restored refl)));
 }
 
 -- ---- the references

@@ -1,5 +1,5 @@
 -- What the log in a journal says of what a head holds, and what it says after a crash.
-use Rattle.std.specs.Prelude.{◌≡◌, ◌⊎◌, ℕ, List, length, Option}
+use Rattle.std.specs.Prelude.{◌≡◌, ◌≤◌, ◌*◌, ◌⊎◌, ℕ, List, length, Option}
 use Rattle.std.specs.List.{AllByRecursion}
 use mathlib.Core.Logic.{inl, inr}
 use Rattle.rw_types.specs.Beginnings.{Begins}
@@ -14,10 +14,12 @@ use Rattle.rw_journal.specs.Logs.{entries_of, IsWholeText}
 use Rattle.rw_journal.specs.TornLogs.{NoChance, last_of}
 use Rattle.rw_wal_append.specs.Additions.{samples_of_labels}
 
--- a head, the journal that has its log, and the fault after which every request is answered 503
+-- a head, the journal that has its log, the most pages of a segment, and the fault after which
+-- every request is answered 503
 pub record Kept (J : Type 0) : Type 0 where
   pub head : State
   pub journal : J
+  pub pages : ℕ
   pub fault : Option JournalError
 
 -- the log has of each label set the samples that the store has of it, in order
@@ -57,3 +59,7 @@ pub record KeepsStore (may_leave : Segments → Type 0) (segments : Segments) (s
   pub says : SaysWhat segments store
   pub whole : AllByRecursion (IsWholeText page_size) segments
   pub synced : Only segments may_leave
+
+-- the last segment has at most this many pages
+abbrev pub IsLastWithin : ℕ → Segments → Type 0
+IsLastWithin pages segments = length (last_of segments) ≤ pages * page_size

@@ -7,7 +7,7 @@ use Rattle.rw_reopen.specs.declared.error.ReopenError.TheVariants.{OutOfMemory, 
 use Rattle.rw_reopen.specs.Reading.{greatest_after}
 use Rattle.rw_reopen.specs.Reopening.{IsDamage}
 use Rattle.rw_head.specs.Verdicts.{LabelLimits}
-use Rattle.rw_kept_head.specs.Admitted.{IsAdmitted}
+use Rattle.rw_kept_head.specs.Admitted.{IsAdmitted, IsRefusedAt}
 use Rattle.rw_kept_head.specs.declared.open_error.OpenError.{OpenError}
 use Rattle.rw_kept_head.specs.declared.open_error.OpenError.TheVariants.{Log, Foreign, NoReferenceLeft}
 
@@ -25,6 +25,12 @@ abbrev pub HasOpeningCause : LabelLimits → Segments → OpenError → Type 0
 HasOpeningCause limits segments (Log e) = Unit {0}
 HasOpeningCause limits segments (Foreign at) = IsAdmitted limits segments → ⊥
 HasOpeningCause limits segments NoReferenceLeft = 2 ^ 63 ≤ greatest_after 0 (entries_of page_size segments)
+
+-- a log is said to be foreign at the first entry that is refused
+abbrev pub HasForeignPlace : LabelLimits → Segments → OpenError → Type 0
+HasForeignPlace limits segments (Log e) = Unit {0}
+HasForeignPlace limits segments (Foreign at) = IsRefusedAt limits (entries_of page_size segments) at
+HasForeignPlace limits segments NoReferenceLeft = Unit {0}
 
 -- these segments have the same entries
 abbrev pub HasSameEntries : Segments → Segments → Type 0

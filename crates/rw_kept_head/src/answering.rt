@@ -45,6 +45,7 @@ pub(crate) fn admit_kept<J: Journal>(
         → exceeds capacity.now head.store (answer head body.now).head.store ≡ true }
     ensures limited { result.1 ≡ Full → capacity.now ≢ unlimited }
 
+    ensures pages { log.new.pages ≡ log.old.pages }
     ensures open { status_of_admission result.1 ≡ 204 → log.new.fault ≡ None }
     ensures says { log.new.fault ≡ None → SaysWhat (J.seen log.new.journal) result.0.store }
     ensures any_moment { log.old.fault ≡ None

@@ -11,7 +11,7 @@ ghost use Rattle.rw_head.specs.Capacity.{exceeds, status_of_admission, unlimited
 ghost use Rattle.rw_head.specs.Growth.{EachRises, HasStoredBody};
 ghost use Rattle.rw_head.specs.Head.{answer, IsStatus, SpellsMessage};
 ghost use Rattle.rw_head.specs.Store.{list_of, total};
-ghost use Rattle.rw_kept_head.specs.Kept.{KeepsStore, IsLeft};
+ghost use Rattle.rw_kept_head.specs.Kept.{KeepsStore, IsLastWithin, IsLeft};
 
 use crate::answering::admit_kept;
 use crate::log_writer::LogWriter;
@@ -21,8 +21,8 @@ use std::alloc::Global;
 use std::marker::Model;
 use std::mem;
 
-/// A head whose samples are in a journal, as a log. Contracts see the head, the journal, and the
-/// fault after which nothing more is kept.
+/// A head whose samples are in a journal, as a log. Contracts see the head, the journal, the most
+/// pages of a segment, and the fault after which nothing more is kept.
 #[derive(Drop)]
 pub struct KeptHead<J: Journal> {
     pub(crate) alloc: Global,
@@ -41,7 +41,12 @@ impl<J: Journal> Model for KeptHead<J> {
 
     ghost coded = { Prim.hlevel (codes, map.code) };
 
-    ghost view = { λ k. record { head = k.head; journal = k.log.journal; fault = k.log.fault } };
+    ghost view = { λ k. record {
+      head = k.head;
+      journal = k.log.journal;
+      pages = k.log.pages;
+      fault = k.log.fault;
+    } };
 
     ghost invariant = { λ k. k.log.fault ≡ None → SaysWhat (J.seen k.log.journal) k.head.store };
 }
@@ -89,6 +94,11 @@ impl<J: Journal> KeptHead<J> {
             (IsLeft J.tears (answer self.old.head body.now).head.store (J.seen self.old.journal)) }
         ensures begins { (l : Labels) → Begins (list_of self.old.head.store l)
             (list_of (answer self.old.head body.now).head.store l) }
+
+        // No segment gets more pages than were asked for.
+        ensures pages { self.new.pages ≡ self.old.pages }
+        ensures last { self.new.fault ≡ None
+            → IsLastWithin self.new.pages (J.seen self.new.journal) }
 
         // After a fault of the journal nothing more is kept, and there is none without a cause.
         ensures closed { (e : JournalError) → self.old.fault ≡ Some e

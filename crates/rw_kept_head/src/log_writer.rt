@@ -9,8 +9,9 @@ ghost use Rattle.rw_wal_format.specs.Pieces.{page_size};
 ghost use Rattle.rw_wal_append.specs.Additions.{definition_entry};
 ghost use Rattle.rw_journal.specs.Logs.{entries_of, IsWholeText};
 ghost use Rattle.rw_wal_append.specs.Ends.{EndsAt};
-ghost use Rattle.rw_kept_head.specs.Kept.{SaysWhat, IsLeft};
-ghost use Rattle.rw_kept_head.specs.inner.Inner.{IsWritable, GoesOn, Keeps};
+ghost use Rattle.rw_wal_append.specs.References.{only_defined};
+ghost use Rattle.rw_kept_head.specs.Kept.{SaysWhat, IsLastWithin, IsLeft};
+ghost use Rattle.rw_kept_head.specs.inner.Inner.{IsWritable, IsWritten, GoesOn, Keeps};
 ghost use Rattle.rw_kept_head.specs.declared.keep_error.KeepError.TheVariants.{Unspelled, Journal};
 
 use crate::keep_error::KeepError;
@@ -37,6 +38,7 @@ fn spell<J: Journal>(
 ) -> Result<(Vec<u8>, LogEnd), KeepError>
     requires some { 1 ≤ pages }
     requires most { pages ≤ 4096 }
+    requires pages { end.old.pages ≡ pages }
     requires ends { EndsAt (J.seen journal.old) end.old.offset }
     requires synced { Only (J.seen journal.old) (J.may_leave journal.old) }
 
@@ -54,6 +56,10 @@ fn spell<J: Journal>(
         (IsBegun (J.seen journal.old)) }
     ensures failed { IsErrOf result (Journal Failed) → J.faults journal.old < J.faults journal.new }
     ensures faults { J.faults journal.old ≤ J.faults journal.new }
+
+    // Each segment gets the pages that are asked for.
+    ensures pages { end.new.pages ≡ pages }
+    ensures pages_after { IfOk result (λ r. r.1.pages ≡ pages) }
 {
     a_next_segment_may_begin();
     segments_add_up();
@@ -81,16 +87,24 @@ fn write_added<J: Journal>(
 ) -> Result<(), KeepError>
     requires some { 1 ≤ pages }
     requires most { pages ≤ 4096 }
+    requires pages { end.old.pages ≡ pages }
     requires writable { IsWritable (J.seen journal.old) (J.may_leave journal.old) references.old
         end.old.offset }
     requires says { SaysWhat (J.seen journal.old) staged.now.before.store }
     ensures ok { OnOk result (Keeps (J.seen journal.new) (J.may_leave journal.new) references.new
         end.new.offset staged.now.after.store) }
     ensures unspelled { IsErrOf result Unspelled → Keeps (J.seen journal.new)
-        (J.may_leave journal.new) references.new end.new.offset staged.now.before.store }
+        (J.may_leave journal.new) (only_defined references.new) end.new.offset
+        staged.now.before.store }
     ensures any_moment { LeavesOnly J.moment J.left_since journal.old journal.new
         (IsLeft J.tears staged.now.after.store (J.seen journal.old)) }
     ensures failed { IsErrOf result (Journal Failed) → J.faults journal.old < J.faults journal.new }
+    ensures pages { end.new.pages ≡ pages }
+
+    // A definition is written once, and a label set keeps its reference.
+    ensures written { OnOk result (IsWritten references.old references.new
+        (entries_of page_size (J.seen journal.old)) (entries_of page_size (J.seen journal.new))) }
+    ensures undone { IsErrOf result Unspelled → only_defined references.new ≡ references.old }
 {
     new_samples_are_read();
     let samples = collect(alloc, references, staged)?;
@@ -104,7 +118,7 @@ fn write_added<J: Journal>(
 }
 
 /// Writes the log of a head to a journal. Contracts see the journal, the references, where the log
-/// ends, and the fault after which nothing is written any more.
+/// ends, the most pages of a segment, and the fault after which nothing is written any more.
 #[derive(Drop)]
 pub(crate) struct LogWriter<J: Journal> {
     pub(crate) alloc: Global,
@@ -125,10 +139,12 @@ impl<J: Journal> Model for LogWriter<J> {
       journal = w.journal;
       references = w.references;
       end = w.end;
+      pages = w.pages;
       fault = w.fault;
     } };
 
-    ghost invariant = { λ w. (1 ≤ w.pages) × (w.pages ≤ 4096) × (w.fault ≡ None
+    ghost invariant = { λ w. (1 ≤ w.pages) × (w.pages ≤ 4096) × (w.end.pages ≡ w.pages)
+        × (w.fault ≡ None
         → IsWritable (J.seen w.journal) (J.may_leave w.journal) w.references w.end.offset) };
 }
 
@@ -140,8 +156,11 @@ impl<J: Journal> LogWriter<J> {
             → AllByRecursion (IsWholeText page_size) (J.seen self.now.journal) }
         ensures synced { result ≡ None
             → Only (J.seen self.now.journal) (J.may_leave self.now.journal) }
+        ensures last { result ≡ None
+            → IsLastWithin self.now.pages (J.seen self.now.journal) }
     {
         a_next_segment_may_begin();
+        let _within = self.end.offset();
         self.fault
     }
 
@@ -157,6 +176,12 @@ impl<J: Journal> LogWriter<J> {
             (IsLeft J.tears staged.now.after.store (J.seen self.old.journal)) }
         ensures failed { self.new.fault ≡ Some Failed
             → J.faults self.old.journal < J.faults self.new.journal }
+        ensures pages { self.new.pages ≡ self.old.pages }
+        ensures written { result ≡ true → IsWritten self.old.references self.new.references
+            (entries_of page_size (J.seen self.old.journal))
+            (entries_of page_size (J.seen self.new.journal)) }
+        ensures forgotten { result ≡ false → self.new.fault ≡ None
+            → self.new.references ≡ self.old.references }
     {
         let written = write_added(
             self.alloc,

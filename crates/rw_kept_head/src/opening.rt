@@ -1,6 +1,6 @@
 //! A head, opened from the log in a journal.
 
-ghost use Rattle.std.specs.Prelude.{◌≡◌, ◌<◌, ◌≤◌, ◌^◌, ◌++◌, [], ◌∷◌, length, take, None, IfOk, IfErr, IsErrOf};
+ghost use Rattle.std.specs.Prelude.{◌≡◌, ◌<◌, ◌≤◌, ◌^◌, ◌++◌, [], ◌∷◌, length, take, None, IfOk, OnOk, IfErr, IsErrOf};
 ghost use Rattle.rw_journal.specs.Journal.{on_last, Only, LeavesOnly};
 ghost use Rattle.rw_wal_append.specs.Ends.{EndsAt};
 ghost use Rattle.rw_reopen.specs.Reopening.{IsEnd};
@@ -8,7 +8,7 @@ ghost use Rattle.rw_reopen.specs.declared.error.ReopenError.TheVariants.{Failed}
 ghost use Rattle.rw_kept_head.specs.Kept.{SaysWhat, KeepsStore};
 ghost use Rattle.rw_head.specs.Store.{list_of};
 ghost use Rattle.rw_kept_head.specs.Admitted.{MayHold, label_limits};
-ghost use Rattle.rw_kept_head.specs.Opening.{HasOpeningCause, HasSameEntries, IsRefusedRightly};
+ghost use Rattle.rw_kept_head.specs.Opening.{HasForeignPlace, HasOpeningCause, HasSameEntries, IsRefusedRightly};
 ghost use Rattle.rw_kept_head.specs.declared.open_error.OpenError.TheVariants.{Log};
 
 use crate::kept_head::KeptHead;
@@ -43,12 +43,14 @@ fn open_log<J: Journal>(
     ensures end { IfOk result (λ r. IsEnd (J.seen journal.old) r.1) }
     ensures segments { IfOk result (λ r. J.seen journal.new
         ≡ on_last (take r.1.whole) (J.seen journal.old) ++ [] ∷ []) }
+    ensures entries { OnOk result (HasSameEntries (J.seen journal.old) (J.seen journal.new)) }
     ensures ends { IfOk result (λ r. EndsAt (J.seen journal.new) 0) }
     ensures synced { IfOk result (λ r. Only (J.seen journal.new) (J.may_leave journal.new)) }
     ensures any_moment { LeavesOnly J.moment J.left_since journal.old journal.new
         (HasSameEntries (J.seen journal.old)) }
     ensures refused { IfErr result (IsRefusedRightly (J.seen journal.old) (J.seen journal.new)) }
     ensures cause { IfErr result (HasOpeningCause (label_limits limits.now) (J.seen journal.old)) }
+    ensures place { IfErr result (HasForeignPlace (label_limits limits.now) (J.seen journal.old)) }
     ensures failed { IsErrOf result (Log Failed) → J.faults journal.old < J.faults journal.new }
 {
     an_empty_segment_ends_at_0();
@@ -110,6 +112,7 @@ impl<J: Journal> KeptHead<J> {
         ensures kept { IfOk result (λ o. KeepsStore (J.may_leave o.kept.journal)
             (J.seen o.kept.journal) o.kept.head.store) }
         ensures open { IfOk result (λ o. o.kept.fault ≡ None) }
+        ensures pages { IfOk result (λ o. o.kept.pages ≡ pages) }
 
         // The head has the limits that it was given, and holds what a head with them may hold.
         ensures limits { IfOk result (λ o. o.kept.head.limits ≡ label_limits limits.now) }
@@ -133,6 +136,8 @@ impl<J: Journal> KeptHead<J> {
             (λ e. IsRefusedRightly (J.seen journal) (J.seen e.1) e.0) }
         ensures cause { IfErr result
             (λ e. HasOpeningCause (label_limits limits.now) (J.seen journal) e.0) }
+        ensures place { IfErr result
+            (λ e. HasForeignPlace (label_limits limits.now) (J.seen journal) e.0) }
         ensures failed { IfErr result
             (λ e. e.0 ≡ Log Failed → J.faults journal < J.faults e.1) }
     {

@@ -7,8 +7,8 @@ ghost use Rattle.rw_types.specs.declared.entry.Entry.{Entry};
 ghost use Rattle.rw_wal_append.specs.Additions.{samples_of_labels};
 ghost use Rattle.rw_head.specs.declared.verdict.Verdict.TheVariants.{Stored};
 ghost use Rattle.rw_head.specs.Store.{list_of};
-ghost use Rattle.rw_kept_head.specs.Admitted.{MayHold, label_limits};
-ghost use Rattle.rw_kept_head.specs.inner.Restoring.{AddsOne, Defines, TakesSample, IsRestored, IsRestoredOrRefused, IsSeriesOf};
+ghost use Rattle.rw_kept_head.specs.Admitted.{MayHold, IsRefusedAt, label_limits};
+ghost use Rattle.rw_kept_head.specs.inner.Restoring.{accepted_next, AddsOne, Defines, TakesSample, IsRestored, IsRestoredOrRefused, IsSeriesOf};
 
 use indexmap::IndexMap;
 use rw_head::{Head, Limits, Verdict};
@@ -176,7 +176,9 @@ fn is_refused(before: bool, done: bool) -> bool
 }
 
 /// Returns how many entries are accepted with one more, unless one was refused.
-fn count_accepted(accepted: u64, refused: bool) -> u64 {
+fn count_accepted(accepted: u64, refused: bool) -> u64
+    ensures { result ≡ accepted_next accepted refused }
+{
     if refused {
         accepted
     } else {
@@ -216,12 +218,13 @@ impl Model for Restoring {
     ghost view = { λ r. record {
       taken = r.taken;
       head = r.head;
+      accepted = r.accepted;
       refused = r.refused;
       failed = r.failed;
     } };
 
     ghost invariant = { λ r. (r.names ≡ r.head.limits.names) × (r.failed ≡ false
-        → IsRestoring r.taken (λ n. get nat_eq r.series n) r.head r.refused) };
+        → IsRestoring r.taken (λ n. get nat_eq r.series n) r.head r.accepted r.refused) };
 }
 
 impl Restoring {
@@ -248,7 +251,9 @@ impl Restoring {
     }
 
     /// Returns how many entries came before the first one that was refused.
-    pub(crate) fn accepted(&self) -> u64 {
+    pub(crate) fn accepted(&self) -> u64
+        ensures { result ≡ self.now.accepted }
+    {
         self.accepted
     }
 
@@ -261,6 +266,7 @@ impl Restoring {
         ensures same { IfSome result (λ h. h ≡ self.head) }
         ensures refused { result ≡ None → MayHold self.head.limits (samples_of_labels self.taken)
             → ⊥ }
+        ensures first { result ≡ None → IsRefusedAt self.head.limits self.taken self.accepted }
     {
         let Restoring {
             alloc: _,

@@ -52,6 +52,7 @@ impl LogEnd {
     /// Returns how many bytes the last segment has.
     pub fn offset(&self) -> usize
         ensures offset { result ≡ self.now.offset }
+        ensures place { result ≤ self.now.pages * page_size }
         ensures bound { result ≤ 4096 * 32768 }
     {
         self.offset

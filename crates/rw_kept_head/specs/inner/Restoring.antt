@@ -1,5 +1,5 @@
 -- The head that the entries of a log say.
-use Rattle.std.specs.Prelude.{◌≡◌, ℕ, ℤ, List, [], ◌∷◌, ◌++◌, length, Bool, true, false, Option, Some, None, is_some, nat_eq, if◌then◌else◌}
+use Rattle.std.specs.Prelude.{◌≡◌, ◌+◌, ◌^◌, ◌-◌, ℕ, ℤ, List, [], ◌∷◌, ◌++◌, length, min, Bool, true, false, Option, Some, None, is_some, nat_eq, if◌then◌else◌}
 use Rattle.rw_types.specs.Labels.{Labels, label_fault}
 use Rattle.rw_types.specs.LabelOrder.{labels_eq}
 use Rattle.rw_types.specs.Rising.{Rises}
@@ -12,12 +12,14 @@ use Rattle.rw_head.specs.Head.{State}
 use Rattle.rw_head.specs.Lists.{IsEarlier}
 use Rattle.rw_head.specs.Store.{Store, list_of}
 use Rattle.rw_head.specs.Verdicts.{LabelLimits, refusal}
-use Rattle.rw_kept_head.specs.Admitted.{MayHold}
+use Rattle.rw_kept_head.specs.Admitted.{MayHold, IsRefusedAt}
 
--- the entries so far, the head, whether an entry was refused, and whether memory ran out
+-- the entries so far, the head, how many of them came before the first one that was refused,
+-- whether one was, and whether memory ran out
 pub record Restored : Type 0 where
   pub taken : List Entry
   pub head : State
+  pub accepted : ℕ
   pub refused : Bool
   pub failed : Bool
 
@@ -85,9 +87,15 @@ abbrev pub IsRestoredOrRefused : LabelLimits → List Entry → (ℕ → Option 
 IsRestoredOrRefused limits taken lookup store true = IsRestored limits.names taken lookup store
 IsRestoredOrRefused limits taken lookup store false = MayHold limits (samples_of_labels taken) → ⊥
 
+-- how many entries came before the first one that was refused, with one more entry
+abbrev pub accepted_next : ℕ → Bool → ℕ
+accepted_next n refused = if refused then n else min (n + 1) (2 ^ 64 - 1)
+
 -- the head has what the entries say, unless one of them was refused: then no head with these limits
 -- takes them
-pub record IsRestoring (taken : List Entry) (lookup : ℕ → Option (Option TimeSeries)) (head : State) (refused : Bool) : Type 0 where
+pub record IsRestoring (taken : List Entry) (lookup : ℕ → Option (Option TimeSeries)) (head : State) (accepted : ℕ) (refused : Bool) : Type 0 where
   pub restored : refused ≡ false → IsRestored head.limits.names taken lookup head.store
   pub refuses : refused ≡ true → MayHold head.limits (samples_of_labels taken) → ⊥
   pub holds : MayHold head.limits (list_of head.store)
+  pub all : refused ≡ false → accepted ≡ min (length taken) (2 ^ 64 - 1)
+  pub first : refused ≡ true → IsRefusedAt head.limits taken accepted

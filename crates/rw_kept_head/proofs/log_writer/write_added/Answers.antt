@@ -1,4 +1,4 @@
-use Rattle.std.proofs.Common.{◌++◌, map, List, ℕ, ap, sym, subst, ◌∙◌, arith, length}
+use Rattle.std.proofs.Common.{◌≡◌, ◌<◌, ◌+◌, ◌++◌, rules, map, List, ℕ, ap, sym, subst, ◌∙◌, arith, length}
 use Rattle.rw_types.specs.declared.entry.Entry.{Entry}
 use Rattle.rw_journal.specs.Journal.{with_more, IsBegun}
 use Rattle.rw_journal.specs.Torn.{IsTornLog}
@@ -10,7 +10,9 @@ use Rattle.rw_wal_append.specs.References.{undefined}
 use Rattle.rw_journal.specs.Logs.{entries_of}
 use Rattle.rw_kept_head.specs.inner.Inner.{GoesOn}
 use Rattle.rw_kept_head.specs.Kept.{SaysWhat, IsLeft}
-use Rattle.rw_kept_head.proofs.KeptLemmas.{then_runs, is_unharmed, is_begun, is_torn, offset_more, says_more, still_defined}
+use Rattle.rw_reopen.specs.Reading.{greatest_after}
+use Rattle.rw_kept_head.proofs.WrittenLemmas.{is_written, later_written, nothing_new}
+use Rattle.rw_kept_head.proofs.KeptLemmas.{goes_nowhere, still_writable, then_runs, is_unharmed, is_begun, is_torn, offset_more, says_more, still_defined}
 use Rattle.rw_kept_head.proofs.log_writer.write_added.Goals as goal
 
 pub returns-in_err-samples-clause-any_moment : goal.returns-in_err-samples-clause-any_moment
@@ -75,3 +77,77 @@ returns-clause-any_moment g c =
     (λ x torn.
     is_torn g.J.Journal.tears new seen base c.spell.new.end.offset c.deref-3.result.now x on.begun on.ends will
     (subst (λ (n : ℕ). IsTornLog g.J.Journal.tears page_size n base c.deref-3.result.now x) c.offset.ensures.offset torn))
+
+pub returns-clause-ok : goal.returns-clause-ok
+returns-clause-ok g c =
+    let seen = g.J.Journal.seen c.args.journal.now in
+    let base = g.J.Journal.seen c.spell.new.journal in
+    let on : GoesOn seen base (g.J.Journal.may_leave c.spell.new.journal) c.spell.new.end.offset = c.in_ok-bytes.ensures.ok in
+    let entries = c.in_ok-bytes.ensures.entries
+    ∙ ap (λ ds. entries_of page_size base ++ map definition_entry ds ++ map sample_entry c.deref-2.result.now) (c.deref.ensures.value ∙ c.in_ok-definitions.ensures)
+    ∙ ap (λ ss. entries_of page_size base ++ map definition_entry (undefined c.collect.new.references) ++ map sample_entry ss) c.deref-2.ensures.value in
+    let there : g.J.Journal.seen c.write_in_pages.new.journal ≡ with_more base c.in_ok-bytes.bytes.items = search rules in
+    let later = later_written (entries_of page_size seen) (entries_of page_size (g.J.Journal.seen c.write_in_pages.new.journal)) c.args.references.now c.collect.new.references c.in_ok-samples.samples.items
+    c.requires.writable.none_else c.collect.ensures.undone c.requires.writable.later
+    (ap (entries_of page_size) there ∙ entries ∙ ap (λ es. es ++ map definition_entry (undefined c.collect.new.references) ++ map sample_entry c.in_ok-samples.samples.items) on.entries) in
+    record {
+      writable = record {
+        ends = search rules;
+        defined = search rules;
+        none_else = search rules;
+        later = subst (λ m. greatest_after 0 (entries_of page_size (g.J.Journal.seen c.write_in_pages.new.journal)) < m.first + length m.sets) (sym c.commit.ensures) later;
+        synced = search rules;
+      };
+      says = search rules;
+    }
+
+pub returns-clause-written : goal.returns-clause-written
+returns-clause-written g c =
+    let base = g.J.Journal.seen c.spell.new.journal in
+    let on : GoesOn (g.J.Journal.seen c.args.journal.now) base (g.J.Journal.may_leave c.spell.new.journal) c.spell.new.end.offset = c.in_ok-bytes.ensures.ok in
+    let entries = c.in_ok-bytes.ensures.entries
+    ∙ ap (λ ds. entries_of page_size base ++ map definition_entry ds ++ map sample_entry c.deref-2.result.now) (c.deref.ensures.value ∙ c.in_ok-definitions.ensures)
+    ∙ ap (λ ss. entries_of page_size base ++ map definition_entry (undefined c.collect.new.references) ++ map sample_entry ss) c.deref-2.ensures.value in
+    let there : g.J.Journal.seen c.write_in_pages.new.journal ≡ with_more base c.in_ok-bytes.bytes.items = search rules in
+    is_written (entries_of page_size (g.J.Journal.seen c.args.journal.now)) (entries_of page_size (g.J.Journal.seen c.write_in_pages.new.journal)) c.args.references.now c.collect.new.references c.commit.new.self
+    c.in_ok-samples.samples.items c.requires.writable.none_else c.collect.ensures.undone c.commit.ensures
+    (ap (entries_of page_size) there ∙ entries ∙ ap (λ es. es ++ map definition_entry (undefined c.collect.new.references) ++ map sample_entry c.in_ok-samples.samples.items) on.entries)
+
+pub returns-in_err-samples-clause-unspelled : goal.returns-in_err-samples-clause-unspelled
+returns-in_err-samples-clause-unspelled g c = λ _.
+    let seen = g.J.Journal.seen c.args.journal.now in
+    let may = g.J.Journal.may_leave c.args.journal.now in
+    record {
+      writable = still_writable seen seen may may c.args.end.now.offset c.args.end.now.offset c.args.references.now c.collect.new.references c.requires.writable
+          (goes_nowhere seen may c.args.references.now c.args.end.now.offset c.requires.writable) c.collect.ensures.undone;
+      says = c.requires.says;
+    }
+
+pub returns-in_err-samples-clause-undone : goal.returns-in_err-samples-clause-undone
+returns-in_err-samples-clause-undone g c = λ _. nothing_new c.args.references.now c.collect.new.references c.requires.writable.none_else c.collect.ensures.undone
+
+pub returns-in_err-definitions-clause-unspelled : goal.returns-in_err-definitions-clause-unspelled
+returns-in_err-definitions-clause-unspelled g c = λ _.
+    let seen = g.J.Journal.seen c.args.journal.now in
+    let may = g.J.Journal.may_leave c.args.journal.now in
+    record {
+      writable = still_writable seen seen may may c.args.end.now.offset c.args.end.now.offset c.args.references.now c.collect.new.references c.requires.writable
+          (goes_nowhere seen may c.args.references.now c.args.end.now.offset c.requires.writable) c.collect.ensures.undone;
+      says = c.requires.says;
+    }
+
+pub returns-in_err-definitions-clause-undone : goal.returns-in_err-definitions-clause-undone
+returns-in_err-definitions-clause-undone g c = λ _. nothing_new c.args.references.now c.collect.new.references c.requires.writable.none_else c.collect.ensures.undone
+
+pub returns-in_err-bytes-clause-unspelled : goal.returns-in_err-bytes-clause-unspelled
+returns-in_err-bytes-clause-unspelled g c = λ e.
+    let seen = g.J.Journal.seen c.args.journal.now in
+    let on : GoesOn seen (g.J.Journal.seen c.spell.new.journal) (g.J.Journal.may_leave c.spell.new.journal) c.spell.new.end.offset = search rules in
+    record {
+      writable = still_writable seen (g.J.Journal.seen c.spell.new.journal) (g.J.Journal.may_leave c.args.journal.now) (g.J.Journal.may_leave c.spell.new.journal) c.args.end.now.offset c.spell.new.end.offset
+          c.args.references.now c.collect.new.references c.requires.writable on c.collect.ensures.undone;
+      says = λ l. c.requires.says l ∙ ap (λ (es : List Entry). samples_of_labels es l) (sym on.entries);
+    }
+
+pub returns-in_err-bytes-clause-undone : goal.returns-in_err-bytes-clause-undone
+returns-in_err-bytes-clause-undone g c = λ _. nothing_new c.args.references.now c.collect.new.references c.requires.writable.none_else c.collect.ensures.undone

@@ -28,3 +28,6 @@ pub returns-clause-failed : goal.returns-clause-failed
 returns-clause-failed g c = λ e.
     ⊎_elim (λ was. inl (sym (ap (λ k. k.fault) c.self.view_is) ∙ was))
     (λ less. inr (subst (λ j. g.J.Journal.faults j < g.J.Journal.faults c.admit_kept-head.new.log.journal) (ap (λ k. k.journal) c.self.view_is) less)) (c.admit_kept-head.ensures.failed e)
+
+pub returns-clause-last : goal.returns-clause-last
+returns-clause-last g c = λ none. c.fault-kept.ensures.last (c.fault-kept.ensures.fault ∙ none)
