@@ -8,6 +8,7 @@ use http::StatusCode;
 use rw_ledger::Reason;
 use rw_sender::{FeedFault, Load, Outcome, Shipper};
 use rw_wal_tail::{Piece, TailFault};
+use rw_worker::StopFlag;
 use std::alloc::{AllocError, Global};
 use std::sync::atomic::AtomicBool;
 use std::sync::{Arc, Wait};
@@ -405,6 +406,60 @@ fn a_fault_is_kept(rt: HostRuntime) {
     }
 }
 
+/// Feeds one segment after another until that fails, and returns the fault.
+fn fault_of_feeds<R: Wait>(
+    rt: &R,
+    alloc: Global,
+    shipper: &mut Shipper<Peers>,
+) -> Option<FeedFault> {
+    for t in 1..100_000 {
+        if let Err(fault) = shipper.feed(rt, Piece::NextSegment) {
+            return Some(fault);
+        }
+        let log = segment(alloc, &[UP], &[(1, t, ONE)]).ok()?;
+        if let Err(fault) = shipper.feed(rt, Piece::Bytes(log)) {
+            return Some(fault);
+        }
+        thread::yield_now();
+    }
+    None
+}
+
+/// Sets the flag of a worker whose receiver is always busy, and returns the fault of the feeds
+/// after that, or of a reshard.
+fn fault_after_flag<R: Threads + Wait + Copy + Send + 'static>(
+    rt: &R,
+    alloc: Global,
+    is_reshard: bool,
+) -> Result<Option<FeedFault>, AllocError> {
+    let log = segment(alloc, &[UP], &[(1, 0, ONE)])?;
+    let peers = peers_of(alloc, 503, u64::MAX, None)?;
+    let stop = StopFlag::new(alloc)?;
+    let flag = stop.share()?;
+    let Some(config) = config_of(alloc, 1, 1) else {
+        return Ok(None);
+    };
+    let mut shipper = Shipper::start_within(rt, alloc, config, peers, None, stop)?;
+    let fed = shipper.feed(rt, Piece::Bytes(log));
+    flag.set();
+    let fault = match fed {
+        Err(fault) => Some(fault),
+        Ok(()) if is_reshard => shipper.reshard(rt, 2).err(),
+        Ok(()) => fault_of_feeds(rt, alloc, &mut shipper),
+    };
+    shipper.stop_hard(rt);
+    Ok(fault)
+}
+
+/// It is no lack of memory.
+#[test]
+fn a_worker_that_is_stopped_has_gone(rt: HostRuntime) {
+    for is_reshard in [false, true] {
+        let fault = fault_after_flag(&rt, rt.alloc(), is_reshard);
+        assert_eq!(rt; fault, Ok(Some(FeedFault::Gone)));
+    }
+}
+
 static NO_CALLS: Task<'static> = Task {
     shards: 2,
     batch: 1,
@@ -487,19 +542,25 @@ fn comes_to(shipper: &Shipper<Peers>, load: Load) -> bool {
 /// to be reported in time then.
 type Fed<'a> = (u64, u64, Samples<'a>, Load);
 
-/// Returns whether it is, with no call after the one that fed.
+/// Returns whether it is, with no call after the one that fed. The log is damaged if there is a
+/// byte after it.
 fn resolves_in_time<R: Threads + Wait + Copy + Send + 'static>(
     rt: &R,
     alloc: Global,
     fed: &Fed<'_>,
+    behind: Option<u8>,
 ) -> Result<bool, AllocError> {
-    let log = segment(alloc, &FOUR, fed.2)?;
+    let mut log = segment(alloc, &FOUR, fed.2)?;
+    if let Some(byte) = behind {
+        log.push(byte)?;
+    }
     let peers = peers_of(alloc, 204, u64::MAX, None)?;
     let Some(config) = config_of(alloc, fed.0, fed.1) else {
         return Ok(false);
     };
     let mut shipper = Shipper::start(rt, alloc, config, peers)?;
-    let is_so = shipper.feed(rt, Piece::Bytes(log)).is_ok() && comes_to(&shipper, fed.3);
+    let is_fed = shipper.feed(rt, Piece::Bytes(log)).is_ok() == behind.is_none();
+    let is_so = is_fed && comes_to(&shipper, fed.3);
     shipper.stop_hard(rt);
     Ok(is_so)
 }
@@ -508,7 +569,14 @@ fn resolves_in_time<R: Threads + Wait + Copy + Send + 'static>(
 #[test]
 fn a_fed_sample_is_resolved_without_a_flush(rt: HostRuntime) {
     let fed = (2, 1, [(1, 10, ONE), (2, 20, TWO)].as_slice(), TWO_OF_TWO);
-    assert_eq!(rt; resolves_in_time(&rt, rt.alloc(), &fed), Ok(true));
+    assert_eq!(rt; resolves_in_time(&rt, rt.alloc(), &fed, None), Ok(true));
+}
+
+/// The same of a log that is damaged after its samples.
+#[test]
+fn a_sample_before_a_fault_is_resolved_without_a_flush(rt: HostRuntime) {
+    let fed = (2, 1, [(1, 10, ONE), (2, 20, TWO)].as_slice(), TWO_OF_TWO);
+    assert_eq!(rt; resolves_in_time(&rt, rt.alloc(), &fed, Some(8)), Ok(true));
 }
 
 /// The last sample waits for another one to be sent with, after a batch that is acknowledged.
@@ -520,7 +588,34 @@ fn a_sample_that_waits_for_a_full_batch_is_no_backlog(rt: HostRuntime) {
         [(1, 10, ONE), (1, 20, TWO), (1, 30, ONE)].as_slice(),
         THREE_OF_THREE,
     );
-    assert_eq!(rt; resolves_in_time(&rt, rt.alloc(), &fed), Ok(true));
+    assert_eq!(rt; resolves_in_time(&rt, rt.alloc(), &fed, None), Ok(true));
+}
+
+/// Returns the latest timestamp that a shipper reports before it is fed samples, and after that.
+fn newest_of<R: Threads + Wait + Copy + Send + 'static>(
+    rt: &R,
+    alloc: Global,
+    samples: Samples<'_>,
+) -> Result<Option<(i64, i64)>, AllocError> {
+    let log = segment(alloc, &FOUR, samples)?;
+    let peers = peers_of(alloc, 204, u64::MAX, None)?;
+    let Some(config) = config_of(alloc, 2, 1) else {
+        return Ok(None);
+    };
+    let mut shipper = Shipper::start(rt, alloc, config, peers)?;
+    let before = shipper.newest();
+    let is_fed = shipper.feed(rt, Piece::Bytes(log)).is_ok();
+    let after = shipper.newest();
+    shipper.stop_hard(rt);
+    Ok(if is_fed { Some((before, after)) } else { None })
+}
+
+/// A later sample of another series is older, and the last one has no series.
+#[test]
+fn the_newest_is_the_latest_that_was_put(rt: HostRuntime) {
+    let samples = [(1, 30, ONE), (2, 20, TWO), (9, 40, ONE)];
+    let newest = newest_of(&rt, rt.alloc(), &samples);
+    assert_eq!(rt; newest, Ok(Some((i64::MIN, 30))));
 }
 
 /// Returns whether a sample that a flush cut off is reported as waiting, if its receiver is busy.
