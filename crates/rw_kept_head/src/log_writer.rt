@@ -160,6 +160,7 @@ impl<J: Journal> LogWriter<J> {
             → IsLastWithin self.now.pages (J.seen self.now.journal) }
     {
         a_next_segment_may_begin();
+        // By its clause the last segment has no more bytes than its pages.
         let _within = self.end.offset();
         self.fault
     }
