@@ -548,10 +548,10 @@ fn resolves_in_time<R: Threads + Wait + Copy + Send + 'static>(
     rt: &R,
     alloc: Global,
     fed: &Fed<'_>,
-    behind: Option<u8>,
+    wrong_byte: Option<u8>,
 ) -> Result<bool, AllocError> {
     let mut log = segment(alloc, &FOUR, fed.2)?;
-    if let Some(byte) = behind {
+    if let Some(byte) = wrong_byte {
         log.push(byte)?;
     }
     let peers = peers_of(alloc, 204, u64::MAX, None)?;
@@ -559,7 +559,7 @@ fn resolves_in_time<R: Threads + Wait + Copy + Send + 'static>(
         return Ok(false);
     };
     let mut shipper = Shipper::start(rt, alloc, config, peers)?;
-    let is_fed = shipper.feed(rt, Piece::Bytes(log)).is_ok() == behind.is_none();
+    let is_fed = shipper.feed(rt, Piece::Bytes(log)).is_ok() == wrong_byte.is_none();
     let is_so = is_fed && comes_to(&shipper, fed.3);
     shipper.stop_hard(rt);
     Ok(is_so)
