@@ -3,6 +3,7 @@ pub mod FollowLemmas
 pub mod PrintLemmas
 pub mod EpochLemmas
 pub mod FeedErrorLemmas
+pub mod IntactLemmas
 pub mod PartLemmas
 pub mod SegmentLemmas
 pub mod ShortLemmas

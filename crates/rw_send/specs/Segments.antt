@@ -1,6 +1,6 @@
 -- The pieces of a log that is in several segments.
-use Rattle.std.specs.Prelude.{◌≡◌, ℕ, ◌<◌, ◌≤◌, Bool, true, false, List, [], ◌∷◌, ◌++◌, length, Option, Some, None, ⊤}
-use Rattle.rw_wal_format.specs.Pieces.{Piece, bytes, next_segment}
+use Rattle.std.specs.Prelude.{◌≡◌, ℕ, ◌<◌, ◌≤◌, ◌-◌, Bool, true, false, List, [], ◌∷◌, ◌++◌, length, take, Option, Some, None, ⊤}
+use Rattle.rw_wal_format.specs.Pieces.{Piece, bytes, next_segment, fault}
 
 -- the text of each segment that pieces make: the bytes between two ends of segments, joined; here
 -- after some text of the first one
@@ -20,6 +20,10 @@ IsShortPiece next_segment = ⊤
 abbrev pub AreShortPieces : List Piece → Type 0
 AreShortPieces [] = ⊤
 AreShortPieces (piece ∷ pieces) = IsShortPiece piece × AreShortPieces pieces
+
+-- reading ends at the first piece that has a fault: those before the last have none
+abbrev pub AreSoundButLast : List Piece → Type 0
+AreSoundButLast pieces = fault (take (length pieces - 1) pieces) ≡ None
 
 -- a reader returned all that it had left, if that is known
 abbrev pub IsAllOf : Option (List ℕ) → List ℕ → Type 0

@@ -16,7 +16,7 @@ use Rattle.rw_sender.specs.declared.report.Report.{Report}
 use Rattle.rw_text.specs.declared.tool_fault.ToolFault.{ToolFault}
 use Rattle.rw_text.specs.declared.tool_fault.ToolFault.TheVariants as fault
 use Rattle.rw_send.specs.ReportText.{IsTextOf, WritesReportPart}
-use Rattle.rw_send.specs.Segments.{AreShortPieces, AreSure, HasMoreBytes, IsBeginningOf, IsLogOf}
+use Rattle.rw_send.specs.Segments.{AreShortPieces, AreSoundButLast, AreSure, HasMoreBytes, IsBeginningOf, IsLogOf}
 use Rattle.rw_send.specs.Steps.{AreShipped, AreShippedPart, HasLastEpoch, HasStarted}
 
 -- the shards were ended in order; or at once, since the shipper failed or for this cause, and then
@@ -32,14 +32,16 @@ IsCutFor cause s r =
     IsAbandoned r.outcome → ListsCut r.workers.items ⊎ (IsSome s.fault ⊎ cause)
 
 -- A shipper that was configured so, with this limit in bytes while it has not failed, was fed these
--- pieces, and this is the report of its stop: in order, unless it failed or there was this cause to
--- stop at once. The shards were put what was placed, which is all that was fed unless it failed.
+-- pieces, none after the first with a fault, and this is the report of its stop: in order, unless
+-- it failed or there was this cause to stop at once. The shards were put what was placed, which is
+-- all that was fed unless it failed.
 pub record IsReportOf {T : Type 0} (tells : T → Type 0) (seen : T → List Exchange) (is_for : ℕ → ℕ → T → Type 0) (c : ConfigFields) (limit : Option ℕ) (cause : Type 0) (pieces : List Piece) (r : Report T) : Type 0 where
   pub shipping : Shipping T
   pub choice : shipping.log.choice ≡ choice_of c
   pub config : shipping.fleet.config ≡ record c { rules = [] }
   pub limit_is : shipping.fault ≡ None → shipping.limit ≡ limit
   pub pieces_are : shipping.log.pieces ≡ pieces
+  pub but_last : AreSoundButLast pieces
   pub stopped : HasStopped tells seen is_for shipping r
   pub placed : PlacesAll shipping.log shipping.fleet
   pub read : shipping.fault ≡ None → shipping.log.placed ≡ entries shipping.log.pieces

@@ -12,8 +12,9 @@ ghost use Rattle.rw_fleet.specs.declared.load.Load.{Load};
 ghost use Rattle.rw_sender.specs.Placement.{IsShardCount};
 ghost use Rattle.rw_send.specs.Following.{IsUnread, meal_of};
 ghost use Rattle.rw_send.specs.inner.Following.{FailsWith, HaltsAt, IsCut, MarksBy};
-ghost use Rattle.rw_send.specs.Segments.{AreShortPieces};
+ghost use Rattle.rw_send.specs.Segments.{AreShortPieces, AreSoundButLast};
 ghost use Rattle.rw_send.specs.FeedErrors.{IsHalted};
+ghost use Rattle.rw_send.specs.inner.FeedErrors.{IsIntact};
 ghost use Rattle.rw_send.specs.Steps.{HasLastEpoch, KeepsSetup};
 
 use crate::counters::{FeedContext, update_counters};
@@ -35,6 +36,7 @@ fn feed_bytes<R: Wait, C: Connect + Drop>(
     piece: Vec<u8>,
 ) -> Result<(), FeedError>
     requires live { shipper.old.fault ≡ None }
+    requires intact { IsIntact shipper.old }
     requires short { length piece.items ≤ 65_536 }
     ensures kept { KeepsSetup shipper.old shipper.new }
     ensures limit { shipper.new.limit ≡ shipper.old.limit }
@@ -42,7 +44,10 @@ fn feed_bytes<R: Wait, C: Connect + Drop>(
         → map marks_of shipper.new.fleet.current ≡ map marks_of shipper.old.fleet.current }
     ensures shards { length shipper.new.fleet.current ≡ length shipper.old.fleet.current }
     ensures short { AreShortPieces shipper.old.log.pieces → AreShortPieces shipper.new.log.pieces }
+    ensures but_last { AreSoundButLast shipper.old.log.pieces
+        → AreSoundButLast shipper.new.log.pieces }
     ensures live { OnOk result (shipper.new.fault ≡ None) }
+    ensures intact { OnOk result (IsIntact shipper.new) }
     ensures fed { OnOk result (meal_of shipper.new.log.pieces
         ≡ with_piece (meal_of shipper.old.log.pieces) piece.items) }
     ensures part { OnErr result ((meal_of shipper.new.log.pieces ≡ meal_of shipper.old.log.pieces)
@@ -64,6 +69,7 @@ fn feed_next<R: Threads + Wait + Clock + Copy + Send + 'static, C: Connect + Dro
     sharding: Sharding,
 ) -> Result<Sharding, FeedError>
     requires live { shipper.old.fault ≡ None }
+    requires intact { IsIntact shipper.old }
     requires shards { length shipper.old.fleet.current ≡ sharding.shards }
     ensures kept { KeepsSetup shipper.old shipper.new }
     ensures limit { shipper.new.limit ≡ shipper.old.limit }
@@ -72,7 +78,10 @@ fn feed_next<R: Threads + Wait + Clock + Copy + Send + 'static, C: Connect + Dro
     ensures start { IfOk result
         (λ s. (s.placed ≡ sharding.placed) × (s.resolved ≡ sharding.resolved)) }
     ensures short { AreShortPieces shipper.old.log.pieces → AreShortPieces shipper.new.log.pieces }
+    ensures but_last { AreSoundButLast shipper.old.log.pieces
+        → AreSoundButLast shipper.new.log.pieces }
     ensures live { OnOk result (shipper.new.fault ≡ None) }
+    ensures intact { OnOk result (IsIntact shipper.new) }
     ensures fed { OnOk result
         (meal_of shipper.new.log.pieces ≡ with_next (meal_of shipper.old.log.pieces)) }
     ensures part { OnErr result ((meal_of shipper.new.log.pieces ≡ meal_of shipper.old.log.pieces)
@@ -118,6 +127,7 @@ fn obey<R: Threads + Wait + Clock + Copy + Send + 'static, C: Connect + Drop>(
     buf: &[u8],
 ) -> Result<Sharding, FeedError>
     requires live { shipper.old.fault ≡ None }
+    requires intact { IsIntact shipper.old }
     requires shards { length shipper.old.fleet.current ≡ sharding.shards }
     requires within { FitsBuffer turn (length buf.now) }
     requires short { length buf.now ≤ 65_536 }
@@ -129,7 +139,10 @@ fn obey<R: Threads + Wait + Clock + Copy + Send + 'static, C: Connect + Drop>(
     ensures start { IfOk result
         (λ s. (s.placed ≡ sharding.placed) × (s.resolved ≡ sharding.resolved)) }
     ensures short { AreShortPieces shipper.old.log.pieces → AreShortPieces shipper.new.log.pieces }
+    ensures but_last { AreSoundButLast shipper.old.log.pieces
+        → AreSoundButLast shipper.new.log.pieces }
     ensures live { OnOk result (shipper.new.fault ≡ None) }
+    ensures intact { OnOk result (IsIntact shipper.new) }
     ensures fed { OnOk result (meal_of shipper.new.log.pieces
         ≡ given_by turn buf.now (meal_of shipper.old.log.pieces)) }
     ensures part { OnErr result ((meal_of shipper.new.log.pieces ≡ meal_of shipper.old.log.pieces)
@@ -168,6 +181,7 @@ fn step<R: Threads + Wait + Clock + Copy + Send + 'static, C: Connect + Drop>(
     buf: &[u8],
 ) -> Result<Sharding, FeedError>
     requires live { shipper.old.fault ≡ None }
+    requires intact { IsIntact shipper.old }
     requires shards { length shipper.old.fleet.current ≡ sharding.shards }
     requires within { FitsBuffer turn (length buf.now) }
     requires short { length buf.now ≤ 65_536 }
@@ -181,7 +195,10 @@ fn step<R: Threads + Wait + Clock + Copy + Send + 'static, C: Connect + Drop>(
     ensures shards { IfOk result (λ s. length shipper.new.fleet.current ≡ s.shards) }
     ensures number { shipper.new.fault ≡ None → IsShardCount (length shipper.new.fleet.current) }
     ensures short { AreShortPieces shipper.old.log.pieces → AreShortPieces shipper.new.log.pieces }
+    ensures but_last { AreSoundButLast shipper.old.log.pieces
+        → AreSoundButLast shipper.new.log.pieces }
     ensures live { OnOk result (shipper.new.fault ≡ None) }
+    ensures intact { OnOk result (IsIntact shipper.new) }
     ensures fed { OnOk result (meal_of shipper.new.log.pieces
         ≡ given_by turn buf.now (meal_of shipper.old.log.pieces)) }
     ensures part { OnErr result ((meal_of shipper.new.log.pieces ≡ meal_of shipper.old.log.pieces)
@@ -237,6 +254,7 @@ pub(crate) fn ship_live<
     ensures limit { shipper.new.fault ≡ None → shipper.new.limit ≡ shipper.old.limit }
     ensures number { shipper.new.fault ≡ None → IsShardCount (length shipper.new.fleet.current) }
     ensures short { AreShortPieces shipper.new.log.pieces }
+    ensures but_last { AreSoundButLast shipper.new.log.pieces }
     ensures live { OnOk result (shipper.new.fault ≡ None) }
     ensures begins { Known (S.now segments.new)
         (λ m. IsFedPrefix (meal_of shipper.new.log.pieces) (growth.texts m)) }

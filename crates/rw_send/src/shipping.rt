@@ -4,9 +4,10 @@ ghost use Rattle.std.specs.Prelude.{◌≡◌, ◌<◌, ◌≤◌, ◌⊎◌, []
 ghost use Rattle.std.specs.Io.KnownBytes.{Consumes, IsAtEnd};
 ghost use Rattle.rw_fleet.specs.Work.{AreResolved};
 ghost use Rattle.rw_sender.specs.Placement.{IsShardCount};
-ghost use Rattle.rw_send.specs.Segments.{AreShortPieces, AreSure, HasMoreBytes, OpensSegment, IsBeginningOf, IsFed, IsFedPart, IsLogOf};
+ghost use Rattle.rw_send.specs.Segments.{AreShortPieces, AreSoundButLast, AreSure, HasMoreBytes, OpensSegment, IsBeginningOf, IsFed, IsFedPart, IsLogOf};
 ghost use Rattle.rw_send.specs.inner.Segments.{IsFedLess, IsFedMore, IsSomeRead};
 ghost use Rattle.rw_send.specs.FeedErrors.{IsHalted};
+ghost use Rattle.rw_send.specs.inner.FeedErrors.{IsIntact};
 ghost use Rattle.rw_send.specs.Steps.{AreShipped, AreShippedPart, HasLastEpoch, KeepsSetup, StaysOpen};
 ghost use Rattle.rw_send.specs.declared.feed_error.FeedError.TheVariants.{Unreadable};
 
@@ -71,12 +72,16 @@ fn ship_piece<R: Wait, S: Source, C: Connect + Drop>(
     buf: &mut [u8],
 ) -> Result<bool, FeedError>
     requires sound { shipper.old.fault ≡ None }
+    requires intact { IsIntact shipper.old }
     requires buffer { 0 < length buf.old }
     requires small { length buf.old ≤ PIECE_BYTES }
     ensures room { length buf.new ≡ length buf.old }
     ensures stays { StaysOpen shipper.old shipper.new }
     ensures short { AreShortPieces shipper.old.log.pieces → AreShortPieces shipper.new.log.pieces }
+    ensures but_last { AreSoundButLast shipper.old.log.pieces
+        → AreSoundButLast shipper.new.log.pieces }
     ensures sound { OnOk result (shipper.new.fault ≡ None) }
+    ensures intact { OnOk result (IsIntact shipper.new) }
     ensures more { result ≡ Ok true
         → IsFedMore (S.remaining segment.old)
         (S.remaining segment.new) shipper.old.log.pieces shipper.new.log.pieces }
@@ -115,12 +120,16 @@ fn ship_segment<R: Wait, S: Source + Drop, C: Connect + Drop>(
     buf: &mut [u8],
 ) -> Result<(), FeedError>
     requires sound { shipper.old.fault ≡ None }
+    requires intact { IsIntact shipper.old }
     requires buffer { 0 < length buf.old }
     requires small { length buf.old ≤ PIECE_BYTES }
     ensures room { length buf.new ≡ length buf.old }
     ensures stays { StaysOpen shipper.old shipper.new }
     ensures short { AreShortPieces shipper.old.log.pieces → AreShortPieces shipper.new.log.pieces }
+    ensures but_last { AreSoundButLast shipper.old.log.pieces
+        → AreSoundButLast shipper.new.log.pieces }
     ensures sound { OnOk result (shipper.new.fault ≡ None) }
+    ensures intact { OnOk result (IsIntact shipper.new) }
     ensures whole { OnOk result
         (IsFed (S.remaining segment) shipper.old.log.pieces shipper.new.log.pieces) }
     ensures part { OnErr result
@@ -145,10 +154,14 @@ pub fn begin_segment<R: Wait, C: Connect + Drop>(
     shipper: &mut Shipper<C>,
     is_first: bool,
 ) -> Result<(), FeedError>
-    requires { shipper.old.fault ≡ None }
+    requires sound { shipper.old.fault ≡ None }
+    requires intact { IsIntact shipper.old }
     ensures stays { StaysOpen shipper.old shipper.new }
     ensures short { AreShortPieces shipper.old.log.pieces → AreShortPieces shipper.new.log.pieces }
+    ensures but_last { AreSoundButLast shipper.old.log.pieces
+        → AreSoundButLast shipper.new.log.pieces }
     ensures sound { OnOk result (shipper.new.fault ≡ None) }
+    ensures intact { OnOk result (IsIntact shipper.new) }
     ensures begun { OnOk result (OpensSegment is_first shipper.old.log.pieces shipper.new.log.pieces) }
     ensures part { OnErr result ((shipper.new.log.pieces ≡ shipper.old.log.pieces)
         ⊎ OpensSegment is_first shipper.old.log.pieces shipper.new.log.pieces) }
@@ -185,6 +198,7 @@ pub fn ship_all<
     ensures kept { KeepsSetup shipper.old shipper.new }
     ensures limit { shipper.new.limit ≡ shipper.old.limit }
     ensures short { AreShortPieces shipper.new.log.pieces }
+    ensures but_last { AreSoundButLast shipper.new.log.pieces }
     ensures live { OnOk result (shipper.new.fault ≡ None) }
     ensures whole { OnOk result (IsLogOf (map S.remaining segments.items) shipper.new.log.pieces) }
     ensures steps { OnOk result

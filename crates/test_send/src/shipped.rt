@@ -140,6 +140,12 @@ type Row<'a> = (
     &'a [u8],
 );
 
+/// Returns whether a run that is answered so has to end before it is asked to stop: a log that is
+/// damaged, or that lacks a segment, is not followed any further.
+fn ends_unasked(answer: &Result<(), FollowFault>) -> bool {
+    matches!(answer, Err(FollowFault::Tool(_) | FollowFault::Missing(_)))
+}
+
 /// Returns whether a run does as a row says, if the number of shards is adjusted at each turn, or
 /// never.
 fn does<R: Threads + Wait + Clock + Copy + Send + 'static>(
@@ -175,7 +181,13 @@ fn does<R: Threads + Wait + Clock + Copy + Send + 'static>(
         &mut printed,
     )?;
     let is_counted = tells_as_printed(alloc, &counters, row.5);
-    Ok(answer == row.4 && printed.as_slice() == row.5 && is_counted)
+    let is_unasked = watch.said == StopRequest::Continue;
+    Ok(
+        answer == row.4
+            && printed.as_slice() == row.5
+            && is_counted
+            && is_unasked == ends_unasked(&row.4),
+    )
 }
 
 fn wrong_row<R: Threads + Wait + Clock + Copy + Send + 'static>(
@@ -191,7 +203,7 @@ fn wrong_row<R: Threads + Wait + Clock + Copy + Send + 'static>(
     Ok(None)
 }
 
-static SHIPPED: [Row<'static>; 10] = [
+static SHIPPED: [Row<'static>; 11] = [
     (
         "nothing",
         &[],
@@ -251,15 +263,23 @@ static SHIPPED: [Row<'static>; 10] = [
     (
         "a segment ends within a record",
         &[Cut(UP, 34), Quiet, Next(LATER)],
-        9,
+        1000,
         StopRequest::Finish,
         Err(FollowFault::Tool(ToolFault::Log(TailFault::TornSegment))),
         b"filtered 0\nreport damaged 8\n",
     ),
     (
+        "a byte is missing within a record",
+        &[More(UP), Quiet, Cut(UP, 20), Rest(UP, 21)],
+        1000,
+        StopRequest::Finish,
+        Err(FollowFault::Tool(ToolFault::Log(TailFault::BadCrc))),
+        b"filtered 0\nreport damaged 3\n",
+    ),
+    (
         "a segment is missing",
         &[More(UP), Quiet, Gap(3)],
-        9,
+        1000,
         StopRequest::Finish,
         Err(FollowFault::Missing(3)),
         b"filtered 0\nabandoned 1\nreport abandoned 2\n",

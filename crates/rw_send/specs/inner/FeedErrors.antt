@@ -1,10 +1,15 @@
 -- Inner definitions beside those of FeedErrors.antt: only invariants, private functions and
 -- proofs use them.
 use Rattle.std.specs.Prelude.{◌≡◌, None, Some, ⊤}
+use Rattle.rw_wal_format.specs.Pieces.{fault}
 use Rattle.rw_sender.specs.Feeders.{HasRead}
 use Rattle.rw_sender.specs.Shipping.{Shipping}
 use Rattle.rw_send.specs.declared.feed_error.FeedError.{FeedError}
 use Rattle.rw_send.specs.declared.feed_error.FeedError.TheVariants as error
+
+-- the log has no fault as far as it was fed
+abbrev pub IsIntact : {T : Type 0} → Shipping T → Type 0
+IsIntact s = fault s.log.pieces ≡ None
 
 -- if reading ends at a damaged log, the log has that fault, and the shipper goes on
 abbrev pub HasDamage : {T : Type 0} → Shipping T → FeedError → Type 0

@@ -34,6 +34,7 @@ returns g c =
         config = live.kept.1 ∙ c.in_ok-shipper.ensures.config;
         limit_is = λ sound. live.limit sound ∙ c.in_ok-shipper.ensures.limit;
         pieces_are = refl;
+        but_last = live.but_last;
         stopped = stopped.stopped;
         placed = c.update_counters.ensures.placed;
         read = c.update_counters.ensures.read;

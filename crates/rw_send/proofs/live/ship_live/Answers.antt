@@ -1,9 +1,27 @@
-use Rattle.std.proofs.Common.{◌≡◌, true, Ok, Err, ap, ◌∙◌}
+use Rattle.std.proofs.Common.{◌≡◌, true, Ok, Err, ap, ◌∙◌, rules}
 use Rattle.rw_send.specs.inner.Following.{IsCut}
 use Rattle.rw_send.proofs.FollowLemmas.{begins_turn, cut_broken, cut_halted, err_so, halts_for, on_err}
 use Rattle.rw_send.proofs.EpochLemmas.{last_same}
 use Rattle.rw_send.proofs.FeedErrorLemmas.{count_so}
+use Rattle.rw_send.proofs.IntactLemmas.{intact_at_first, sound_at_first}
 use Rattle.rw_send.proofs.live.ship_live.Goals as goal
+
+pub loop-init : goal.loop-init
+loop-init g c = record {
+  kept = search rules;
+  limit = search rules;
+  short = search rules;
+  but_last = sound_at_first _ c.requires.begun;
+  intact = intact_at_first _ c.requires.begun;
+  live = search rules;
+  shards = search rules;
+  given = search rules;
+  followed = search rules;
+  sure = search rules;
+  resolved = search rules;
+  room = search rules;
+  small = search rules;
+}
 
 pub returns-in_err-sharding : goal.returns-in_err-sharding
 returns-in_err-sharding g c =
@@ -14,6 +32,7 @@ returns-in_err-sharding g c =
       number = c.step.ensures.number;
       last = λ done. c.step.ensures.last (c.loop.invariant.resolved done);
       short = c.step.ensures.short c.loop.invariant.short;
+      but_last = c.step.ensures.but_last c.loop.invariant.but_last;
       live = on_err _ _ _ is_err;
       begins = begins_turn _ _ c.in_ok-turn.turn c.turn.new.buf _ _ c.in_ok-turn.ensures.given c.loop.invariant.given c.in_err-sharding.ensures.part;
       whole = on_err _ _ _ is_err;

@@ -2,7 +2,8 @@ use Rattle.std.proofs.Common.{◌≡◌, ◌<◌, ◌≤◌, length, true, None}
 use Rattle.rw_follow.specs.Growth.{HasNextSegment, IsGivenAt, Known}
 use Rattle.rw_fleet.specs.Work.{AreResolved}
 use Rattle.rw_send.specs.Following.{meal_of}
-use Rattle.rw_send.specs.Segments.{AreShortPieces}
+use Rattle.rw_send.specs.Segments.{AreShortPieces, AreSoundButLast}
+use Rattle.rw_send.specs.inner.FeedErrors.{IsIntact}
 use Rattle.rw_send.specs.Steps.{KeepsSetup}
 use Rattle.rw_send.proofs.live.ship_live.Given as goal
 
@@ -11,6 +12,8 @@ invariant-loop g l = record {
   kept : KeepsSetup l.fn.shipper l.shipper;
   limit : l.shipper.limit ≡ l.fn.shipper.limit;
   short : AreShortPieces l.shipper.log.pieces;
+  but_last : AreSoundButLast l.shipper.log.pieces;
+  intact : IsIntact l.shipper;
   live : l.shipper.fault ≡ None;
   shards : length l.shipper.fleet.current ≡ l.sharding.shards;
   given : Known (g.S.Segments.now l.segments) (λ m. IsGivenAt (meal_of l.shipper.log.pieces) m);

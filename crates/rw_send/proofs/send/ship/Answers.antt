@@ -26,6 +26,7 @@ returns g c =
         config = c.ship_all-shipped.ensures.kept.1 ∙ c.in_ok-shipper.ensures.config;
         limit_is = λ _. c.ship_all-shipped.ensures.limit ∙ c.in_ok-shipper.ensures.limit;
         pieces_are = refl;
+        but_last = c.ship_all-shipped.ensures.but_last;
         stopped = c.stop_shipper-sent.ensures.stopped;
         placed = c.update_counters.ensures.placed;
         read = c.update_counters.ensures.read;

@@ -1,15 +1,38 @@
-use Rattle.std.proofs.Common.{inl, ◌≡◌, ◌<◌, ◌≤◌, ℕ, ◌-◌, ◌∷◌, Bool, nat_lt, length, map, sym, ap, ◌∙◌, subst, arith}
+use Rattle.std.proofs.Common.{inl, ◌≡◌, ◌<◌, ◌≤◌, ℕ, ◌-◌, List, ◌∷◌, None, Bool, nat_lt, length, map, sym, ap, ◌∙◌, subst, arith, rules}
 use Rattle.std.specs.Vec.Iter.{into_iter_items}
 use Rattle.rw_sender.specs.Feeders.{Sorting}
-use Rattle.rw_send.specs.Segments.{AreShortPieces}
+use Rattle.rw_wal_format.specs.Pieces.{Piece, fault}
+use Rattle.rw_send.specs.Segments.{AreShortPieces, AreSoundButLast}
 use Rattle.rw_send.specs.Steps.{IsSet, is_some_more}
 use Rattle.rw_send.proofs.EpochLemmas.{last_compared, last_same, last_stays, next_resolved, still_resolved, still_some}
 use Rattle.rw_send.proofs.FeedErrorLemmas.{count_so, lacks, live_no_more, same_halt}
+use Rattle.rw_send.proofs.IntactLemmas.{intact_at_first, sound_at_first}
 use Rattle.rw_send.proofs.PartLemmas.{begins_on, halted_at_begin, halted_within, lacks_within}
 use Rattle.rw_send.proofs.SegmentLemmas.{going_step}
 use Rattle.rw_send.proofs.StepLemmas.{between, halts_at_begin, halts_behind, halts_within, is_shipped, part_first, part_halts, ships_first, some_more, stays_kept, stays_on}
 use Rattle.rw_send.proofs.SureLemmas.{sure_rest}
 use Rattle.rw_send.proofs.shipping.ship_all.Goals as goal
+
+pub loop-segment-init : goal.loop-segment-init
+loop-segment-init g c = record {
+  kept = search rules;
+  short = search rules;
+  but_last = sound_at_first _ c.requires.begun;
+  intact = intact_at_first _ c.requires.begun;
+  limit = search rules;
+  shards = search rules;
+  range = search rules;
+  steps = search rules;
+  part = search rules;
+  going = search rules;
+  sound = search rules;
+  resolved = search rules;
+  buffer = search rules;
+  small = search rules;
+  left = search rules;
+  sure = search rules;
+  counted = search rules;
+}
 
 pub loop-segment-preserved : goal.loop-segment-preserved
 loop-segment-preserved g c =
@@ -26,6 +49,8 @@ loop-segment-preserved g c =
     record {
       kept = (ap (λ (l : Sorting). l.choice) c.in_ok-sharding.ensures.log ∙ kept.0 ∙ was.0, c.in_ok-sharding.ensures.config ∙ kept.1 ∙ was.1);
       short = subst AreShortPieces (sym (ap (λ (l : Sorting). l.pieces) c.in_ok-sharding.ensures.log)) (c.in_ok-ship_segment.ensures.short (c.in_ok-begin_segment.ensures.short c.loop-segment.invariant.short));
+      but_last = subst AreSoundButLast (sym (ap (λ (l : Sorting). l.pieces) c.in_ok-sharding.ensures.log)) (c.in_ok-ship_segment.ensures.but_last (c.in_ok-begin_segment.ensures.but_last c.loop-segment.invariant.but_last));
+      intact = subst (λ (ps : List Piece). fault ps ≡ None) (sym (ap (λ (l : Sorting). l.pieces) c.in_ok-sharding.ensures.log)) c.in_ok-ship_segment.ensures.intact;
       limit = c.in_ok-sharding.ensures.limit ∙ stays.limit ∙ c.loop-segment.invariant.limit;
       shards = sym c.in_ok-sharding.ensures.shards;
       range = (c.in_ok-sharding.ensures.range.0 ∙ c.loop-segment.invariant.range.0, c.in_ok-sharding.ensures.range.1 ∙ c.loop-segment.invariant.range.1);

@@ -1,7 +1,8 @@
 use Rattle.std.proofs.Common.{◌≡◌, ◌<◌, ◌≤◌, None, true, map, length}
 use Rattle.std.specs.Vec.Iter.{into_iter_items, into_iter_len}
 use Rattle.rw_fleet.specs.Work.{AreResolved}
-use Rattle.rw_send.specs.Segments.{AreShortPieces, AreSure}
+use Rattle.rw_send.specs.Segments.{AreShortPieces, AreSoundButLast, AreSure}
+use Rattle.rw_send.specs.inner.FeedErrors.{IsIntact}
 use Rattle.rw_send.specs.Steps.{AreShipped, AreShippedPart, KeepsSetup}
 use Rattle.rw_sender.specs.Shipping.{Shipping}
 use Rattle.rw_send.proofs.SegmentLemmas.{IsGoing}
@@ -11,6 +12,8 @@ abbrev pub invariant-loop-segment : goal.invariant-loop-segment
 invariant-loop-segment g l = record {
   kept : KeepsSetup l.fn.shipper l.shipper;
   short : AreShortPieces l.shipper.log.pieces;
+  but_last : AreSoundButLast l.shipper.log.pieces;
+  intact : IsIntact l.shipper;
   limit : l.shipper.limit ≡ l.fn.shipper.limit;
   shards : length l.shipper.fleet.current ≡ l.sharding.shards;
   range : (l.sharding.fewest ≡ l.fn.sharding.fewest) × (l.sharding.most ≡ l.fn.sharding.most);

@@ -7,7 +7,7 @@ use Rattle.rw_send.proofs.shipping.ship_segment.Goals as goal
 use Rattle.rw_types.proofs.shared.AnswerLemmas.{OnErr-always}
 
 pub loop-init : goal.loop-init
-loop-init g c = record { stays = stays _; short = λ h. h; feeding = feeding_none _ _; sound = c.requires.sound; room = refl; buffer = c.requires.buffer; small = c.requires.small; sure = λ h. h }
+loop-init g c = record { stays = stays _; short = λ h. h; but_last = λ h. h; intact = c.requires.intact; feeding = feeding_none _ _; sound = c.requires.sound; room = refl; buffer = c.requires.buffer; small = c.requires.small; sure = λ h. h }
 
 pub loop-preserved : goal.loop-preserved
 loop-preserved g c =
@@ -15,6 +15,8 @@ loop-preserved g c =
     record {
       stays = stays_on _ _ _ c.loop.invariant.stays fed.stays;
       short = λ h. fed.short (c.loop.invariant.short h);
+      but_last = λ h. fed.but_last (c.loop.invariant.but_last h);
+      intact = fed.intact;
       feeding = feeding_more _ _ _ _ _ _ c.loop.invariant.feeding (fed.more (ap Ok c.if-not-branch.false));
       sound = fed.sound;
       room = fed.room ∙ c.loop.invariant.room;
