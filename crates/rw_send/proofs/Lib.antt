@@ -2,6 +2,7 @@ pub mod AnswerLemmas
 pub mod FollowLemmas
 pub mod PrintLemmas
 pub mod EpochLemmas
+pub mod EpochSizeLemmas
 pub mod FeedErrorLemmas
 pub mod IntactLemmas
 pub mod PartLemmas

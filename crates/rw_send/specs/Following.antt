@@ -1,5 +1,5 @@
 -- What a run of the command `send --follow` does.
-use Rattle.std.specs.Prelude.{◌≡◌, ◌⊎◌, ℕ, ◌<◌, Bool, true, List, [], ◌∷◌, length, Option, Result, Ok, Err, ⊤}
+use Rattle.std.specs.Prelude.{◌≡◌, ◌⊎◌, ℕ, ◌<◌, Bool, true, List, [], ◌∷◌, length, Option, None, Result, Ok, Err, ⊤}
 use Rattle.std.specs.Io.KnownBytes.{Appends}
 use Rattle.rw_wal_format.specs.Pieces.{Piece, bytes, next_segment}
 use Rattle.rw_follow.specs.Growth as growth
@@ -11,8 +11,10 @@ use Rattle.rw_shard_core.specs.declared.outcome.Outcome.{Outcome}
 use Rattle.rw_worker.specs.Transcript.{Exchange}
 use Rattle.rw_sender.specs.Reports.{IsAbandoned}
 use Rattle.rw_sender.specs.declared.report.Report.{Report}
+use Rattle.rw_text.specs.declared.tool_fault.ToolFault.TheVariants as tool
 use Rattle.rw_send.specs.declared.follow_fault.FollowFault.{FollowFault}
 use Rattle.rw_send.specs.declared.follow_fault.FollowFault.TheVariants as fault
+use Rattle.rw_send.specs.EpochSizes.{HasEpochSizes}
 use Rattle.rw_send.specs.ReportText.{IsTextOf, WritesReportPart}
 use Rattle.rw_send.specs.Segments.{AreShortPieces}
 use Rattle.rw_send.specs.Sending.{Answers, IsReportOf, StopsAtOnce}
@@ -64,8 +66,9 @@ FollowStopsAtOnce now said unsure fed (Err (fault.Missing n)) = Known now (HasGa
 FollowStopsAtOnce now said unsure fed (Err fault.Stopped) = said ≡ request.Abort
 
 -- A prefix of the segments' texts was shipped in order, in short pieces, with the end of a segment
--- between two, and nothing else; with this report and this answer. `is_sure` says whether no call
--- of the log fails.
+-- between two, and nothing else; with this report and this answer. While the shipper had not failed
+-- each epoch had as many shards as are configured. A run that was asked to end at once does not say
+-- that memory ran out. `is_sure` says whether no call of the log fails.
 pub record IsFollowed {T : Type 0} (tells : T → Type 0) (seen : T → List Exchange)
     (is_for : ℕ → ℕ → T → Type 0) (c : ConfigFields) (limit : Option ℕ) (is_sure : Bool)
     (now : Option Moment) (said : StopRequest) (r : Report T) (answer : Result (Unit {0}) FollowFault)
@@ -75,7 +78,10 @@ pub record IsFollowed {T : Type 0} (tells : T → Type 0) (seen : T → List Exc
   pub short : AreShortPieces pieces
   pub report : IsReportOf tells seen is_for c limit
       (FollowStopsAtOnce now said (is_sure ≡ true → ⊥) (meal_of pieces) answer) pieces r
+  pub sizes : report.shipping.fault ≡ None
+      → HasEpochSizes c.shards c.min_shards c.max_shards report.shipping.fleet
   pub answers : FollowAnswers now said (meal_of pieces) r.outcome answer
+  pub heeds : answer ≡ Err (fault.Tool tool.OutOfMemory) → said ≡ request.Abort → ⊥
 
 -- and the text of the report was written
 pub record IsFollowPrinted {T : Type 0} (tells : T → Type 0) (seen : T → List Exchange)

@@ -1,6 +1,7 @@
 pub mod Following
 pub mod ReportText
 pub mod Sending
+pub mod EpochSizes
 pub mod FeedErrors
 pub mod Segments
 pub mod Steps

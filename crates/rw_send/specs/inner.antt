@@ -1,3 +1,4 @@
+pub mod EpochSizes
 pub mod FeedErrors
 pub mod Following
 pub mod Segments

@@ -68,6 +68,7 @@ fn or_stopped<W: Watch>(watch: &mut W, answer: Result<(), FollowFault>) -> Resul
     ensures answer { (result ≡ answer) ⊎ ((answer ≡ left_undone) × (result ≡ Err Stopped)
         × (W.said watch.new ≡ StopRequest.Abort)) }
     ensures watch { (answer ≡ left_undone → ⊥) → W.said watch.new ≡ W.said watch.old }
+    ensures heeded { result ≡ left_undone → W.said watch.new ≡ StopRequest.Abort → ⊥ }
 {
     let Err(FollowFault::Tool(ToolFault::OutOfMemory)) = answer else {
         return answer;

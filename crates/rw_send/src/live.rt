@@ -14,6 +14,7 @@ ghost use Rattle.rw_send.specs.Following.{IsUnread, meal_of};
 ghost use Rattle.rw_send.specs.inner.Following.{FailsWith, HaltsAt, IsCut, MarksBy};
 ghost use Rattle.rw_send.specs.Segments.{AreShortPieces, AreSoundButLast};
 ghost use Rattle.rw_send.specs.FeedErrors.{IsHalted};
+ghost use Rattle.rw_send.specs.inner.EpochSizes.{KeepsEpochSizes};
 ghost use Rattle.rw_send.specs.inner.FeedErrors.{IsIntact};
 ghost use Rattle.rw_send.specs.Steps.{HasLastEpoch, KeepsSetup};
 
@@ -56,7 +57,8 @@ fn feed_bytes<R: Wait, C: Connect + Drop>(
 
     ensures halted { IfErr result (IsHalted shipper.new) }
     ensures fails { IfErr result (FailsWith shipper.new) }
-    ensures ended { shipper.new.fleet.ended ≡ shipper.old.fleet.ended }
+    ensures rest { shipper.new.fleet
+        ≡ record shipper.old.fleet { current = shipper.new.fleet.current } }
 {
     shipper.feed(rt, Piece::Bytes(piece))?;
     Ok(())
@@ -75,6 +77,9 @@ fn feed_next<R: Threads + Wait + Clock + Copy + Send + 'static, C: Connect + Dro
     ensures limit { shipper.new.limit ≡ shipper.old.limit }
     ensures shards { IfOk result (λ s. length shipper.new.fleet.current ≡ s.shards) }
     ensures number { shipper.new.fault ≡ None → IsShardCount (length shipper.new.fleet.current) }
+    ensures range { IfOk result (λ s. (s.fewest ≡ sharding.fewest) × (s.most ≡ sharding.most)) }
+    ensures sizes { shipper.new.fault ≡ None → KeepsEpochSizes sharding.fewest sharding.most
+        shipper.old.fleet shipper.new.fleet }
     ensures start { IfOk result
         (λ s. (s.placed ≡ sharding.placed) × (s.resolved ≡ sharding.resolved)) }
     ensures short { AreShortPieces shipper.old.log.pieces → AreShortPieces shipper.new.log.pieces }
@@ -111,7 +116,8 @@ fn flush<R: Wait, C: Connect + Drop>(rt: &R, shipper: &mut Shipper<C>) -> Result
     ensures failed { OnErr result (IsSome shipper.new.fault) }
     ensures halted { IfErr result (IsHalted shipper.new) }
     ensures fails { IfErr result (FailsWith shipper.new) }
-    ensures ended { shipper.new.fleet.ended ≡ shipper.old.fleet.ended }
+    ensures rest { shipper.new.fleet
+        ≡ record shipper.old.fleet { current = shipper.new.fleet.current } }
 {
     shipper.flush(rt)?;
     Ok(())
@@ -136,6 +142,9 @@ fn obey<R: Threads + Wait + Clock + Copy + Send + 'static, C: Connect + Drop>(
     ensures marks { OnOk result (MarksBy turn shipper.old shipper.new) }
     ensures shards { IfOk result (λ s. length shipper.new.fleet.current ≡ s.shards) }
     ensures number { shipper.new.fault ≡ None → IsShardCount (length shipper.new.fleet.current) }
+    ensures range { IfOk result (λ s. (s.fewest ≡ sharding.fewest) × (s.most ≡ sharding.most)) }
+    ensures sizes { shipper.new.fault ≡ None → KeepsEpochSizes sharding.fewest sharding.most
+        shipper.old.fleet shipper.new.fleet }
     ensures start { IfOk result
         (λ s. (s.placed ≡ sharding.placed) × (s.resolved ≡ sharding.resolved)) }
     ensures short { AreShortPieces shipper.old.log.pieces → AreShortPieces shipper.new.log.pieces }
@@ -194,6 +203,9 @@ fn step<R: Threads + Wait + Clock + Copy + Send + 'static, C: Connect + Drop>(
         (λ s. (s.placed ≡ sharding.placed) × (s.resolved ≡ sharding.resolved)) }
     ensures shards { IfOk result (λ s. length shipper.new.fleet.current ≡ s.shards) }
     ensures number { shipper.new.fault ≡ None → IsShardCount (length shipper.new.fleet.current) }
+    ensures range { IfOk result (λ s. (s.fewest ≡ sharding.fewest) × (s.most ≡ sharding.most)) }
+    ensures sizes { shipper.new.fault ≡ None → KeepsEpochSizes sharding.fewest sharding.most
+        shipper.old.fleet shipper.new.fleet }
     ensures short { AreShortPieces shipper.old.log.pieces → AreShortPieces shipper.new.log.pieces }
     ensures but_last { AreSoundButLast shipper.old.log.pieces
         → AreSoundButLast shipper.new.log.pieces }
@@ -253,6 +265,8 @@ pub(crate) fn ship_live<
     ensures kept { KeepsSetup shipper.old shipper.new }
     ensures limit { shipper.new.fault ≡ None → shipper.new.limit ≡ shipper.old.limit }
     ensures number { shipper.new.fault ≡ None → IsShardCount (length shipper.new.fleet.current) }
+    ensures sizes { shipper.new.fault ≡ None → KeepsEpochSizes sharding.fewest sharding.most
+        shipper.old.fleet shipper.new.fleet }
     ensures short { AreShortPieces shipper.new.log.pieces }
     ensures but_last { AreSoundButLast shipper.new.log.pieces }
     ensures live { OnOk result (shipper.new.fault ≡ None) }

@@ -5,7 +5,8 @@ ghost use Rattle.rw_reshard.specs.Wanted.{wanted};
 ghost use Rattle.rw_sender.specs.Shipping.{HasCompared, PlacesAll};
 ghost use Rattle.rw_fleet.specs.Loads.{IsLoad};
 ghost use Rattle.rw_fleet.specs.declared.load.Load.{Load};
-ghost use Rattle.rw_send.specs.Steps.{HasPutAll, IsSet, wanted_since};
+ghost use Rattle.rw_send.specs.Steps.{HasPutAll, IsNextEpoch, IsSet, wanted_since};
+ghost use Rattle.rw_send.specs.inner.EpochSizes.{KeepsEpochSizes};
 
 use crate::feed_error::FeedError;
 use rw_reshard::want;
@@ -179,6 +180,10 @@ pub fn retuned<R: Threads + Wait + Clock + Copy + Send + 'static, C: Connect + D
         sharding.resolved load) × (s.placed ≡ load.placed) × (s.resolved ≡ load.resolved)) }
     ensures stays { is_due ≡ false → shipper.new ≡ shipper.old }
     ensures kept { is_due ≡ false → result ≡ Ok sharding }
+    ensures next { OnOk result
+        ((shipper.new ≡ shipper.old) ⊎ IsNextEpoch shipper.old.fleet shipper.new.fleet) }
+    ensures sizes { OnOk result (KeepsEpochSizes sharding.fewest sharding.most
+        shipper.old.fleet shipper.new.fleet) }
     ensures shards { IfOk result (λ s. length shipper.new.fleet.current ≡ s.shards) }
     ensures range { IfOk result (λ s. (s.fewest ≡ sharding.fewest) × (s.most ≡ sharding.most)) }
     ensures log { shipper.new.log ≡ shipper.old.log }

@@ -128,11 +128,12 @@ fn receivers_of<R: Copy>(clock: &R, answers: Answers) -> Result<Receivers<R>, Al
     }
 }
 
-/// Ships the log of a row.
+/// Ships the log of a row, with this limit in bytes.
 fn shipped<R: Threads + Wait + Clock + Copy + Send + 'static>(
     rt: &R,
     alloc: Global,
     row: &Row<'_>,
+    limit: Option<u64>,
     counters: &SendCounters,
     printed: &mut Room,
 ) -> Result<Result<(), ToolFault>, AllocError> {
@@ -141,7 +142,7 @@ fn shipped<R: Threads + Wait + Clock + Copy + Send + 'static>(
     let options = SendOptions {
         connect: receivers_of(rt, row.3)?,
         counters,
-        max_batch_bytes: None,
+        max_batch_bytes: limit,
         stop: StopFlag::new(alloc)?,
     };
     match read_settings(alloc, row.1) {
@@ -150,15 +151,16 @@ fn shipped<R: Threads + Wait + Clock + Copy + Send + 'static>(
     }
 }
 
-/// Returns whether a run does as a row says, and is counted accordingly.
+/// Returns whether a run with this limit does as a row says, and is counted accordingly.
 fn does<R: Threads + Wait + Clock + Copy + Send + 'static>(
     rt: &R,
     alloc: Global,
     row: &Row<'_>,
+    limit: Option<u64>,
 ) -> Result<bool, AllocError> {
     let mut printed = Room::new(alloc, row.4)?;
     let counters = SendCounters::new(alloc)?;
-    let answer = shipped(rt, alloc, row, &counters, &mut printed)?;
+    let answer = shipped(rt, alloc, row, limit, &counters, &mut printed)?;
     let is_counted = tells_as_printed(alloc, &counters, row.6);
     Ok(answer == row.5 && printed.as_slice() == row.6 && is_counted)
 }
@@ -169,7 +171,7 @@ fn wrong_row<R: Threads + Wait + Clock + Copy + Send + 'static>(
     rows: &[Row<'_>],
 ) -> Result<Option<&'static str>, AllocError> {
     for row in rows {
-        if !does(rt, alloc, row)? {
+        if !does(rt, alloc, row, None)? {
             return Ok(Some(row.0));
         }
     }
@@ -428,6 +430,86 @@ const FOUR: &[u8] =
     b"series 1 {__name__=\"up\"}\nsample 1 10 1\nsample 1 20 1\nsample 1 30 1\nsample 1 40 1\n";
 
 const ONE_MORE: &[u8] = b"sample 1 50 1\n";
+
+const TAKEN_TWICE: Answers = Answers {
+    status: 204,
+    takes: 0,
+    requests: 2,
+    epochs: 1,
+};
+
+/// A limit in bytes, and what a run with it does. A message of one sample of `FOUR` takes 31 bytes:
+/// 2 of its series, 16 of the label, 13 of the sample.
+static LIMITED: [(u64, Row<'static>); 4] = [
+    (
+        124,
+        (
+            "four samples make one request",
+            b"",
+            &[Whole(FOUR)],
+            TAKEN_ONCE,
+            4096,
+            Ok(()),
+            b"filtered 0\nreport complete 5\n",
+        ),
+    ),
+    (
+        62,
+        (
+            "two samples make a request",
+            b"",
+            &[Whole(FOUR)],
+            TAKEN_TWICE,
+            4096,
+            Ok(()),
+            b"filtered 0\nreport complete 5\n",
+        ),
+    ),
+    (
+        123,
+        (
+            "the last sample is a request of its own",
+            b"",
+            &[Whole(FOUR)],
+            TAKEN_ONCE,
+            4096,
+            Ok(()),
+            b"dropped 4 status 400\nfiltered 0\nreport complete 5\n",
+        ),
+    ),
+    (
+        1,
+        (
+            "each sample is a request of its own",
+            b"",
+            &[Whole(FOUR)],
+            TAKEN_TWICE,
+            4096,
+            Ok(()),
+            b"dropped 3 status 400\ndropped 4 status 400\nfiltered 0\nreport complete 5\n",
+        ),
+    ),
+];
+
+/// Returns the name of the first row of `LIMITED` that is wrong.
+fn wrong_limit<R: Threads + Wait + Clock + Copy + Send + 'static>(
+    rt: &R,
+    alloc: Global,
+) -> Result<Option<&'static str>, AllocError> {
+    for (limit, row) in &LIMITED {
+        if !does(rt, alloc, row, Some(*limit))? {
+            return Ok(Some(row.0));
+        }
+    }
+    Ok(None)
+}
+
+/// The samples of a batch have a limit in bytes, if the options of a run have one.
+#[test]
+fn a_run_keeps_its_limit(rt: HostRuntime) -> Result<(), Fail> {
+    none_is_wrong(&rt, wrong_limit(&rt, rt.alloc())?);
+    Ok(())
+}
 
 const NARROW: &[u8] = b"[send]\ncapacity = 1\nbatch = 1\n";
 

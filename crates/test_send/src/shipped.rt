@@ -146,13 +146,14 @@ fn ends_unasked(answer: &Result<(), FollowFault>) -> bool {
     matches!(answer, Err(FollowFault::Tool(_) | FollowFault::Missing(_)))
 }
 
-/// Returns whether a run does as a row says, if the number of shards is adjusted at each turn, or
-/// never.
+/// Returns whether a run with this limit in bytes does as a row says, if the number of shards is
+/// adjusted at each turn, or never.
 fn does<R: Threads + Wait + Clock + Copy + Send + 'static>(
     rt: &R,
     alloc: Global,
     row: &Row<'_>,
     reshards: bool,
+    limit: Option<u64>,
 ) -> Result<bool, AllocError> {
     let settings = settings_of(alloc, b"")?;
     let mut printed = Room::new(alloc, 4096)?;
@@ -168,7 +169,7 @@ fn does<R: Threads + Wait + Clock + Copy + Send + 'static>(
     let options = SendOptions {
         connect: receivers_of(rt, StatusCode::NO_CONTENT),
         counters: &counters,
-        max_batch_bytes: None,
+        max_batch_bytes: limit,
         stop: StopFlag::new(alloc)?,
     };
     let answer = follow(
@@ -196,7 +197,7 @@ fn wrong_row<R: Threads + Wait + Clock + Copy + Send + 'static>(
     rows: &[Row<'_>],
 ) -> Result<Option<&'static str>, AllocError> {
     for row in rows {
-        if !does(rt, alloc, row, false)? || !does(rt, alloc, row, true)? {
+        if !does(rt, alloc, row, false, None)? || !does(rt, alloc, row, true, None)? {
             return Ok(Some(row.0));
         }
     }
@@ -417,6 +418,23 @@ fn stopped_twice<R: Threads + Wait + Clock + Copy + Send + Sync + 'static>(
 /// Samples of one series: more than a queue and a batch of one have room for.
 const FOUR: &[u8] =
     b"series 1 {__name__=\"up\"}\nsample 1 10 1\nsample 1 20 1\nsample 1 30 1\nsample 1 40 1\n";
+
+/// Its receiver takes one request. A message of one sample takes 31 bytes.
+static LIMITED: Row<'static> = (
+    "two samples make a request",
+    &[More(FOUR)],
+    5,
+    StopRequest::Finish,
+    Ok(()),
+    b"dropped 3 status 400\ndropped 4 status 400\nfiltered 0\nreport complete 5\n",
+);
+
+/// The samples of a batch have a limit in bytes, if the options of a run have one.
+#[test]
+fn a_followed_log_keeps_its_limit(rt: HostRuntime) -> Result<(), Fail> {
+    assert!(rt; does(&rt, rt.alloc(), &LIMITED, false, Some(62))?);
+    Ok(())
+}
 
 /// Returns whether a log is stopped at once though its receiver is away.
 fn is_stopped<R: Threads + Wait + Clock + Copy + Send + Sync + 'static>(

@@ -4,6 +4,9 @@ use Rattle.rw_sender.proofs.shared.ShippingLemmas.{failed_so}
 use Rattle.rw_send.proofs.AnswerLemmas.{cut_for, ends_for}
 use Rattle.rw_send.proofs.FollowLemmas.{damaged_by, follow_so, follow_why, signed_answers}
 use Rattle.rw_send.proofs.EpochLemmas.{none_ended}
+use Rattle.rw_send.proofs.EpochSizeLemmas.{sizes_at_first}
+use Rattle.rw_send.proofs.StepLemmas.{between}
+use Rattle.rw_send.specs.inner.EpochSizes.{KeepsEpochSizes}
 use Rattle.rw_send.specs.Following.{FollowStopsAtOnce, meal_of}
 use Rattle.rw_send.proofs.following.ship_on.Goals as goal
 
@@ -46,6 +49,13 @@ returns g c =
         capacity = c.of-sharding.ensures.capacity;
         batch = c.of-sharding.ensures.batch;
       };
+      sizes = λ sound.
+          let least = c.of-sharding.ensures.fewest in
+          let greatest = c.of-sharding.ensures.most in
+          let started = c.in_ok-shipper.shipper in
+          let opened = c.in_ok-shipper.ensures.opened in
+          between (λ fewest most. KeepsEpochSizes fewest most started.fleet shipper.fleet) least greatest (live.sizes sound) _ (sizes_at_first _ _ _ started.fleet opened.0 opened.1 opened.2);
+      heeds = signed.ensures.heeded;
       answers = signed_answers _ _ _ _ _ c.follow_result.result c.or_stopped-answer.result c.or_stopped-answer.ensures.answer c.or_stopped-answer.ensures.watch
           (follow_so c.ship_live-ended.new.shipper _ _ _ _ _ c.ship_live-ended.result _ _ c.follow_result.ensures live.whole live.signed live.cut stopped.answers stopped.hard);
     }

@@ -3,6 +3,7 @@ use Rattle.rw_sender.specs.Feeders.{Sorting}
 use Rattle.rw_send.proofs.FollowLemmas.{begin_fails, err_so, fed_next, part_next, set_fails}
 use Rattle.rw_send.specs.inner.Following.{FailsWith}
 use Rattle.rw_send.proofs.EpochLemmas.{last_compared, last_stays, next_resolved, still_resolved}
+use Rattle.rw_send.proofs.EpochSizeLemmas.{sizes_begun, sizes_set}
 use Rattle.rw_send.proofs.FeedErrorLemmas.{count_so, live_no_more}
 use Rattle.rw_send.proofs.live.feed_next.Goals as goal
 use Rattle.rw_types.proofs.shared.AnswerLemmas.{OnErr-always}
@@ -43,3 +44,14 @@ returns-clause-last g c = λ done.
 
 pub returns-clause-resolved : goal.returns-clause-resolved
 returns-clause-resolved g c = λ done. still_resolved _ _ c.in_ok-begin_segment.ensures.stays (next_resolved _ _ c.in_ok-next.ensures.set.epoch done)
+
+pub returns-in_err-next-clause-sizes : goal.returns-in_err-next-clause-sizes
+returns-in_err-next-clause-sizes g c = λ none. live_no_more _ c.in_err-next.ensures.failed none
+
+pub returns-in_err-begin_segment-clause-sizes : goal.returns-in_err-begin_segment-clause-sizes
+returns-in_err-begin_segment-clause-sizes g c = λ _.
+    sizes_begun _ _ c.args.shipper.now c.resharded.new.shipper c.begin_segment.new.shipper (sizes_set _ _ c.args.shipper.now c.resharded.new.shipper c.args.sharding.range.1 (c.in_ok-next.ensures.put c.requires.live).1 c.in_ok-next.ensures.set) c.in_err-begin_segment.ensures.stays
+
+pub returns-clause-sizes : goal.returns-clause-sizes
+returns-clause-sizes g c = λ _.
+    sizes_begun _ _ c.args.shipper.now c.resharded.new.shipper c.begin_segment.new.shipper (sizes_set _ _ c.args.shipper.now c.resharded.new.shipper c.args.sharding.range.1 (c.in_ok-next.ensures.put c.requires.live).1 c.in_ok-next.ensures.set) c.in_ok-begin_segment.ensures.stays

@@ -1,7 +1,8 @@
-use Rattle.std.proofs.Common.{◌≡◌, true, Ok, Err, ap, ◌∙◌, rules}
+use Rattle.std.proofs.Common.{◌≡◌, true, Ok, Err, refl, ap, ◌∙◌, rules}
 use Rattle.rw_send.specs.inner.Following.{IsCut}
 use Rattle.rw_send.proofs.FollowLemmas.{begins_turn, cut_broken, cut_halted, err_so, halts_for, on_err}
 use Rattle.rw_send.proofs.EpochLemmas.{last_same}
+use Rattle.rw_send.proofs.EpochSizeLemmas.{sizes_on}
 use Rattle.rw_send.proofs.FeedErrorLemmas.{count_so}
 use Rattle.rw_send.proofs.IntactLemmas.{intact_at_first, sound_at_first}
 use Rattle.rw_send.proofs.live.ship_live.Goals as goal
@@ -15,6 +16,8 @@ loop-init g c = record {
   intact = intact_at_first _ c.requires.begun;
   live = search rules;
   shards = search rules;
+  range = (refl, refl);
+  sizes = λ _ h. h;
   given = search rules;
   followed = search rules;
   sure = search rules;
@@ -30,6 +33,7 @@ returns-in_err-sharding g c =
       kept = (c.step.ensures.kept.0 ∙ c.loop.invariant.kept.0, c.step.ensures.kept.1 ∙ c.loop.invariant.kept.1);
       limit = λ sound. c.step.ensures.limit sound ∙ c.loop.invariant.limit;
       number = c.step.ensures.number;
+      sizes = λ sound. sizes_on c.args.sharding.fewest c.args.sharding.most c.loop.sharding.fewest c.loop.sharding.most c.args.shipper.now.fleet c.loop.shipper.fleet c.step.new.shipper.fleet c.loop.invariant.range c.loop.invariant.sizes (c.step.ensures.sizes sound);
       last = λ done. c.step.ensures.last (c.loop.invariant.resolved done);
       short = c.step.ensures.short c.loop.invariant.short;
       but_last = c.step.ensures.but_last c.loop.invariant.but_last;
