@@ -2,7 +2,9 @@
 use Rattle.std.specs.Prelude.{◌≡◌, ℕ, ◌≤◌, List, length, take, Option}
 use Rattle.std.specs.FinMap.{empty}
 use Rattle.std.specs.Io.KnownBytes.{Appends}
+use Rattle.rw_head.specs.declared.capacity.Capacity.{Capacity}
 use Rattle.rw_head.specs.declared.limits.Limits.{Limits}
+use Rattle.rw_head.specs.Capacity.{StaysWithin}
 use Rattle.rw_head.specs.Head.{State}
 use Rattle.rw_head.specs.Store.{Store}
 use Rattle.rw_head.specs.Growth.{EachRises}
@@ -35,14 +37,16 @@ pub record HasServed {H : Type 0} (state : H → State) (admits : H → List ℕ
   pub received : HasReceived opening count (state last).store
   pub admitted : HasAdmitted admits first received.gathered.asked last
 
--- a new head with these limits has received these
-abbrev pub IsReceived : Limits → ℕ → Store → Type 0
-IsReceived limits count store = (opening : State) × IsNew limits opening × HasReceived opening count store
+-- A new head with these limits has received these. Since it began without samples, it holds at most
+-- the capacity.
+abbrev pub IsReceived : Limits → Capacity → ℕ → Store → Type 0
+IsReceived limits capacity count store =
+    (opening : State) × IsNew limits opening × HasReceived opening count store × StaysWithin capacity opening.store store
 
 -- what such a head holds was written
-abbrev pub WritesHeld : Limits → ℕ → Option (List ℕ) → Option (List ℕ) → Type 0
-WritesHeld limits count before after = (store : Store) × IsReceived limits count store × Appends before after (store_text store)
+abbrev pub WritesHeld : Limits → Capacity → ℕ → Option (List ℕ) → Option (List ℕ) → Type 0
+WritesHeld limits capacity count before after = (store : Store) × IsReceived limits capacity count store × Appends before after (store_text store)
 
 -- a prefix of it was written
-abbrev pub WritesHeldPart : Limits → ℕ → Option (List ℕ) → Option (List ℕ) → Type 0
-WritesHeldPart limits count before after = (store : Store) × IsReceived limits count store × AppendsPart before after (store_text store)
+abbrev pub WritesHeldPart : Limits → Capacity → ℕ → Option (List ℕ) → Option (List ℕ) → Type 0
+WritesHeldPart limits capacity count before after = (store : Store) × IsReceived limits capacity count store × AppendsPart before after (store_text store)

@@ -1,6 +1,7 @@
 //! Connections, each served in its own thread.
 
 ghost use Rattle.std.specs.Prelude.{◌≡◌, ◌+◌, ◌<◌, ◌⊎◌, IfOk, IfErr, vec_len, Some};
+ghost use Rattle.rw_head.specs.Capacity.{StaysWithin};
 ghost use Rattle.rw_receive.specs.Receiving.{HasServed};
 ghost use Rattle.rw_text.specs.declared.tool_fault.ToolFault.TheVariants.{OutOfMemory, Device};
 
@@ -141,6 +142,8 @@ pub(crate) fn receive_all<
     requires first { L.first ≡ Some head }
     ensures received { IfOk result
         (HasServed H.state H.admits L.opening L.first connections) }
+    ensures within { IfOk result
+        (λ f. StaysWithin L.table.capacity L.opening.store (H.state f).store) }
     ensures faults { IfErr result (λ e. (e ≡ OutOfMemory) ⊎ (e ≡ Device)) }
 {
     let Ok((shared, seats)) = SharedHead::<L, H>::seats(context.alloc, blank, head, connections)

@@ -3,6 +3,7 @@
 ghost use Rattle.std.specs.Prelude.{◌≡◌, ◌+◌, ◌⊎◌, false, true, Err, IfErr, OnOk, sum_by, vec_len};
 ghost use Rattle.std.specs.Io.KnownBytes.{Appends};
 ghost use Rattle.rw_text.specs.declared.tool_fault.ToolFault.TheVariants.{OutOfMemory, Device};
+ghost use Rattle.rw_head.specs.Capacity.{StaysWithin};
 ghost use Rattle.rw_head.specs.Growth.{EachRises};
 ghost use Rattle.rw_head.specs.Store.{total};
 ghost use Rattle.rw_receive.specs.Receiving.{AppendsPart};
@@ -42,6 +43,7 @@ impl<H: Admit> FinalHead<H> {
         ensures adds_up { total (H.state result).store
             ≡ shared.start + sum_by (λ s. s.stored) seats.items }
         ensures rises { EachRises (H.state result).store }
+        ensures within { StaysWithin L.table.capacity L.opening.store (H.state result).store }
     {
         FinalHead {
             holder: shared.gather(seats),

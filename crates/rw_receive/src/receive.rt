@@ -1,6 +1,7 @@
 //! The command `receive`, over any listener and writer.
 
 ghost use Rattle.std.specs.Prelude.{◌≡◌, ◌⊎◌, true, false, Err, IfErr, IfOk, OnOk, Some};
+ghost use Rattle.rw_head.specs.Capacity.{StaysWithin};
 ghost use Rattle.rw_receive.specs.Receiving.{HasServed, WritesHeld, WritesHeldPart};
 ghost use Rattle.rw_text.specs.declared.tool_fault.ToolFault.TheVariants.{OutOfMemory, Device};
 
@@ -52,6 +53,8 @@ pub fn serve_connections<R: Threads + Wait + Clock + Sync, H: Admit + Drop + Sen
 ) -> Result<FinalHead<H>, ToolFault>
     ensures received { IfOk result
         (HasServed H.state H.admits (H.state holder) (Some holder) service.entry.most) }
+    ensures within { IfOk result
+        (λ f. StaysWithin service.entry.capacity (H.state holder).store (H.state f).store) }
     ensures faults { IfErr result (λ e. (e ≡ OutOfMemory) ⊎ (e ≡ Device)) }
 {
     let count = service.most.get();
@@ -84,6 +87,8 @@ pub fn serve_until_stop<R: Threads + Wait + Clock + Sync, H: Admit + Drop + Send
 ) -> Result<FinalHead<H>, ToolFault>
     ensures received { IfOk result
         (HasServed H.state H.admits (H.state holder) (Some holder) service.entry.most) }
+    ensures within { IfOk result
+        (λ f. StaysWithin service.entry.capacity (H.state holder).store (H.state f).store) }
     ensures faults { IfErr result (λ e. (e ≡ OutOfMemory) ⊎ (e ≡ Device)) }
 {
     let most = service.most.get();
@@ -124,8 +129,8 @@ pub fn run_receive<R: Threads + Wait + Clock + Sync, W: Sink>(
     listener: TcpListener,
     writer: &mut W,
 ) -> Result<(), ToolFault>
-    ensures ok { OnOk result (WritesHeld settings.now.limits service.entry.most
-        (W.contents writer.old) (W.contents writer.new)) }
+    ensures ok { OnOk result (WritesHeld settings.now.limits service.entry.capacity
+        service.entry.most (W.contents writer.old) (W.contents writer.new)) }
     ensures sound { OnOk result
         (W.has_failed writer.old ≡ false → W.has_failed writer.new ≡ false) }
     ensures faults { IfErr result (λ e. (e ≡ OutOfMemory) ⊎ (e ≡ Device)) }
@@ -134,7 +139,7 @@ pub fn run_receive<R: Threads + Wait + Clock + Sync, W: Sink>(
     // A failed accept has written nothing. If the writer fails, it holds a prefix of the text.
     ensures device { result ≡ Err Device → (writer.new ≡ writer.old)
         ⊎ ((W.has_failed writer.new ≡ true)
-        × WritesHeldPart settings.now.limits service.entry.most
+        × WritesHeldPart settings.now.limits service.entry.capacity service.entry.most
         (W.contents writer.old) (W.contents writer.new)) }
 {
     let head = Head::new(alloc, &settings.limits);
@@ -174,8 +179,8 @@ pub fn run_receive_until<R: Threads + Wait + Clock + Sync, W: Sink>(
     listener: TcpListener,
     writer: &mut W,
 ) -> Result<(), ToolFault>
-    ensures ok { OnOk result (WritesHeld settings.now.limits service.entry.most
-        (W.contents writer.old) (W.contents writer.new)) }
+    ensures ok { OnOk result (WritesHeld settings.now.limits service.entry.capacity
+        service.entry.most (W.contents writer.old) (W.contents writer.new)) }
     ensures sound { OnOk result
         (W.has_failed writer.old ≡ false → W.has_failed writer.new ≡ false) }
     ensures faults { IfErr result (λ e. (e ≡ OutOfMemory) ⊎ (e ≡ Device)) }
@@ -185,7 +190,7 @@ pub fn run_receive_until<R: Threads + Wait + Clock + Sync, W: Sink>(
     // the text.
     ensures device { result ≡ Err Device → (writer.new ≡ writer.old)
         ⊎ ((W.has_failed writer.new ≡ true)
-        × WritesHeldPart settings.now.limits service.entry.most
+        × WritesHeldPart settings.now.limits service.entry.capacity service.entry.most
         (W.contents writer.old) (W.contents writer.new)) }
 {
     let head = Head::new(alloc, &settings.limits);

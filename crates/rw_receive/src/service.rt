@@ -1,6 +1,7 @@
 //! Connections that are served until a stop is requested.
 
 ghost use Rattle.std.specs.Prelude.{◌≡◌, ◌+◌, ◌<◌, ◌⊎◌, IfOk, IfErr, vec_len, Some};
+ghost use Rattle.rw_head.specs.Capacity.{StaysWithin};
 ghost use Rattle.rw_receive.specs.Receiving.{HasServed};
 ghost use Rattle.rw_text.specs.declared.tool_fault.ToolFault.TheVariants.{OutOfMemory, Device};
 
@@ -67,6 +68,8 @@ pub(crate) fn receive_until<
     requires opening { H.state head ≡ L.opening }
     requires first { L.first ≡ Some head }
     ensures received { IfOk result (HasServed H.state H.admits L.opening L.first most) }
+    ensures within { IfOk result
+        (λ f. StaysWithin L.table.capacity L.opening.store (H.state f).store) }
     ensures faults { IfErr result (λ e. (e ≡ OutOfMemory) ⊎ (e ≡ Device)) }
 {
     if accept_in_ticks(&listener).is_err() {
