@@ -20,8 +20,15 @@ pub(crate) enum Clients {
     IsInside,
     /// The same, if an end at once is requested.
     IsCutOff,
+    /// One says nothing. Another one comes after it.
+    SaysNothing,
     /// One writes a byte and is silent. Another one comes after it.
     WritesOneByte,
+    /// One writes a request byte by byte until its connection is closed. Another one comes after
+    /// it.
+    Drips,
+    /// One writes a long request in pieces, each some time after the one before.
+    IsSteady,
     /// A third one comes while two keep their connections, and then those two go.
     OneTooMany,
     /// Two come, and the first one goes. Five come one after the other while the second one keeps
@@ -136,15 +143,69 @@ fn is_inside<N: Net<Stream = TcpStream> + Clock>(
     Ok(())
 }
 
-fn writes_one_byte<N: Net<Stream = TcpStream>>(
+/// Writes a text and is silent, until its connection is closed. Another client asks meanwhile.
+fn is_silent<N: Net<Stream = TcpStream>>(
+    door: &Door<'_, N>,
+    text: &[u8],
+    read: &mut Vec<u8>,
+) -> io::Result<()> {
+    let mut first = connected(door)?;
+    first.write_all(text)?;
+    let mut second = connected(door)?;
+    ask_last(&mut second, &request(door.alloc, 0)?, read)?;
+    first.read_to_end(read)?;
+    Ok(())
+}
+
+/// Writes a byte each 20 ms until the connection is closed, for 10 s at least, and returns whether
+/// it was.
+fn is_closed_in_drips<C: Clock>(clock: &C, stream: &mut TcpStream) -> bool {
+    for _ in 0..500 {
+        if stream.write_all(b"x").is_err() {
+            return true;
+        }
+        thread::sleep(clock, Duration::from_millis(20));
+    }
+    false
+}
+
+/// Writes a request that never ends, byte by byte, until its connection is closed. Another client
+/// asks after that.
+fn drips<N: Net<Stream = TcpStream> + Clock>(
     door: &Door<'_, N>,
     read: &mut Vec<u8>,
 ) -> io::Result<()> {
     let mut first = connected(door)?;
-    first.write_all(b"P")?;
+    first.write_all(b"POST /api/v1/write HTTP/1.1\r\nX: ")?;
+    if !is_closed_in_drips(door.net, &mut first) {
+        read.extend_from_slice(b"open ")?;
+    }
     let mut second = connected(door)?;
-    ask_last(&mut second, &request(door.alloc, 0)?, read)?;
-    first.read_to_end(read)?;
+    ask_last(&mut second, &request(door.alloc, 0)?, read)
+}
+
+/// The front of a request that stores what `request` does. Its body goes on with a field that a
+/// receiver skips, of 32,000 bytes.
+const LONG_FRONT: &[u8] = b"POST /api/v1/write HTTP/1.1\r\nContent-Length: 32036\r\n\r\n\
+    \x0a\x1e\x0a\x0e\x0a\x08__name__\x12\x02up\
+    \x12\x0c\x09\x00\x00\x00\x00\x00\x00\xf0\x3f\x10\xe8\x07\x1a\x80\xfa\x01";
+
+/// Writes a request in 8 pieces of 4,000 bytes or more, each 60 ms after the one before.
+fn is_steady<N: Net<Stream = TcpStream> + Clock>(
+    door: &Door<'_, N>,
+    read: &mut Vec<u8>,
+) -> io::Result<()> {
+    let mut stream = connected(door)?;
+    let piece: Vec<u8> = vec![in door.alloc; 0; 4_000]?;
+    let mut first = Vec::from_slice(door.alloc, LONG_FRONT)?;
+    first.extend_from_slice(&piece)?;
+    stream.write_all(&first)?;
+    for _ in 0..7 {
+        thread::sleep(door.net, Duration::from_millis(60));
+        stream.write_all(&piece)?;
+    }
+    stream.shutdown(Shutdown::Write)?;
+    stream.read_to_end(read)?;
     Ok(())
 }
 
@@ -212,7 +273,10 @@ pub(crate) fn read_by<N: Net<Stream = TcpStream> + Clock>(
         Clients::Stays => stays(door, &mut read),
         Clients::IsInside => is_inside(door, false, &mut read),
         Clients::IsCutOff => is_inside(door, true, &mut read),
-        Clients::WritesOneByte => writes_one_byte(door, &mut read),
+        Clients::SaysNothing => is_silent(door, b"", &mut read),
+        Clients::WritesOneByte => is_silent(door, b"P", &mut read),
+        Clients::Drips => drips(door, &mut read),
+        Clients::IsSteady => is_steady(door, &mut read),
         Clients::OneTooMany => one_too_many(door, &mut read),
         Clients::OneStays => one_stays(door, &mut read),
         Clients::WritesOn => writes_on(door, &mut read),

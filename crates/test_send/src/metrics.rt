@@ -1,15 +1,21 @@
 //! The page of the metrics, asked for over loopback.
 
+use crate::folder::ready;
+use crate::logs::{Torn, UP, segment};
+use crate::shipped::settings_of;
 use rw_ledger::Reason;
 use rw_metrics::{
-    Cause, Counters, ReceiveCounters, SendCounters, drops_line, receive_page, send_line,
+    Cause, Counters, ReceiveCounters, SendCounters, Skipped, drops_line, receive_page, send_line,
     serve_metrics,
 };
+use rw_send::{SendOptions, StopFlag, run_send};
+use rw_text::ToolFault;
+use rw_types::Room;
 use std::alloc::{AllocError, Global};
 use std::io;
 use std::io::{Read, Write};
 use std::net::{Net, SocketAddr, TcpListener, TcpStream};
-use std::sync::Arc;
+use std::sync::{Arc, Wait};
 use std::test::Fail;
 use std::thread::Threads;
 use std::time::Clock;
@@ -172,5 +178,76 @@ fn are_told(alloc: Global) -> Result<bool, AllocError> {
 #[test]
 fn a_sender_tells(rt: HostRuntime) -> Result<(), Fail> {
     assert!(rt; are_told(rt.alloc())?);
+    Ok(())
+}
+
+/// How many records of each type that is skipped are in a log: of the types 3 to 10, and of one
+/// that has no name.
+static SKIPPED: Skipped = Skipped {
+    tombstones: 1,
+    exemplars: 2,
+    mmap_markers: 3,
+    metadata: 4,
+    histograms: 5,
+    float_histograms: 6,
+    custom_histograms: 7,
+    custom_float_histograms: 8,
+    unknown: 9,
+};
+
+/// Returns a segment of one sample and of the records of `SKIPPED`, each of which is its type and
+/// no more.
+fn skipped_segment(alloc: Global) -> Result<Vec<u8>, AllocError> {
+    let mut text = Vec::from_slice(alloc, UP)?;
+    for kind in 3..12u8 {
+        let line = format!(in alloc; "raw {kind:02x}\n")?;
+        for _ in 2..kind {
+            text.extend_from_slice(line.as_bytes())?;
+        }
+    }
+    segment(alloc, &text)
+}
+
+/// Ships the segment of `skipped_segment`.
+fn ship_skipped<R: Threads + Wait + Clock + Copy + Send + 'static>(
+    rt: &R,
+    alloc: Global,
+    counters: &SendCounters,
+    printed: &mut Room,
+) -> Result<Result<(), ToolFault>, AllocError> {
+    let mut readers = Vec::new(alloc);
+    readers.push(Torn {
+        text: skipped_segment(alloc)?,
+        at: 0,
+        fails: false,
+        failed: false,
+    })?;
+    let options = SendOptions {
+        connect: ready(rt),
+        counters,
+        max_batch_bytes: None,
+        stop: StopFlag::new(alloc)?,
+    };
+    let settings = settings_of(alloc, b"")?;
+    Ok(run_send(rt, alloc, settings, readers, options, printed))
+}
+
+/// Returns which records are counted as skipped once a log has been shipped whole, or `None` if it
+/// was not.
+fn counted_as_skipped<R: Threads + Wait + Clock + Copy + Send + 'static>(
+    rt: &R,
+    alloc: Global,
+) -> Result<Option<Skipped>, AllocError> {
+    let mut printed = Room::new(alloc, 4096)?;
+    let counters = SendCounters::new(alloc)?;
+    let shipped = ship_skipped(rt, alloc, &counters, &mut printed)?;
+    let is_whole = shipped.is_ok()
+        && printed.as_slice() == b"filtered 0\nreport complete 2\n".as_slice();
+    Ok(is_whole.then_some(counters.skipped()))
+}
+
+#[test]
+fn skipped_records_are_counted_by_type(rt: HostRuntime) -> Result<(), Fail> {
+    assert_eq!(rt; counted_as_skipped(&rt, rt.alloc())?, Some(SKIPPED));
     Ok(())
 }

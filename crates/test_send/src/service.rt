@@ -28,6 +28,7 @@ struct Row<'a> {
     has_sign: bool,
     most: u64,
     idle_ms: u64,
+    request_ms: u64,
     clients: Clients,
     replies: usize,
     printed: &'a [u8],
@@ -57,16 +58,29 @@ fn is_quick<K: Clock>(clock: &K, begun: Instant) -> bool {
     matches!(begun.elapsed(clock), Ok(took) if took < Duration::from_secs(MOST_SECONDS))
 }
 
-/// Returns a service with these bounds.
-fn service_of(
+/// The bounds of a service.
+#[derive(Clone, Copy)]
+struct Bounds {
     most: Bounded<1, 1_000>,
     idle_ms: Bounded<10, 3_600_000>,
-    counters: &ReceiveCounters,
-) -> Service<'_> {
+    request_ms: Bounded<10, 3_600_000>,
+}
+
+/// Returns the bounds of a row, or `None` if one of them is not allowed.
+fn bounds_of(row: &Row<'_>) -> Option<Bounds> {
+    Some(Bounds {
+        most: Bounded::try_new(row.most)?,
+        idle_ms: Bounded::try_new(row.idle_ms)?,
+        request_ms: Bounded::try_new(row.request_ms)?,
+    })
+}
+
+/// Returns a service with these bounds.
+fn service_of(bounds: Bounds, counters: &ReceiveCounters) -> Service<'_> {
     Service {
-        most,
-        idle_ms,
-        request_ms: Bounded::new(60_000),
+        most: bounds.most,
+        idle_ms: bounds.idle_ms,
+        request_ms: bounds.request_ms,
         capacity: Capacity::unlimited(),
         counters,
     }
@@ -81,8 +95,7 @@ fn does_with<R: Net<Stream = TcpStream, Listener = TcpListener> + Threads + Wait
     settings: &Settings,
     printed: &mut Room,
 ) -> io::Result<bool> {
-    let (Some(most), Some(idle_ms)) = (Bounded::try_new(row.most), Bounded::try_new(row.idle_ms))
-    else {
+    let Some(bounds) = bounds_of(row) else {
         return Ok(false);
     };
     let listener = TcpListener::bind(rt, "127.0.0.1:0")?;
@@ -100,18 +113,18 @@ fn does_with<R: Net<Stream = TcpStream, Listener = TcpListener> + Threads + Wait
         rt,
         || read_by(&door, clients),
         || {
+            let service = service_of(bounds, &counters);
             if has_sign {
-                let service = service_of(most, idle_ms, &counters);
                 run_receive_until(rt, alloc, settings, service, &signal, listener, printed)
             } else {
-                let service = service_of(most, idle_ms, &counters);
                 run_receive(rt, alloc, settings, service, listener, printed)
             }
         },
     );
     let is_counted = holds_as_printed(alloc, &counters, row.printed);
     let is_done = ended.is_ok() && is_quick(rt, begun);
-    Ok(is_done && are_replies(&read?, row.replies) && is_counted)
+    let has_replies = matches!(&read, Ok(read) if are_replies(read, row.replies));
+    Ok(is_done && has_replies && is_counted)
 }
 
 /// Returns whether a service and its clients do as a row says, and it prints what the row says.
@@ -130,8 +143,9 @@ fn does<R: Net<Stream = TcpStream, Listener = TcpListener> + Threads + Wait + Cl
 fn wrong_row<R: Net<Stream = TcpStream, Listener = TcpListener> + Threads + Wait + Clock + Sync>(
     rt: &R,
     alloc: Global,
+    rows: &[Row<'_>],
 ) -> Result<Option<&'static str>, Fail> {
-    for row in &ROWS {
+    for row in rows {
         if !does(rt, alloc, row)? {
             return Ok(Some(row.name));
         }
@@ -145,6 +159,7 @@ static ROWS: [Row<'static>; 11] = [
         has_sign: true,
         most: 1,
         idle_ms: 60_000,
+        request_ms: 60_000,
         clients: Clients::InTurn,
         replies: 5,
         printed: b"received {__name__=\"up\"} 1000=1 1001=1 1002=1 1003=1 1004=1\n",
@@ -154,6 +169,7 @@ static ROWS: [Row<'static>; 11] = [
         has_sign: true,
         most: 1_000,
         idle_ms: 60_000,
+        request_ms: 60_000,
         clients: Clients::InTurn,
         replies: 5,
         printed: b"received {__name__=\"up\"} 1000=1 1001=1 1002=1 1003=1 1004=1\n",
@@ -163,6 +179,7 @@ static ROWS: [Row<'static>; 11] = [
         has_sign: true,
         most: 2,
         idle_ms: 60_000,
+        request_ms: 60_000,
         clients: Clients::SideBySide,
         replies: 2,
         printed: b"received {__name__=\"up\"} 1000=1 1001=1\n",
@@ -172,6 +189,7 @@ static ROWS: [Row<'static>; 11] = [
         has_sign: true,
         most: 2,
         idle_ms: 60_000,
+        request_ms: 60_000,
         clients: Clients::Stays,
         replies: 1,
         printed: b"received {__name__=\"up\"} 1000=1\n",
@@ -181,6 +199,7 @@ static ROWS: [Row<'static>; 11] = [
         has_sign: true,
         most: 2,
         idle_ms: 60_000,
+        request_ms: 60_000,
         clients: Clients::IsInside,
         replies: 2,
         printed: b"received {__name__=\"up\"} 1000=1 1001=1\n",
@@ -190,6 +209,7 @@ static ROWS: [Row<'static>; 11] = [
         has_sign: true,
         most: 2,
         idle_ms: 60_000,
+        request_ms: 60_000,
         clients: Clients::IsCutOff,
         replies: 1,
         printed: b"received {__name__=\"up\"} 1000=1\n",
@@ -198,7 +218,8 @@ static ROWS: [Row<'static>; 11] = [
         name: "a silent client does not keep the only seat",
         has_sign: true,
         most: 1,
-        idle_ms: 100,
+        idle_ms: 60_000,
+        request_ms: 60_000,
         clients: Clients::WritesOneByte,
         replies: 1,
         printed: b"received {__name__=\"up\"} 1000=1\n",
@@ -208,6 +229,7 @@ static ROWS: [Row<'static>; 11] = [
         has_sign: true,
         most: 2,
         idle_ms: 60_000,
+        request_ms: 60_000,
         clients: Clients::OneTooMany,
         replies: 1,
         printed: b"received {__name__=\"up\"} 1000=1\n",
@@ -217,6 +239,7 @@ static ROWS: [Row<'static>; 11] = [
         has_sign: true,
         most: 2,
         idle_ms: 60_000,
+        request_ms: 60_000,
         clients: Clients::OneStays,
         replies: 7,
         printed: b"received {__name__=\"up\"} 1000=1 1001=1 1002=1 1003=1 1004=1 1005=1 1006=1\n",
@@ -226,6 +249,7 @@ static ROWS: [Row<'static>; 11] = [
         has_sign: false,
         most: 2,
         idle_ms: 100,
+        request_ms: 60_000,
         clients: Clients::WritesOneByte,
         replies: 1,
         printed: b"received {__name__=\"up\"} 1000=1\n",
@@ -235,6 +259,7 @@ static ROWS: [Row<'static>; 11] = [
         has_sign: false,
         most: 1,
         idle_ms: 60_000,
+        request_ms: 60_000,
         clients: Clients::WritesOn,
         replies: 1,
         printed: b"received {__name__=\"up\"} 1000=1\n",
@@ -243,6 +268,66 @@ static ROWS: [Row<'static>; 11] = [
 
 #[test]
 fn a_service_serves_until_it_is_stopped(rt: HostRuntime) -> Result<(), Fail> {
-    none_is_wrong(&rt, wrong_row(&rt, rt.alloc())?);
+    none_is_wrong(&rt, wrong_row(&rt, rt.alloc(), &ROWS)?);
+    Ok(())
+}
+
+static LIMITS: [Row<'static>; 3] = [
+    Row {
+        name: "a client that says nothing is closed after the idle time",
+        has_sign: true,
+        most: 2,
+        idle_ms: 400,
+        request_ms: 60_000,
+        clients: Clients::SaysNothing,
+        replies: 1,
+        printed: b"received {__name__=\"up\"} 1000=1\n",
+    },
+    Row {
+        name: "a request that drips is closed once its time is over",
+        has_sign: true,
+        most: 2,
+        idle_ms: 60_000,
+        request_ms: 200,
+        clients: Clients::Drips,
+        replies: 1,
+        printed: b"received {__name__=\"up\"} 1000=1\n",
+    },
+    Row {
+        name: "each byte of a request gives it a millisecond more",
+        has_sign: true,
+        most: 2,
+        idle_ms: 60_000,
+        request_ms: 200,
+        clients: Clients::IsSteady,
+        replies: 1,
+        printed: b"received {__name__=\"up\"} 1000=1\n",
+    },
+];
+
+/// A client may be silent for the idle time. A request may take its time, and a millisecond more
+/// for each byte that has come.
+#[test]
+fn a_client_has_limited_time(rt: HostRuntime) -> Result<(), Fail> {
+    none_is_wrong(&rt, wrong_row(&rt, rt.alloc(), &LIMITS)?);
+    Ok(())
+}
+
+static ONLY_SEAT: Row<'static> = Row {
+    name: "a client that says nothing has the only seat",
+    has_sign: true,
+    most: 1,
+    idle_ms: 60_000,
+    request_ms: 60_000,
+    clients: Clients::SaysNothing,
+    replies: 1,
+    printed: b"received {__name__=\"up\"} 1000=1\n",
+};
+
+/// A silent client loses its seat to one that waits, long before the idle time is over.
+#[test]
+fn a_client_that_waits_is_served(rt: HostRuntime) -> Result<(), Fail> {
+    let is_so = does(&rt, rt.alloc(), &ONLY_SEAT)?;
+    assert!(rt; is_so);
     Ok(())
 }
