@@ -3,6 +3,7 @@
 use rw_journal::{Journal, JournalError};
 use rw_kept_folder::{FaultCause, FolderError, FolderMonitor, open_journal, refuse_running_server};
 use rw_metrics::{KeptNumbers, ReceiveCounters};
+use std::alloc::{AllocError, Global};
 use std::path::{Path, PathBuf};
 use std::sync::Arc;
 use std::test::Fail;
@@ -124,6 +125,53 @@ fn a_segment_has_the_number_of_its_name(rt: HostRuntime) -> Result<(), Fail> {
     let number = journal.files().number_of(1);
     fs::remove_dir_all(&rt, dir.as_path())?;
     assert_eq!(rt; number, 8);
+    Ok(())
+}
+
+/// Returns 300,000 bytes.
+fn long_bytes(alloc: Global) -> Result<Vec<u8>, AllocError> {
+    let mut bytes = Vec::new(alloc);
+    for k in 0..300_000_u32 {
+        bytes.push((k % 251) as u8)?;
+    }
+    Ok(bytes)
+}
+
+/// Writes a segment of three bytes, and a last one that gets these bytes by two appends.
+fn write_long(rt: &HostRuntime, dir: Path<'_>, bytes: &[u8]) -> Result<(), Fail> {
+    let (front, rest) = bytes.split_at(bytes.len() / 2);
+    let mut journal = open_journal(rt, dir.as_str(), FolderMonitor::none())?;
+    journal.begin()?;
+    journal.append(b"abc")?;
+    journal.sync()?;
+    journal.begin()?;
+    journal.append(front)?;
+    journal.sync()?;
+    journal.append(rest)?;
+    journal.sync()?;
+    Ok(())
+}
+
+/// Opens the folder, and returns whether it has two segments, which are read as `abc` and as these
+/// bytes.
+fn has_last(rt: &HostRuntime, dir: Path<'_>, bytes: &[u8]) -> Result<bool, Fail> {
+    let mut journal = open_journal(rt, dir.as_str(), FolderMonitor::none())?;
+    Ok(
+        journal.count() == 2
+            && journal.read(rt.alloc(), 0)?.as_slice() == b"abc".as_slice()
+            && journal.read(rt.alloc(), 1)?.as_slice() == bytes,
+    )
+}
+
+/// No single read gives such a segment. If its end were not read, it would be taken for torn.
+#[test]
+fn a_long_segment_is_read_to_its_end(rt: HostRuntime) -> Result<(), Fail> {
+    let bytes = long_bytes(rt.alloc())?;
+    let dir = make_folder(&rt, "rwship-a-long-segment", &[])?;
+    write_long(&rt, dir.as_path(), &bytes)?;
+    let is_whole = has_last(&rt, dir.as_path(), &bytes)?;
+    fs::remove_dir_all(&rt, dir.as_path())?;
+    assert!(rt; is_whole);
     Ok(())
 }
 
