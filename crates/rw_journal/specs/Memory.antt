@@ -1,6 +1,8 @@
 -- A journal in memory, what a crash may leave of it, and what it might have left.
 use Rattle.std.specs.Prelude.{◌≡◌, ◌⊎◌, ℕ, ◌-◌, ◌≤◌, List, [], ◌∷◌, ◌++◌, length, take, drop, map, Vec}
 use mathlib.Core.Logic.{inl, inr}
+use Rattle.std.proofs.Common.{sym, ap, subst, length-drop, take-append-drop}
+use Rattle.std.proofs.Math.Nat.{le_refl}
 use Rattle.std.specs.declared.alloc.Global.{Global}
 use Rattle.rw_journal.specs.Journal.{Segments}
 use Rattle.rw_journal.specs.declared.image.Image.{Image}
@@ -36,3 +38,15 @@ none_left (image ∷ past) c had = none_left past c had
 pub only_this : (past : List Image) (image : Image) (c : Segments) → LeftSince past image (length past) c → IsLeftOf image c
 only_this past image c (inl now) = now
 only_this past image c (inr had) = absurd (none_left past c had)
+
+-- a crash may leave all that was written
+pub all_left : (image : Image) → IsLeftOf image (image_segments image)
+all_left image =
+    let rest = length image.last.items - image.synced in
+    record {
+      more = drop image.synced image.last.items;
+      no_longer = subst (λ (n : ℕ). n ≤ rest) (sym (length-drop image.synced image.last.items))
+          (le_refl rest);
+      folder = sym (ap (contents_of_image image.done.items)
+          (take-append-drop image.synced image.last.items));
+    }

@@ -116,4 +116,7 @@ pub trait Journal {
     /// Since the current moment there is no other one.
     ghost only_now: { (journal : Self) (c : Segments) → left_since journal (moment journal) c
         → may_leave journal c };
+
+    /// A crash may leave all that was asked.
+    ghost leaves_seen: { (journal : Self) → may_leave journal (seen journal) };
 }

@@ -3,7 +3,7 @@
 ghost use Rattle.std.specs.Prelude.{◌≡◌, ◌-◌, ◌≤◌, ◌++◌, [], ◌∷◌, length, take, OnOk};
 ghost use Rattle.std.proofs.Common.{inl};
 ghost use Rattle.rw_journal.specs.Journal.{Only};
-ghost use Rattle.rw_journal.specs.Memory.{image_segments, IsLeftOf, LeftSince, only_this};
+ghost use Rattle.rw_journal.specs.Memory.{image_segments, IsLeftOf, LeftSince, only_this, all_left};
 
 use crate::image::Image;
 use crate::journal::{Journal, JournalError};
@@ -73,6 +73,8 @@ impl Journal for MemoryJournal {
     ghost counts_now = { λ m t c le now. inl now };
 
     ghost only_now = { λ m c left. only_this m.past m.image c left };
+
+    ghost leaves_seen = { λ m. all_left m.image };
 
     fn count(&self) -> usize {
         self.image.done.len() + 1

@@ -1,3 +1,4 @@
+mod AnewLemmas
 mod LengthLemmas
 mod NotedLemmas
 mod TwiceLemmas

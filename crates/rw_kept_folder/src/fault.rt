@@ -7,8 +7,11 @@ use std::{fmt, io};
 /// What was to be done when a call failed.
 #[derive(Clone, Copy, Debug, PartialEq, Eq)]
 pub enum FolderCall {
-    Open,
     Read,
+    /// Copy the last segment, to write it anew.
+    WriteCopy,
+    SyncCopy,
+    RenameCopy,
     Write,
     Sync,
     SyncFolder,
@@ -28,6 +31,8 @@ pub enum FaultCause {
     ReadOnly,
     /// A file that was to be created exists.
     Exists,
+    /// The last segment is no longer in its place: it was removed or renamed, or its folder was.
+    Removed,
     Other,
 }
 
@@ -57,8 +62,10 @@ pub(crate) fn cause_of(error: &io::Error) -> FaultCause {
 impl fmt::Display for FolderCall {
     fn fmt<W: fmt::Write>(&self, f: &mut fmt::Formatter<W>) -> fmt::Result {
         f.write_str(match self {
-            FolderCall::Open => "open",
             FolderCall::Read => "read",
+            FolderCall::WriteCopy => "copy",
+            FolderCall::SyncCopy => "sync the copy of",
+            FolderCall::RenameCopy => "rename the copy of",
             FolderCall::Write => "write",
             FolderCall::Sync => "sync",
             FolderCall::SyncFolder => "sync the folder of",
@@ -79,6 +86,7 @@ impl fmt::Display for FaultCause {
             FaultCause::DiskFull => "no space left on the device",
             FaultCause::ReadOnly => "the file system is read-only",
             FaultCause::Exists => "the file exists",
+            FaultCause::Removed => "the file was removed or renamed",
             FaultCause::Other => "the device failed",
         })
     }

@@ -5,7 +5,8 @@ use std::alloc::{AllocError, AllocFailed};
 use std::error::Error;
 use std::fmt;
 
-/// Why the journal in a folder cannot be opened. Nothing was changed.
+/// Why the journal in a folder cannot be opened. Each segment has the bytes that it had; a folder
+/// that the rules let the receiver have may have been marked.
 #[derive(Clone, Copy, Debug, PartialEq, Eq)]
 pub enum FolderError {
     /// Memory ran out.
@@ -23,7 +24,17 @@ pub enum FolderError {
     ServerRuns,
     /// It is not known whether a Prometheus runs there: that file cannot be opened or locked.
     LockUnreadable(FaultCause),
-    /// A segment cannot be opened, read or synced.
+    /// The folder has segments, and not the mark of a receiver.
+    NotReceived,
+    /// The folder above has files of a Prometheus, whose log this may be.
+    BesideServer,
+    /// It is not known whose log this is: one of those files, or the mark, cannot be looked up.
+    OwnerUnknown(FaultCause),
+    /// The mark cannot be written or synced.
+    Unmarked(FaultCause),
+    /// The segments from 0 up to this number are missing, and a later one is there.
+    StartMissing(u64),
+    /// A segment cannot be read or synced, or the last one cannot be written anew.
     Fault(FolderFault),
 }
 
@@ -49,6 +60,18 @@ impl<T: Drop> From<AllocFailed<T>> for FolderError {
     }
 }
 
+/// Writes that the segments up to this number are missing, and what to do.
+fn write_missing_start<W: fmt::Write>(f: &mut fmt::Formatter<W>, last: u64) -> fmt::Result {
+    if last == 0 {
+        f.write_str("segment 0 is missing")?;
+    } else {
+        write!(f, "segments 0 to {last} are missing")?;
+    }
+    f.write_str(
+        "; copy what is missing there, or give --allow-missing-start to go on without the samples whose labels only that has",
+    )
+}
+
 impl fmt::Display for FolderError {
     fn fmt<W: fmt::Write>(&self, f: &mut fmt::Formatter<W>) -> fmt::Result {
         match self {
@@ -64,6 +87,20 @@ impl fmt::Display for FolderError {
                 f,
                 "cannot see whether a Prometheus writes there, by the file 'lock' in the folder above it: {cause}; permit reading it, or choose another folder"
             ),
+            FolderError::NotReceived => f.write_str(
+                "it has segments that no receiver wrote; give --adopt to go on there, or choose another folder",
+            ),
+            FolderError::BesideServer => f.write_str(
+                "the folder above it has 'chunks_head' or 'queries.active', as that of a Prometheus has; choose another folder, or give --adopt if no Prometheus writes there",
+            ),
+            FolderError::OwnerUnknown(cause) => write!(
+                f,
+                "cannot see whether a receiver writes there, or a Prometheus: {cause}; permit reading it and the folder above it, or choose another folder"
+            ),
+            FolderError::Unmarked(cause) => {
+                write!(f, "cannot write the file 'rwship-receive' there: {cause}")
+            }
+            FolderError::StartMissing(last) => write_missing_start(f, *last),
             FolderError::Fault(fault) => write!(f, "{fault}"),
         }
     }

@@ -5,6 +5,7 @@ use crate::folder_monitor::FolderMonitor;
 use std::alloc::{AllocError, Global};
 use std::fs::{OpenFile, OpenOptions};
 use std::io::{ErrorKind, Read, Seek, SeekFrom, Write};
+use std::os::unix::fs::MetadataExt;
 use std::path::{Path, PathBuf};
 use std::rt::Files;
 use std::time::{Clock, Instant};
@@ -14,14 +15,20 @@ use std::{fs, io};
 const MAX_NUMBER: u64 = 99_999_999;
 
 /// A folder of segments, of which the file of the last one is open. After a failed call it makes no
-/// further one.
+/// further one, except that it cuts the last segment to what was synced of it.
 #[derive(Drop)]
 pub(crate) struct FolderHandle<R: Files> {
     rt: R,
     dir: String,
     /// The number of the last segment, if there is one.
     number: Option<u64>,
+    /// The path of the last segment.
+    path: PathBuf,
     file: Option<R::File>,
+    /// How many bytes the last segment has.
+    len: u64,
+    /// How many of them are synced.
+    synced: u64,
     fault: Option<FolderFault>,
     monitor: FolderMonitor,
 }
@@ -35,9 +42,15 @@ fn next_number(number: Option<u64>) -> io::Result<u64> {
     }
 }
 
-/// Returns the path of the file that has this number after a prefix of its name.
-fn path_of(alloc: Global, dir: &str, prefix: &str, number: u64) -> Result<PathBuf, AllocError> {
-    let name = format!(in alloc; "{prefix}{number:08}")?;
+/// Returns the path of the file with this number between two parts of its name.
+fn path_of(
+    alloc: Global,
+    dir: &str,
+    prefix: &str,
+    number: u64,
+    suffix: &str,
+) -> Result<PathBuf, AllocError> {
+    let name = format!(in alloc; "{prefix}{number:08}{suffix}")?;
     Path::new(dir).join(alloc, name.as_str())
 }
 
@@ -49,26 +62,48 @@ fn read_from<F: Read + Seek>(alloc: Global, file: &mut F, offset: u64) -> io::Re
     Ok(bytes)
 }
 
+/// Creates a file, which must not exist, to append to it.
+fn create_file<R: Files>(rt: &R, path: Path<'_>) -> io::Result<R::File> {
+    OpenOptions::new()
+        .read(true)
+        .append(true)
+        .create_new(true)
+        .open(rt, path)
+}
+
+/// Returns an outcome with the cause of its error.
+fn with_cause(outcome: io::Result<()>) -> Result<(), FaultCause> {
+    match outcome {
+        Ok(()) => Ok(()),
+        Err(error) => Err(cause_of(&error)),
+    }
+}
+
 impl<R: Files + Clock + AllocGlobal + Copy> FolderHandle<R> {
-    /// Returns a folder whose last segment has this number and this file.
+    /// Returns a folder whose last segment has this number and this name. Its file is not open: it
+    /// has to be written anew first.
     pub(crate) fn new(
         rt: R,
         dir: String,
-        last: Option<(u64, R::File)>,
+        last: Option<(u64, &str)>,
         monitor: FolderMonitor,
-    ) -> FolderHandle<R> {
-        let (number, file) = match last {
-            Some((number, file)) => (Some(number), Some(file)),
-            None => (None, None),
+    ) -> Result<FolderHandle<R>, AllocError> {
+        let alloc = rt.alloc();
+        let (number, path) = match last {
+            Some((number, name)) => (Some(number), Path::new(dir.as_str()).join(alloc, name)?),
+            None => (None, PathBuf::new(alloc)),
         };
-        FolderHandle {
+        Ok(FolderHandle {
             rt,
             dir,
             number,
-            file,
+            path,
+            file: None,
+            len: 0,
+            synced: 0,
             fault: None,
             monitor,
-        }
+        })
     }
 
     /// Returns the fault after which no call is made, if there was one.
@@ -116,17 +151,74 @@ impl<R: Files + Clock + AllocGlobal + Copy> FolderHandle<R> {
         fs::open(&self.rt, self.dir.as_str())?.sync_all()
     }
 
+    /// Returns whether the path of the last segment still leads to the file that is open.
+    fn is_in_place(&self) -> io::Result<bool> {
+        let Some(file) = &self.file else {
+            return Ok(true);
+        };
+        let open = file.metadata()?;
+        match fs::metadata(&self.rt, self.path.as_path()) {
+            Ok(found) => Ok(found.dev() == open.dev() && found.ino() == open.ino()),
+            Err(error) if error.kind() == ErrorKind::NotFound => Ok(false),
+            Err(error) => Err(error),
+        }
+    }
+
+    /// Fails if the last segment was removed or renamed, or its folder was.
+    fn check_place(&self) -> Result<(), FaultCause> {
+        match self.is_in_place() {
+            Ok(true) => Ok(()),
+            Ok(false) => Err(FaultCause::Removed),
+            Err(error) => Err(cause_of(&error)),
+        }
+    }
+
     fn create(&mut self) -> io::Result<()> {
         let number = next_number(self.number)?;
-        let path = path_of(self.rt.alloc(), self.dir.as_str(), "", number)?;
-        let file = OpenOptions::new()
-            .read(true)
-            .append(true)
-            .create_new(true)
-            .open(&self.rt, path.as_path())?;
+        let path = path_of(self.rt.alloc(), self.dir.as_str(), "", number, "")?;
+        let file = create_file(&self.rt, path.as_path())?;
         self.number = Some(number);
+        self.path = path;
         self.file = Some(file);
+        self.len = 0;
+        self.synced = 0;
         Ok(())
+    }
+
+    fn copy_path(&self) -> Result<PathBuf, AllocError> {
+        let number = self.number.unwrap_or(0);
+        path_of(self.rt.alloc(), self.dir.as_str(), "", number, ".tmp")
+    }
+
+    /// Writes a copy in place of one that an earlier start has left.
+    fn write_new(&mut self, path: Path<'_>, text: &[u8]) -> io::Result<()> {
+        let _ = fs::remove_file(&self.rt, path);
+        let mut file = create_file(&self.rt, path)?;
+        file.write_all(text)?;
+        self.file = Some(file);
+        self.len = text.len() as u64;
+        Ok(())
+    }
+
+    /// Writes a copy, or none.
+    fn write_whole(&mut self, text: &[u8]) -> io::Result<()> {
+        let path = self.copy_path()?;
+        let outcome = self.write_new(path.as_path(), text);
+        if outcome.is_err() {
+            let _ = fs::remove_file(&self.rt, path.as_path());
+        }
+        outcome
+    }
+
+    fn sync_whole(&mut self) -> io::Result<()> {
+        self.last_file()?.sync_all()?;
+        self.synced = self.len;
+        Ok(())
+    }
+
+    fn rename(&mut self) -> io::Result<()> {
+        let copy = self.copy_path()?;
+        fs::rename(&self.rt, copy.as_path(), self.path.as_path())
     }
 
     fn copy_from(&mut self, offset: u64) -> io::Result<()> {
@@ -139,7 +231,7 @@ impl<R: Files + Clock + AllocGlobal + Copy> FolderHandle<R> {
             return Ok(());
         }
         let number = self.number.unwrap_or(0);
-        let path = path_of(alloc, self.dir.as_str(), "torn-", number)?;
+        let path = path_of(alloc, self.dir.as_str(), "torn-", number, "")?;
         let mut copy = fs::create(&self.rt, path.as_path())?;
         copy.write_all(&torn)?;
         copy.sync_all()?;
@@ -166,20 +258,68 @@ impl<R: Files + Clock + AllocGlobal + Copy> FolderHandle<R> {
     }
 
     /// Keeps the fault of a call that failed, and counts it.
-    fn end(&mut self, call: FolderCall, outcome: io::Result<()>) -> Result<(), FolderFault> {
+    fn end(
+        &mut self,
+        call: FolderCall,
+        outcome: Result<(), FaultCause>,
+    ) -> Result<(), FolderFault> {
         match outcome {
             Ok(()) => Ok(()),
-            Err(error) => {
+            Err(cause) => {
                 let fault = FolderFault {
                     call,
                     segment: self.number.unwrap_or(0),
-                    cause: cause_of(&error),
+                    cause,
                 };
                 self.fault = Some(fault);
                 self.monitor.count_failure();
                 Err(fault)
             }
         }
+    }
+
+    /// Does the same for a write or sync of the last segment. If it failed, cuts the segment to
+    /// what was synced before, so that nobody reads from the operating system's memory what may not
+    /// be on the disk. This is best effort.
+    fn end_write(
+        &mut self,
+        call: FolderCall,
+        outcome: Result<(), FaultCause>,
+    ) -> Result<(), FolderFault> {
+        if outcome.is_err() {
+            let _ = self.shorten(self.synced);
+        }
+        self.end(call, outcome)
+    }
+
+    /// Writes a copy of the last segment, which has these bytes, to a file `NNNNNNNN.tmp` beside
+    /// it.
+    pub(crate) fn write_copy(&mut self, text: &[u8]) -> Result<(), FolderFault> {
+        if let Some(fault) = self.fault {
+            return Err(fault);
+        }
+        let outcome = self.write_whole(text);
+        self.end(FolderCall::WriteCopy, with_cause(outcome))
+    }
+
+    /// Syncs the copy.
+    pub(crate) fn sync_copy(&mut self) -> Result<(), FolderFault> {
+        if let Some(fault) = self.fault {
+            return Err(fault);
+        }
+        let begun = Instant::now(&self.rt).ok();
+        let outcome = self.sync_whole();
+        self.count_sync(begun, &outcome);
+        self.end(FolderCall::SyncCopy, with_cause(outcome))
+    }
+
+    /// Renames the copy over the last segment, of which it is the file from then on.
+    pub(crate) fn rename_copy(&mut self) -> Result<(), FolderFault> {
+        if let Some(fault) = self.fault {
+            return Err(fault);
+        }
+        let outcome = self.rename();
+        self.end(FolderCall::RenameCopy, with_cause(outcome))
     }
 
     /// Appends bytes to the file of the last segment.
@@ -189,9 +329,10 @@ impl<R: Files + Clock + AllocGlobal + Copy> FolderHandle<R> {
         }
         let outcome = self.write(bytes);
         if outcome.is_ok() {
+            self.len = self.len.saturating_add(bytes.len() as u64);
             self.monitor.count_bytes(bytes.len());
         }
-        self.end(FolderCall::Write, outcome)
+        self.end_write(FolderCall::Write, with_cause(outcome))
     }
 
     /// Copies the bytes of the last segment from an offset on to a file `torn-NNNNNNNN`, and syncs
@@ -201,7 +342,7 @@ impl<R: Files + Clock + AllocGlobal + Copy> FolderHandle<R> {
             return Err(fault);
         }
         let outcome = self.copy_from(offset);
-        self.end(FolderCall::SetAside, outcome)
+        self.end(FolderCall::SetAside, with_cause(outcome))
     }
 
     /// Cuts the file of the last segment to a length, if it is longer.
@@ -210,10 +351,12 @@ impl<R: Files + Clock + AllocGlobal + Copy> FolderHandle<R> {
             return Err(fault);
         }
         let outcome = self.shorten(len);
-        self.end(FolderCall::Cut, outcome)
+        self.len = self.len.min(len);
+        self.synced = self.synced.min(len);
+        self.end(FolderCall::Cut, with_cause(outcome))
     }
 
-    /// Syncs the bytes of the file of the last segment.
+    /// Syncs the bytes of the file of the last segment. Fails if that is no longer in its place.
     pub(crate) fn sync_data(&mut self) -> Result<(), FolderFault> {
         if let Some(fault) = self.fault {
             return Err(fault);
@@ -221,7 +364,14 @@ impl<R: Files + Clock + AllocGlobal + Copy> FolderHandle<R> {
         let begun = Instant::now(&self.rt).ok();
         let outcome = self.sync_file();
         self.count_sync(begun, &outcome);
-        self.end(FolderCall::Sync, outcome)
+        let outcome = match with_cause(outcome) {
+            Ok(()) => self.check_place(),
+            Err(cause) => Err(cause),
+        };
+        if outcome.is_ok() {
+            self.synced = self.len;
+        }
+        self.end_write(FolderCall::Sync, outcome)
     }
 
     /// Syncs the folder.
@@ -232,15 +382,19 @@ impl<R: Files + Clock + AllocGlobal + Copy> FolderHandle<R> {
         let begun = Instant::now(&self.rt).ok();
         let outcome = self.sync_dir();
         self.count_sync(begun, &outcome);
-        self.end(FolderCall::SyncFolder, outcome)
+        self.end(FolderCall::SyncFolder, with_cause(outcome))
     }
 
-    /// Creates the file of a next segment, which must not exist.
+    /// Creates the file of a next segment, which must not exist. Fails if the last one is no longer
+    /// in its place.
     pub(crate) fn create_next(&mut self) -> Result<(), FolderFault> {
         if let Some(fault) = self.fault {
             return Err(fault);
         }
-        let outcome = self.create();
+        let outcome = match self.check_place() {
+            Ok(()) => with_cause(self.create()),
+            Err(cause) => Err(cause),
+        };
         if outcome.is_ok() {
             self.monitor.count_segment();
         }

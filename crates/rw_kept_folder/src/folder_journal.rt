@@ -65,6 +65,8 @@ impl<F: SegmentFiles> Journal for FolderJournal<F> {
 
     ghost only_now = { λ j c left. F.only_now j c left };
 
+    ghost leaves_seen = { λ j. F.leaves_seen j };
+
     fn count(&self) -> usize {
         self.files.count()
     }

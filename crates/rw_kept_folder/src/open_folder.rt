@@ -1,6 +1,6 @@
 //! The files of a folder of a runtime, with a record of what was asked of them.
 
-ghost use Rattle.std.specs.Prelude.{◌≡◌, ◌+◌, [], length, map};
+ghost use Rattle.std.specs.Prelude.{◌≡◌, ◌+◌, length, map};
 ghost use Rattle.rw_journal.specs.Journal.{Only};
 ghost use Rattle.rw_kept_folder.specs.Noted.{seen_of, MayLeave, LeftSinceNoted, Tears};
 ghost use Rattle.rw_kept_folder.specs.inner.Noted.{counts_now, only_now, leaves_seen};
@@ -17,8 +17,8 @@ use std::marker::Model;
 use std::rt::Files;
 use std::time::Clock;
 
-/// The files of a folder. Contracts see what was loaded, and what was asked of the operating system
-/// since then; what the files hold and what a crash may leave of them is defined by that.
+/// The files of a folder. Contracts see what was asked of the operating system, from the loading of
+/// the segments on; what the files hold and what a crash may leave of them is defined by that.
 #[derive(Drop)]
 pub struct OpenFolder<R: Files> {
     handle: FolderHandle<R>,
@@ -35,14 +35,14 @@ pub struct OpenFolder<R: Files> {
 impl<R: Files> Model for OpenFolder<R> {
     ghost use Rattle.std.specs.Prelude.{◌≡◌, length};
     ghost use Rattle.rw_kept_folder.specs.Noted.{Noted, seen_of};
-    ghost use Rattle.rw_kept_folder.specs.inner.Noted.{AreUnread};
+    ghost use Rattle.rw_kept_folder.specs.inner.Noted.{AreUnread, HasOwn};
 
     ghost Value = { Noted };
 
     ghost view = { λ f. f.record };
 
     ghost invariant = { λ f. (f.count ≡ length (seen_of f.record))
-        × AreUnread f.record f.read f.unread.items };
+        × AreUnread f.record f.read f.unread.items × HasOwn f.record };
 }
 
 /// Returns the error of a call that failed, and adds the fault to the record.
@@ -57,18 +57,17 @@ fn fail(noted: &mut Record, fault: FolderFault) -> JournalError
 }
 
 impl<R: Files + Clock + AllocGlobal + Copy> OpenFolder<R> {
-    /// Returns the files of a folder whose segments have these texts, which the record says were
-    /// loaded, and whose first segment has this number.
+    /// Returns the files of a folder whose segments have these texts by the record, by which they
+    /// are also on the disk, and whose first segment has this number.
     pub(crate) fn new(
         handle: FolderHandle<R>,
         first: u64,
         texts: VecDeque<Vec<u8>>,
         noted: Record,
     ) -> OpenFolder<R>
-        requires loaded { map (λ v. v.items) texts.items ≡ noted.loaded }
-        requires calls { noted.calls ≡ [] }
+        requires seen { map (λ v. v.items) texts.items ≡ seen_of noted }
+        requires synced { Only (seen_of noted) (MayLeave noted) }
         ensures noted { result ≡ noted }
-        ensures synced { Only (seen_of result) (MayLeave result) }
     {
         OpenFolder {
             handle,

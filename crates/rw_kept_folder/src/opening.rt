@@ -3,18 +3,22 @@
 ghost use Rattle.std.specs.Prelude.{◌≡◌, map, OnOk, IfOk};
 ghost use Rattle.rw_journal.specs.Journal.{Only};
 ghost use Rattle.rw_kept_folder.specs.Noted.{seen_of, MayLeave};
+ghost use Rattle.rw_kept_folder.specs.inner.Noted.{loads_of};
 
 use crate::fault::{FolderCall, FolderFault, cause_of};
+use crate::file_call::FileCall;
 use crate::folder_error::FolderError;
 use crate::folder_handle::FolderHandle;
 use crate::folder_journal::FolderJournal;
 use crate::folder_monitor::FolderMonitor;
 use crate::open_folder::OpenFolder;
+use crate::ownership::{FolderRules, claim_folder};
 use crate::record::Record;
+use rw_history::History;
 use rw_log_folder::{SegmentName, segment_names};
 use std::alloc::Global;
 use std::collections::VecDeque;
-use std::fs::{OpenFile, OpenOptions};
+use std::fs::OpenFile;
 use std::io::{ErrorKind, Read};
 use std::path::Path;
 use std::rt::Files;
@@ -73,7 +77,7 @@ fn list<R: Files + AllocGlobal + Copy>(rt: &R, dir: &str) -> Result<Vec<SegmentN
     }
 }
 
-/// Returns the bytes of a file.
+/// Returns the bytes of a file, and syncs it.
 fn read_file<R: Files + AllocGlobal + Copy>(rt: &R, dir: &str, name: &str) -> io::Result<Vec<u8>> {
     let alloc = rt.alloc();
     let path = Path::new(dir).join(alloc, name)?;
@@ -93,14 +97,13 @@ fn load_all<R: Files + AllocGlobal + Copy>(
     texts: &mut VecDeque<Vec<u8>>,
     noted: &mut Record,
 ) -> Result<(), FolderError>
-    requires { map (λ v. v.items) texts.old.items ≡ noted.old.loaded }
-    ensures loaded { OnOk result (map (λ v. v.items) texts.new.items ≡ noted.new.loaded) }
-    ensures calls { noted.new.calls ≡ noted.old.calls }
+    requires { noted.old.calls ≡ loads_of texts.old.items }
+    ensures loaded { OnOk result (noted.new.calls ≡ loads_of texts.new.items) }
 {
     for name in names {
         match read_file(rt, dir, name.name.as_str()) {
             Ok(text) => {
-                noted.load(&text);
+                noted.note(&FileCall::Load(History::of(&text)));
                 texts.push_back(text)?;
             }
             Err(error) => return Err(error_of(FolderCall::Read, name.number, &error)),
@@ -109,31 +112,29 @@ fn load_all<R: Files + AllocGlobal + Copy>(
     Ok(())
 }
 
-/// Opens the file of a segment, to append to it, and syncs it and the folder.
-fn open_file<R: Files + AllocGlobal + Copy>(rt: &R, dir: &str, name: &str) -> io::Result<R::File> {
-    let path = Path::new(dir).join(rt.alloc(), name)?;
-    let file = OpenOptions::new()
-        .read(true)
-        .append(true)
-        .open(rt, path.as_path())?;
-    file.sync_data()?;
-    fs::open(rt, dir)?.sync_all()?;
-    Ok(file)
-}
-
-/// Opens the last segment of a folder, if there is one.
-fn open_last<R: Files + AllocGlobal + Copy>(
-    rt: &R,
-    dir: &str,
-    names: &[SegmentName],
-) -> Result<Option<(u64, R::File)>, FolderError> {
-    let Some(last) = names.last() else {
-        return Ok(None);
+/// Writes the last segment anew, since its bytes may be in the operating system's memory alone: a
+/// copy is written, synced, renamed over it, and the folder synced.
+fn write_last_anew<R: Files + Clock + AllocGlobal + Copy>(
+    handle: &mut FolderHandle<R>,
+    texts: &VecDeque<Vec<u8>>,
+    noted: &mut Record,
+) -> Result<(), FolderFault>
+    requires loaded { noted.old.calls ≡ loads_of texts.now.items }
+    ensures seen { OnOk result (map (λ v. v.items) texts.now.items ≡ seen_of noted.new) }
+    ensures synced { OnOk result (Only (seen_of noted.new) (MayLeave noted.new)) }
+{
+    let Some(text) = texts.back() else {
+        return Ok(());
     };
-    match open_file(rt, dir, last.name.as_str()) {
-        Ok(file) => Ok(Some((last.number, file))),
-        Err(error) => Err(error_of(FolderCall::Open, last.number, &error)),
-    }
+    handle.write_copy(text)?;
+    noted.note(&FileCall::WriteCopy(History::of(text)));
+    handle.sync_copy()?;
+    noted.note(&FileCall::SyncCopy);
+    handle.rename_copy()?;
+    noted.note(&FileCall::RenameCopy);
+    handle.sync_folder()?;
+    noted.note(&FileCall::SyncFolder);
+    Ok(())
 }
 
 /// Returns the number of the first segment: 0 if there is none, since the first one gets that.
@@ -144,25 +145,41 @@ fn first_number(names: &[SegmentName]) -> u64 {
     }
 }
 
-/// Opens the journal in a folder, which has to exist: reads its segments into memory, and syncs
-/// them. Segments are the files whose names are one to eight digits; other files are skipped.
+/// Returns the number and the name of the last segment, if there is one.
+fn last_name(names: &[SegmentName]) -> Option<(u64, &str)> {
+    match names.last() {
+        Some(last) => Some((last.number, last.name.as_str())),
+        None => None,
+    }
+}
+
+/// Opens the journal in a folder, which has to exist: reads its segments into memory, and writes
+/// the last one anew, so that all of them are on the disk. Segments are the files whose names are
+/// one to eight digits; other files are skipped.
 ///
-/// A folder in which a number is missing or is there twice, or which has a checkpoint, is refused.
-/// The monitor counts the calls that the journal makes from then on.
+/// A folder in which a number is missing or is there twice, or which has a checkpoint, is refused,
+/// and so is one that the rules do not let a receiver have. A folder that is taken gets a mark, the
+/// file `rwship-receive`, which is synced before a segment is begun. The monitor counts the syncs
+/// that are made here, and the calls that the journal makes from then on.
 pub fn open_journal<R: Files + Clock + AllocGlobal + Copy>(
     rt: &R,
     dir: &str,
+    rules: FolderRules,
     monitor: FolderMonitor,
 ) -> Result<FolderJournal<OpenFolder<R>>, FolderError>
     ensures { IfOk result (λ j. Only (seen_of j) (MayLeave j)) }
 {
     let alloc = rt.alloc();
     let names = list(rt, dir)?;
+    claim_folder(rt, dir, &names, rules)?;
     let mut texts = VecDeque::new(alloc);
     let mut noted = Record::new();
     load_all(rt, dir, &names, &mut texts, &mut noted)?;
-    let last = open_last(rt, dir, &names)?;
     let first = first_number(&names);
-    let handle = FolderHandle::new(*rt, String::from_str(alloc, dir)?, last, monitor);
-    Ok(FolderJournal::new(OpenFolder::new(handle, first, texts, noted)))
+    let dir = String::from_str(alloc, dir)?;
+    let mut handle = FolderHandle::new(*rt, dir, last_name(&names), monitor)?;
+    match write_last_anew(&mut handle, &texts, &mut noted) {
+        Ok(()) => Ok(FolderJournal::new(OpenFolder::new(handle, first, texts, noted))),
+        Err(fault) => Err(FolderError::Fault(fault)),
+    }
 }

@@ -7,10 +7,9 @@ use crate::file_call::FileCall;
 use rw_history::History;
 use std::marker::Model;
 
-/// What was loaded, what was asked since then, and the faults. It takes no bytes.
+/// What was asked, and the faults. It takes no bytes.
 #[derive(Drop)]
 pub(crate) struct Record {
-    loaded: History<History<u8>>,
     calls: History<FileCall>,
     faults: History<FolderFault>,
 }
@@ -21,26 +20,18 @@ impl Model for Record {
 
     ghost Value = { Noted };
 
-    ghost view = { λ r. record { loaded = r.loaded; calls = r.calls; faults = length r.faults } };
+    ghost view = { λ r. record { calls = r.calls; faults = length r.faults } };
 }
 
 impl Record {
-    /// Returns a record in which nothing was loaded and nothing was asked.
+    /// Returns a record in which nothing was asked.
     pub(crate) fn new() -> Record
-        ensures { result ≡ record { loaded = []; calls = []; faults = 0 } }
+        ensures { result ≡ record { calls = []; faults = 0 } }
     {
         Record {
-            loaded: History::new(),
             calls: History::new(),
             faults: History::new(),
         }
-    }
-
-    /// Adds a segment that was loaded.
-    pub(crate) fn load(&mut self, text: &[u8])
-        ensures { self.new ≡ record self.old { loaded = self.old.loaded ++ text.now ∷ [] } }
-    {
-        self.loaded.push(&History::of(text));
     }
 
     /// Adds a call.

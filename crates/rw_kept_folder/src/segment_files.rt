@@ -13,7 +13,9 @@ pub trait SegmentFiles {
     /// The segments, in order, as a read returns them.
     ghost seen: { Self → Segments };
 
-    /// What a crash at this moment may leave.
+    /// What a crash at this moment may leave. Of a segment that was loaded and that this process
+    /// has not written anew, it is anything that the crash before may have left: a sync of it makes
+    /// sure of nothing.
     ghost may_leave: { Self → Segments → Type 0 };
 
     /// The current moment, as a number that never decreases.

@@ -1,6 +1,5 @@
 -- What a log says of a head: as it goes on, as it is written, and after a crash.
-use Rattle.std.proofs.Common.{◌≡◌, ◌≤◌, ◌*◌, ◌⊎◌, ℕ, ℤ, ◌+◌, List, [], ◌∷◌, ◌++◌, length, map, refl, sym, ap, ◌∙◌, subst, append_assoc, append-nil, length-append, lit<, inl, inr, ⊎_elim, arith, if◌then◌else◌, Option, Some, None, is_some, true, false}
-use Rattle.std.proofs.lemmas.List.{take-take, take_all}
+use Rattle.std.proofs.Common.{◌≡◌, ◌≤◌, ◌*◌, ◌⊎◌, ℕ, zero, suc, ℤ, ◌+◌, List, [], ◌∷◌, ◌++◌, length, map, refl, sym, ap, ◌∙◌, subst, append_assoc, append-nil, length-append, lit<, inl, inr, ⊎_elim, arith, if◌then◌else◌, Option, Some, None, is_some, true, false}
 use Rattle.std.specs.List.{AllByRecursion}
 use Rattle.rw_types.specs.Beginnings.{Begins}
 use Rattle.rw_types.proofs.shared.BeginningLemmas.{begins_itself}
@@ -22,13 +21,15 @@ use Rattle.rw_journal.proofs.shared.TornLogLemmas.{left_between}
 use Rattle.rw_journal.proofs.shared.ClosingLemmas.{nothing_read}
 use Rattle.rw_wal_append.specs.Additions.{without_position, samples_of_labels, definition_entry}
 use Rattle.rw_wal_append.proofs.shared.AdditionLemmas.{samples_in-append}
-use Rattle.rw_wal_append.specs.References.{ReferenceTable, AreDefined, AreReferenced, StandFor, points_of, undefined, only_defined}
+use Rattle.rw_wal_append.specs.Definitions.{IsDefinedOnce}
+use Rattle.rw_wal_append.specs.References.{ReferenceTable, AreReferenced, IsNoted, IsTable, points_of, undefined, only_defined}
 use Rattle.rw_wal_append.specs.Ends.{EndsAt}
 use Rattle.rw_wal_append.proofs.shared.HoldLemmas.{before_all, more_last}
-use Rattle.rw_kept_head.specs.Kept.{SaysWhat, LiesBetween, IsLastWithin, IsLeft, IsTornWrite, HasNoChance}
+use Rattle.rw_kept_head.specs.Kept.{SaysWhat, LiesBetween, IsLastWithin, IsLeft, IsTornWrite, HasNoChance, StaysDefinedOnce}
+use Rattle.rw_kept_head.specs.Lives.{MayBecome}
 use Rattle.rw_kept_head.specs.inner.Inner.{GoesOn, IsWritable}
 use Rattle.rw_reopen.proofs.shared.OpeningLemmas.{last_is}
-use Rattle.rw_kept_head.proofs.WrittenLemmas.{later_undone}
+use Rattle.rw_kept_head.proofs.WrittenLemmas.{noted_undone}
 
 -- ---- runs of calls
 
@@ -109,10 +110,10 @@ begun_before P old new all (inr more) = subst (AllBefore P) (sym more) (before_n
 -- a next segment was begun
 pub goes_next : AddUp → (old new : Segments) (may_leave : Segments → Type 0) (offset : ℕ) → EndsAt (old ++ [] ∷ []) 0 → AllBefore (IsWholeText page_size) (old ++ [] ∷ []) → new ≡ old ++ [] ∷ [] → offset ≡ 0
     → Only new may_leave → GoesOn old new may_leave offset
-goes_next up old new may_leave offset ends whole begun zero synced = record {
+goes_next up old new may_leave offset ends whole begun at_zero synced = record {
   begun = inr begun;
   entries = ap (entries_of page_size) begun ∙ next_same up page_size old (before_all (IsWholeText page_size) old [] whole);
-  ends = subst (λ (s : Segments). EndsAt s offset) (sym begun) (subst (EndsAt (old ++ [] ∷ [])) (sym zero) ends);
+  ends = subst (λ (s : Segments). EndsAt s offset) (sym begun) (subst (EndsAt (old ++ [] ∷ [])) (sym at_zero) ends);
   synced = synced;
 }
 
@@ -167,13 +168,35 @@ offset_more segments offset later more e f =
     offset_last (with_more segments more) later f ∙ ap length (last_more segments offset more e) ∙ length-append (last_of segments) more
     ∙ ap (λ (n : ℕ). n + length more) (sym (offset_last segments offset e))
 
+-- what a crash leaves of a log that defines each label set once
+pub left_once : AddUp → ((es fs : List Entry) → Begins es fs → IsDefinedOnce fs → IsDefinedOnce es) → (tears : List ℕ → List ℕ → Type 0) (new : Store) (segments left : Segments)
+    → AllByRecursion (IsWholeText page_size) segments → (x : IsLeft tears new segments left) → HasNoChance tears new x.base left x.is → StaysDefinedOnce segments left
+left_once up law tears new segments left whole x none = by_case x.base x.begun x.is none
+  where
+    by_case : (base : Segments) → IsBegun segments base → (is : (left ≡ base) ⊎ IsTornWrite tears new base left) → HasNoChance tears new base left is → StaysDefinedOnce segments left
+    by_case base begun (inl same) none = λ once. subst IsDefinedOnce (sym (ap (entries_of page_size) same ∙ begun_same up page_size segments base whole begun)) once
+    by_case base begun (inr w) none = λ once.
+        let both = left_between tears page_size base w.written left (lit< tt) none (begun_before (IsWholeText page_size) segments base whole begun) w.torn in
+        law (entries_of page_size left) (entries_of page_size (with_more base w.written)) both.1 (w.once (subst IsDefinedOnce (sym (begun_same up page_size segments base whole begun)) once))
+
+-- what a log becomes next
+next_once : AddUp → ((es fs : List Entry) → Begins es fs → IsDefinedOnce fs → IsDefinedOnce es) → (tears : List ℕ → List ℕ → Type 0) (old new : Segments) → MayBecome tears old new → StaysDefinedOnce old new
+next_once up law tears old new (inl same) = λ once. subst IsDefinedOnce (sym same) once
+next_once up law tears old new (inr (inl stays)) = stays
+next_once up law tears old new (inr (inr crash)) = left_once up law tears crash.store old new crash.whole crash.is crash.chance
+
+pub lives_once : AddUp → ((es fs : List Entry) → Begins es fs → IsDefinedOnce fs → IsDefinedOnce es) → (tears : List ℕ → List ℕ → Type 0) (logs : ℕ → Segments) → entries_of page_size (logs 0) ≡ []
+    → ((at : ℕ) → MayBecome tears (logs at) (logs (suc at))) → (at : ℕ) → IsDefinedOnce (entries_of page_size (logs at))
+lives_once up law tears logs none becomes zero = subst IsDefinedOnce (sym none) tt
+lives_once up law tears logs none becomes (suc at) = next_once up law tears (logs at) (logs (suc at)) (becomes at) (lives_once up law tears logs none becomes at)
+
 -- a torn part of bytes that make the log say what the store has
 pub is_torn : (tears : List ℕ → List ℕ → Type 0) (new : Store) (segments base : Segments) (offset : ℕ) (written : List ℕ) (left : Segments) → IsBegun segments base → EndsAt base offset
-    → SaysWhat (with_more base written) new → IsTornLog tears page_size offset base written left → IsLeft tears new segments left
-is_torn tears new segments base offset written left begun ends will torn = record {
+    → SaysWhat (with_more base written) new → StaysDefinedOnce base (with_more base written) → IsTornLog tears page_size offset base written left → IsLeft tears new segments left
+is_torn tears new segments base offset written left begun ends will once torn = record {
   base = base;
   begun = begun;
-  is = inr (record { written = written; will = will; torn = subst (λ (n : ℕ). IsTornLog tears page_size n base written left) (offset_last base offset ends) torn });
+  is = inr (record { written = written; will = will; once = once; torn = subst (λ (n : ℕ). IsTornLog tears page_size n base written left) (offset_last base offset ends) torn });
 }
 
 -- ---- what is written
@@ -184,26 +207,18 @@ Samples = List (ℕ × ℤ × ℕ)
 -- what `new_samples_are_read` says
 abbrev pub AreRead : Type 0
 AreRead =
-    (es : List Entry) (n : ReferenceTable) (samples : List (ℕ × ℤ × ℕ)) (l : Labels) → AreDefined es n → AreReferenced n samples
+    (es : List Entry) (n : ReferenceTable) (samples : List (ℕ × ℤ × ℕ)) (l : Labels) → IsNoted es n → IsTable n → AreReferenced n samples
     → samples_of_labels (es ++ map definition_entry (undefined n) ++ map sample_entry samples) l ≡ samples_of_labels es l ++ points_of n l samples
 
 pub says_more : AreRead → (old new : Store) (base : Segments) (bytes : List ℕ) (n : ReferenceTable) (samples : List (ℕ × ℤ × ℕ)) (added : List Added) → SaysWhat base old → AddsUp old new added
-    → AreDefined (entries_of page_size base) n → AreReferenced n samples → ((l : Labels) → points_of n l samples ≡ samples_added l added)
+    → IsNoted (entries_of page_size base) n → IsTable n → AreReferenced n samples → ((l : Labels) → points_of n l samples ≡ samples_added l added)
     → entries_of page_size (with_more base bytes) ≡ entries_of page_size base ++ map definition_entry (undefined n) ++ map sample_entry samples → SaysWhat (with_more base bytes) new
-says_more law old new base bytes n samples added says up defined of points entries = λ l.
+says_more law old new base bytes n samples added says up noted table of points entries = λ l.
     up.lists l
     ∙ ap (λ (ps : List Point). ps ++ samples_added l added) (says l)
     ∙ ap (λ (ps : List Point). samples_of_labels (entries_of page_size base) l ++ ps) (sym (points l))
-    ∙ sym (law (entries_of page_size base) n samples l defined of)
+    ∙ sym (law (entries_of page_size base) n samples l noted table of)
     ∙ ap (λ (es : List Entry). samples_of_labels es l) (sym entries)
-
--- the definitions that a log has are the same
-pub still_defined : (es fs : List Entry) (n later : ReferenceTable) → fs ≡ es → only_defined later ≡ only_defined n → AreDefined es n → AreDefined fs later
-still_defined es fs n later same undone defined =
-    subst (λ (x : List Entry). AreDefined x later) (sym same) (subst (λ (m : ReferenceTable). StandFor es m.first m.sets) (sym undone) defined)
-
-only_known : (n : ReferenceTable) → n.defined ≡ length n.sets → (only_defined n).defined ≡ length (only_defined n).sets
-only_known n all = all ∙ ap length (sym (take_all n.defined n.sets (omega (arith, all))))
 
 -- a log in which nothing was changed
 pub goes_nowhere : (segments : Segments) (may_leave : Segments → Type 0) (n : ReferenceTable) (offset : ℕ) → IsWritable segments may_leave n offset → GoesOn segments segments may_leave offset
@@ -219,12 +234,8 @@ pub still_writable : (old new : Segments) (was may_leave : Segments → Type 0) 
     → only_defined more ≡ only_defined n → IsWritable new may_leave (only_defined more) later
 still_writable old new was may_leave offset later n more w on undone = record {
   ends = on.ends;
-  defined =
-      subst (λ (m : ReferenceTable). AreDefined (entries_of page_size new) m) (sym undone)
-      (subst (λ (es : List Entry). AreDefined es (only_defined n)) (sym on.entries)
-      (subst (StandFor (entries_of page_size old) n.first) (sym (take-take n.defined n.defined n.sets (omega arith))) w.defined));
-  none_else = subst (λ (m : ReferenceTable). m.defined ≡ length m.sets) (sym undone) (only_known n w.none_else);
-  later = later_undone (entries_of page_size old) (entries_of page_size new) n more w.none_else undone on.entries w.later;
+  noted = noted_undone (entries_of page_size old) (entries_of page_size new) n more on.entries undone w.noted;
+  none_else = refl;
   synced = on.synced;
 }
 

@@ -1,5 +1,6 @@
 mod AdmittedLemmas
 mod CapacityLemmas
 mod KeptLemmas
+mod NotingLemmas
 mod RestoringLemmas
 mod WrittenLemmas

@@ -3,7 +3,7 @@ use Rattle.std.proofs.Common.{◌≡◌, ◌≢◌, ℕ, suc, ℤ, ◌+◌, ◌-
 use Rattle.std.specs.Prelude.{is_some, MatchOption}
 use Rattle.std.proofs.lemmas.List.{length_push, take_all, take-append-le}
 use Rattle.std.proofs.Math.Seq.{take-append_seam}
-use Rattle.rw_types.specs.Labels.{Labels, label_fault}
+use Rattle.rw_types.specs.Labels.{Labels, IsLabelSet, label_fault}
 use Rattle.rw_types.specs.LabelOrder.{labels_eq}
 use Rattle.rw_types.specs.inner.LabelOrder.{same_if_equal}
 use Rattle.rw_types.specs.Rising.{Rises}
@@ -13,6 +13,7 @@ use Rattle.rw_types.specs.declared.entry.Entry.TheVariants.{Def, Sample}
 use Rattle.rw_types.specs.declared.label_fault.LabelFault.{LabelFault}
 use Rattle.rw_types.specs.declared.label_fault.LabelFault.TheVariants.{OutOfMemory}
 use Rattle.rw_types.specs.declared.names.Names.{Names}
+use Rattle.rw_types.specs.declared.names.Names.TheVariants.{Legacy, Utf8}
 use Rattle.rw_wal_format.specs.Series.{labels_of, has_labels}
 use Rattle.rw_wal_format.proofs.shared.SeriesRows.{labels_of-push}
 use Rattle.rw_write_request.specs.Message.{TimeSeries, WriteRequest}
@@ -121,17 +122,12 @@ one_judged limits old new m v false is store if_one if_other = one_refused limit
 
 -- ---- entry by entry
 
-defined_next : (names : Names) (taken : List Entry) (lookup later : ℕ → Option (Option TimeSeries)) (store : Store) (reference : ℕ) (labels : Labels) → Defines names lookup later reference labels
+pub defined_next : (names : Names) (taken : List Entry) (lookup later : ℕ → Option (Option TimeSeries)) (store : Store) (reference : ℕ) (labels : Labels) → Defines names lookup later reference labels
     → IsRestored names taken lookup store → IsRestored names (taken ++ Def reference labels ∷ []) later store
 defined_next names taken lookup later store reference labels defining restored = record {
   known = λ r. subst (StandsFor names (later r)) (sym (labels_of-push taken (Def reference labels) r)) (defining r (labels_of taken r (length taken)) (restored.known r));
   says = λ l. restored.says l ∙ sym (no_sample taken reference labels l);
 }
-
-pub defined_under : (names other : Names) → names ≡ other → (taken : List Entry) (lookup later : ℕ → Option (Option TimeSeries)) (store : Store) (reference : ℕ) (labels : Labels) → Defines names lookup later reference labels
-    → IsRestored other taken lookup store → IsRestored other (taken ++ Def reference labels ∷ []) later store
-defined_under names other same taken lookup later store reference labels defining restored =
-    defined_next other taken lookup later store reference labels (subst (λ (n : Names). Defines n lookup later reference labels) same defining) restored
 
 said : (b : Bool) (n : ℕ) (p : ℤ × ℕ) → map without_position (cond b ((n, p.0, p.1) ∷ []) []) ≡ cond b (p ∷ []) []
 said true n p = refl
@@ -149,7 +145,7 @@ sampled_next names taken lookup later old new reference t w adds restored = reco
 }
 
 refused_next : (limits : LabelLimits) (taken : List Entry) (lookup : ℕ → Option (Option TimeSeries)) (store : Store) (reference : ℕ) (t : ℤ) (w : ℕ) (l : Labels) → labels_of taken reference (length taken) ≡ Some l
-    → CannotFollow limits store l (t, w) → IsRestored limits.names taken lookup store → MayHold limits (samples_of_labels (taken ++ Sample reference t w ∷ [])) → ⊥
+    → CannotFollow limits store l (t, w) → IsRestored Utf8 taken lookup store → MayHold limits (samples_of_labels (taken ++ Sample reference t w ∷ [])) → ⊥
 refused_next limits taken lookup store reference t w l is cannot restored may =
     let same : samples_of_labels (taken ++ Sample reference t w ∷ []) l ≡ list_of store l ++ (t, w) ∷ [] =
     samples_in-append l taken (Sample reference t w ∷ [])
@@ -160,8 +156,8 @@ refused_next limits taken lookup store reference t w l is cannot restored may =
     cannot (subst (Rises IsEarlier) same (may.rises l)) (may.within l (ap has_samples same ∙ push_has (list_of store l) (t, w)))
 
 pub sample_taken : (limits : LabelLimits) (taken : List Entry) (lookup later : ℕ → Option (Option TimeSeries)) (old new : Store) (reference : ℕ) (t : ℤ) (w : ℕ) (done : Bool)
-    → TakesSample limits old new lookup later reference (t, w) done → IsRestored limits.names taken lookup old → IsRestoredOrRefused limits (taken ++ Sample reference t w ∷ []) later new done
-sample_taken limits taken lookup later old new reference t w true takes restored = sampled_next limits.names taken lookup later old new reference t w takes restored
+    → TakesSample limits old new lookup later reference (t, w) done → IsRestored Utf8 taken lookup old → IsRestoredOrRefused limits (taken ++ Sample reference t w ∷ []) later new done
+sample_taken limits taken lookup later old new reference t w true takes restored = sampled_next Utf8 taken lookup later old new reference t w takes restored
 sample_taken limits taken lookup later old new reference t w false takes restored = λ may.
     let found = takes (labels_of taken reference (length taken)) (restored.known reference) in
     refused_next limits taken lookup old reference t w found.0 found.1 found.2 restored may
@@ -219,7 +215,7 @@ counted_next : (n m : ℕ) → n ≡ min m (2 ^ 64 - 1) → min (n + 1) (2 ^ 64 
 counted_next n m is = omega (arith, is)
 
 pub restoring_next : (taken : List Entry) (e : Entry) (lookup later : ℕ → Option (Option TimeSeries)) (old new : State) (accepted : ℕ) (refused done : Bool) → new.limits ≡ old.limits
-    → IsRestoring taken lookup old accepted refused → (IsRestored old.limits.names taken lookup old.store → IsRestoredOrRefused old.limits (taken ++ e ∷ []) later new.store done)
+    → IsRestoring taken lookup old accepted refused → (IsRestored Utf8 taken lookup old.store → IsRestoredOrRefused old.limits (taken ++ e ∷ []) later new.store done)
     → (MayHold old.limits (list_of old.store) → MayHold old.limits (list_of new.store)) → IsRestoring (taken ++ e ∷ []) later new (accepted_next accepted (refused || not done)) (refused || not done)
 restoring_next taken e lookup later old new accepted true done same r next held = record {
   restored = λ is. absurd cc;
@@ -229,7 +225,7 @@ restoring_next taken e lookup later old new accepted true done same r next held 
   first = λ is. subst (λ (limits : LabelLimits). IsRefusedAt limits (taken ++ e ∷ []) accepted) (sym same) (first_stays old.limits taken e accepted (r.first refl));
 }
 restoring_next taken e lookup later old new accepted false true same r next held = record {
-  restored = λ is. subst (λ (limits : LabelLimits). IsRestored limits.names (taken ++ e ∷ []) later new.store) (sym same) (next (r.restored refl));
+  restored = λ is. next (r.restored refl);
   refuses = λ is. absurd cc;
   holds = subst (λ (limits : LabelLimits). MayHold limits (list_of new.store)) (sym same) (held r.holds);
   all = λ is. counted_next accepted (length taken) (r.all refl) ∙ ap (λ (n : ℕ). min n (2 ^ 64 - 1)) (sym (length_push taken e));
@@ -252,10 +248,26 @@ pub is_faulty : (o : Option LabelFault) (f : LabelFault) → MatchOption o (f �
 is_faulty None f e other = absurd (other e)
 is_faulty (Some x) f e other = refl
 
-faulty_refused : (limits : LabelLimits) (l : Labels) → is_some (label_fault limits.names l) ≡ true → refusal limits l ≡ None → ⊥
-faulty_refused limits l bad none =
-    let e : ◌≡◌ {A = Option Verdict} (Some BadLabels) None = ap (λ (b : Bool). cond b (Some BadLabels) (cond (is_over_limits limits l) (Some OverLimit) None)) (sym bad) ∙ none in
-    cc
+-- what `utf8_takes_any_name` says
+abbrev pub TakesLegacy : Type 0
+TakesLegacy = (l : Labels) → IsLabelSet Legacy l → IsLabelSet Utf8 l
+
+any_names : TakesLegacy → (names : Names) (l : Labels) → IsLabelSet names l → IsLabelSet Utf8 l
+any_names law Legacy l set = law l set
+any_names law Utf8 l set = set
+
+not_faulty : (o : Option LabelFault) → is_some o ≡ false → o ≡ None
+not_faulty None e = refl
+not_faulty (Some f) e = absurd (let t : true ≡ false = e in cc)
+
+faulty_refused : TakesLegacy → (limits : LabelLimits) (l : Labels) → is_some (label_fault Utf8 l) ≡ true → refusal limits l ≡ None → ⊥
+faulty_refused law limits l bad none = by_test (is_some (label_fault limits.names l)) refl none
+  where
+    by_test : (b : Bool) → is_some (label_fault limits.names l) ≡ b → cond b (Some BadLabels) (cond (is_over_limits limits l) (Some OverLimit) None) ≡ None → ⊥
+    by_test true is e = let f : ◌≡◌ {A = Option Verdict} (Some BadLabels) None = e in cc
+    by_test false is e =
+        let good : is_some (label_fault Utf8 l) ≡ false = ap is_some (any_names law limits.names l (not_faulty (label_fault limits.names l) is)) in
+        cc
 
 defined_at : (names : Names) (labels : Labels) (o : Option TimeSeries) (b : Bool) (old : Option (Option TimeSeries)) (found : Option (List (List ℕ × List ℕ))) → IsSeriesOf names labels o → StandsFor names old found
     → StandsFor names (cond b (Some o) old) (cond b (Some labels) found)
@@ -272,18 +284,18 @@ defines_by names lookup later reference labels o of up = λ r found is.
 pub adds_none : (limits : LabelLimits) (store : Store) (lookup later : ℕ → Option (Option TimeSeries)) (reference : ℕ) (sample : ℤ × ℕ) → lookup reference ≡ None → ((q : ℕ) → later q ≡ lookup q)
     → TakesSample limits store store lookup later reference sample true
 adds_none limits store lookup later reference sample none same = record {
-  same = λ r found is. subst (λ (o : Option (Option TimeSeries)). StandsFor limits.names o found) (sym (same r)) is;
+  same = λ r found is. subst (λ (o : Option (Option TimeSeries)). StandsFor Utf8 o found) (sym (same r)) is;
   added = λ l found is.
-      let undefined : found ≡ None = subst (λ (o : Option (Option TimeSeries)). StandsFor limits.names o found) none is in
+      let undefined : found ≡ None = subst (λ (o : Option (Option TimeSeries)). StandsFor Utf8 o found) none is in
       sym (append-nil (list_of store l)) ∙ ap (λ (o : Option (List (List ℕ × List ℕ))). list_of store l ++ cond (has_labels l o) (sample ∷ []) []) (sym undefined);
 }
 
 -- a reference whose labels are no label set
-pub takes_none : (limits : LabelLimits) (old new : Store) (lookup later : ℕ → Option (Option TimeSeries)) (reference : ℕ) (sample : ℤ × ℕ) → lookup reference ≡ Some None
+pub takes_none : TakesLegacy → (limits : LabelLimits) (old new : Store) (lookup later : ℕ → Option (Option TimeSeries)) (reference : ℕ) (sample : ℤ × ℕ) → lookup reference ≡ Some None
     → TakesSample limits old new lookup later reference sample false
-takes_none limits old new lookup later reference sample bad = λ found is.
-    let k = subst (λ (o : Option (Option TimeSeries)). StandsFor limits.names o found) bad is in
-    (k.0, k.1, λ rises none. faulty_refused limits k.0 k.2 none)
+takes_none law limits old new lookup later reference sample bad = λ found is.
+    let k = subst (λ (o : Option (Option TimeSeries)). StandsFor Utf8 o found) bad is in
+    (k.0, k.1, λ rises none. faulty_refused law limits k.0 k.2 none)
 
 put_back : (names : Names) (lookup mid later : ℕ → Option (Option TimeSeries)) (reference r : ℕ) (s back : TimeSeries) (b : Bool) (found : Option (List (List ℕ × List ℕ))) → nat_eq reference r ≡ b
     → lookup reference ≡ Some (Some s) → back.labels ≡ s.labels → mid r ≡ cond b None (lookup r) → later r ≡ cond b (Some (Some back)) (mid r) → StandsFor names (lookup r) found → StandsFor names (later r) found
@@ -297,14 +309,14 @@ pub takes_by : (limits : LabelLimits) (old new : Store) (lookup mid later : ℕ 
     → ((q : ℕ) → mid q ≡ cond (nat_eq reference q) None (lookup q)) → ((q : ℕ) → later q ≡ cond (nat_eq reference q) (Some (Some back)) (mid q)) → back ≡ record { labels = s.labels; samples = (w, t) ∷ [] }
     → m ≡ back ∷ [] → AddsOne limits old new m done → TakesSample limits old new lookup later reference (t, w) done
 takes_by limits old new lookup mid later reference w t s back m true there out again is single adds = record {
-  same = λ r found was. put_back limits.names lookup mid later reference r s back (nat_eq reference r) found refl there (ap (λ (x : TimeSeries). x.labels) is) (out r) (again r) was;
+  same = λ r found was. put_back Utf8 lookup mid later reference r s back (nat_eq reference r) found refl there (ap (λ (x : TimeSeries). x.labels) is) (out r) (again r) was;
   added = λ l found was.
-      let named : found ≡ Some s.labels = subst (λ (o : Option (Option TimeSeries)). StandsFor limits.names o found) there was in
+      let named : found ≡ Some s.labels = subst (λ (o : Option (Option TimeSeries)). StandsFor Utf8 o found) there was in
       adds s.labels w t (single ∙ ap (λ (x : TimeSeries). x ∷ []) is) l
       ∙ ap (λ (o : Option (List (List ℕ × List ℕ))). list_of old l ++ cond (has_labels l o) ((t, w) ∷ []) []) (sym named);
 }
 takes_by limits old new lookup mid later reference w t s back m false there out again is single adds = λ found was.
-    let named : found ≡ Some s.labels = subst (λ (o : Option (Option TimeSeries)). StandsFor limits.names o found) there was in
+    let named : found ≡ Some s.labels = subst (λ (o : Option (Option TimeSeries)). StandsFor Utf8 o found) there was in
     (s.labels, named, adds s.labels w t (single ∙ ap (λ (x : TimeSeries). x ∷ []) is))
 
 -- the only one of a list is its last one

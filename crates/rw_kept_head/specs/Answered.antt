@@ -6,7 +6,7 @@ use Rattle.rw_head.specs.Head.{IsStatus, answer}
 use Rattle.rw_head.specs.Store.{list_of}
 use Rattle.rw_journal.specs.Journal.{Segments, LeavesOnly}
 use Rattle.rw_journal.specs.declared.journal.JournalError.{JournalError}
-use Rattle.rw_kept_head.specs.Kept.{Kept, KeepsStore, IsLeft}
+use Rattle.rw_kept_head.specs.Kept.{Kept, KeepsStore, IsLeft, StaysDefinedOnce}
 
 module _ {J : Type 0} (seen : J → Segments) (may_leave : J → Segments → Type 0) (moment : J → ℕ)
     (left_since : J → ℕ → Segments → Type 0) (tears : List ℕ → List ℕ → Type 0)
@@ -25,6 +25,7 @@ module _ {J : Type 0} (seen : J → Segments) (may_leave : J → Segments → Ty
         pub refused : status ≢ 204 → new.head.store ≡ old.head.store
         pub acknowledged : status ≡ 204 → KeepsHead new
         pub kept : new.fault ≡ None → KeepsHead new
+        pub once : new.fault ≡ None → StaysDefinedOnce (seen old.journal) (seen new.journal)
         pub any_moment : old.fault ≡ None
             → LeavesOnly moment left_since old.journal new.journal
             (IsLeft tears (answer old.head body).head.store (seen old.journal))

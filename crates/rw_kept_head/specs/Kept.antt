@@ -13,6 +13,7 @@ use Rattle.rw_journal.specs.declared.journal.JournalError.{JournalError}
 use Rattle.rw_journal.specs.Logs.{entries_of, IsWholeText}
 use Rattle.rw_journal.specs.TornLogs.{NoChance, last_of}
 use Rattle.rw_wal_append.specs.Additions.{samples_of_labels}
+use Rattle.rw_wal_append.specs.Definitions.{IsDefinedOnce}
 
 -- a head, the journal that has its log, the most pages of a segment, and the fault after which
 -- every request is answered 503
@@ -32,11 +33,16 @@ abbrev pub LiesBetween : Store → Store → Segments → Type 0
 LiesBetween old new left =
     (l : Labels) → Begins (list_of old l) (samples_of_labels (entries_of page_size left) l) × Begins (samples_of_labels (entries_of page_size left) l) (list_of new l)
 
--- bytes that were being written to the last segment of a log, so that it says what the store has:
--- a crash left a torn part of them
+-- if the first log defines each label set once, so does the second one
+abbrev pub StaysDefinedOnce : Segments → Segments → Type 0
+StaysDefinedOnce old new = IsDefinedOnce (entries_of page_size old) → IsDefinedOnce (entries_of page_size new)
+
+-- bytes that were being written to the last segment of a log, so that it says what the store has,
+-- and defines no label set again: a crash left a torn part of them
 pub record IsTornWrite (tears : List ℕ → List ℕ → Type 0) (new : Store) (base left : Segments) : Type 0 where
   pub written : List ℕ
   pub will : SaysWhat (with_more base written) new
+  pub once : StaysDefinedOnce base (with_more base written)
   pub torn : IsTornLog tears page_size (length (last_of base)) base written left
 
 -- What a crash leaves of a log while a head is about to hold a store: the segments as they were, or

@@ -1,5 +1,6 @@
 pub mod Admitted
 pub mod Answered
 pub mod Kept
+pub mod Lives
 pub mod Opening
 pub mod inner

@@ -11,7 +11,7 @@ ghost use Rattle.rw_head.specs.Capacity.{exceeds, status_of_admission, unlimited
 ghost use Rattle.rw_head.specs.Growth.{EachRises, HasStoredBody};
 ghost use Rattle.rw_head.specs.Head.{answer, IsStatus, SpellsMessage};
 ghost use Rattle.rw_head.specs.Store.{list_of, total};
-ghost use Rattle.rw_kept_head.specs.Kept.{SaysWhat, IsLeft};
+ghost use Rattle.rw_kept_head.specs.Kept.{SaysWhat, IsLeft, StaysDefinedOnce};
 
 use crate::log_writer::LogWriter;
 use rw_head::{Admission, Capacity, Head};
@@ -51,6 +51,8 @@ pub(crate) fn admit_kept<J: Journal>(
     ensures any_moment { log.old.fault ≡ None
         → LeavesOnly J.moment J.left_since log.old.journal log.new.journal
         (IsLeft J.tears (answer head body.now).head.store (J.seen log.old.journal)) }
+    ensures once { log.new.fault ≡ None
+        → StaysDefinedOnce (J.seen log.old.journal) (J.seen log.new.journal) }
     ensures closed { (e : JournalError) → log.old.fault ≡ Some e
         → (status_of_admission result.1 ≢ 204) × (log.new ≡ log.old) }
     ensures failed { log.new.fault ≡ Some Failed → (log.old.fault ≡ Some Failed)

@@ -11,7 +11,7 @@ ghost use Rattle.rw_head.specs.Capacity.{exceeds, status_of_admission, unlimited
 ghost use Rattle.rw_head.specs.Growth.{EachRises, HasStoredBody};
 ghost use Rattle.rw_head.specs.Head.{answer, IsStatus, SpellsMessage};
 ghost use Rattle.rw_head.specs.Store.{list_of, total};
-ghost use Rattle.rw_kept_head.specs.Kept.{KeepsStore, IsLastWithin, IsLeft};
+ghost use Rattle.rw_kept_head.specs.Kept.{KeepsStore, IsLastWithin, IsLeft, StaysDefinedOnce};
 
 use crate::answering::admit_kept;
 use crate::log_writer::LogWriter;
@@ -94,6 +94,10 @@ impl<J: Journal> KeptHead<J> {
             (IsLeft J.tears (answer self.old.head body.now).head.store (J.seen self.old.journal)) }
         ensures begins { (l : Labels) → Begins (list_of self.old.head.store l)
             (list_of (answer self.old.head body.now).head.store l) }
+
+        // No label set is defined again: the log defines each one once if it did so before.
+        ensures once { self.new.fault ≡ None
+            → StaysDefinedOnce (J.seen self.old.journal) (J.seen self.new.journal) }
 
         // No segment gets more pages than were asked for.
         ensures pages { self.new.pages ≡ self.old.pages }

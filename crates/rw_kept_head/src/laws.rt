@@ -1,6 +1,6 @@
 //! Laws of a head that is kept in a journal. Each function does nothing: its contract is the law.
 
-ghost use Rattle.std.specs.Prelude.{ℕ, List};
+ghost use Rattle.std.specs.Prelude.{◌≡◌, ℕ, suc, List, []};
 ghost use Rattle.std.specs.List.{AllByRecursion};
 ghost use Rattle.rw_types.specs.Beginnings.{Begins};
 ghost use Rattle.rw_types.specs.Labels.{Labels};
@@ -10,14 +10,17 @@ ghost use Rattle.rw_head.specs.Head.{State, answer};
 ghost use Rattle.rw_head.specs.Store.{Store, list_of};
 ghost use Rattle.rw_head.specs.Verdicts.{LabelLimits};
 ghost use Rattle.rw_journal.specs.Journal.{Segments};
-ghost use Rattle.rw_journal.specs.Logs.{IsWholeText};
+ghost use Rattle.rw_journal.specs.Logs.{entries_of, IsWholeText};
 ghost use Rattle.rw_wal_append.specs.Additions.{samples_of_labels};
 ghost use Rattle.rw_kept_head.specs.Admitted.{MayHold, IsAdmitted};
+ghost use Rattle.rw_wal_append.specs.Definitions.{IsDefinedOnce};
+ghost use Rattle.rw_kept_head.specs.Lives.{MayBecome};
 ghost use Rattle.rw_kept_head.specs.Opening.{HasSameEntries};
-ghost use Rattle.rw_kept_head.specs.Kept.{SaysWhat, LiesBetween, IsLeft, HasNoChance};
+ghost use Rattle.rw_kept_head.specs.Kept.{SaysWhat, LiesBetween, IsLeft, HasNoChance, StaysDefinedOnce};
 
 use rw_journal::Journal;
 use rw_journal::laws::segments_add_up;
+use rw_wal_append::laws::a_beginning_is_defined_once;
 
 /// Law: as a log goes on, the samples of each label set go on.
 pub fn samples_go_on()
@@ -36,6 +39,31 @@ pub fn what_is_left_lies_between<J: Journal>()
         → LiesBetween old new left }
 {
     segments_add_up();
+}
+
+/// Law: if a log defines each label set once, so does what a crash leaves of it while a request is
+/// answered, with the same premise, and while it is opened.
+pub fn what_is_left_is_defined_once<J: Journal>()
+    ensures answering { (new : Store) (segments left : Segments)
+        → AllByRecursion (IsWholeText page_size) segments
+        → (x : IsLeft J.tears new segments left) → HasNoChance J.tears new x.base left x.is
+        → StaysDefinedOnce segments left }
+    ensures opening { (segments left : Segments) → HasSameEntries segments left
+        → StaysDefinedOnce segments left }
+{
+    segments_add_up();
+    a_beginning_is_defined_once();
+}
+
+/// Law: a log that began without entries defines each label set once, over any number of lives,
+/// with the same premise for each crash.
+pub fn lives_define_each_label_set_once<J: Journal>()
+    ensures { (logs : ℕ → Segments) → entries_of page_size (logs 0) ≡ []
+        → ((at : ℕ) → MayBecome J.tears (logs at) (logs (suc at)))
+        → (at : ℕ) → IsDefinedOnce (entries_of page_size (logs at)) }
+{
+    segments_add_up();
+    a_beginning_is_defined_once();
 }
 
 /// Law: whatever a head is asked, it holds what a head with its limits may hold, if it did so

@@ -7,11 +7,14 @@ mod keep_error;
 mod kept_head;
 pub mod laws;
 mod log_writer;
+mod noting;
+mod oddities;
 mod open_error;
 mod opening;
 mod restoring;
 mod spelling;
 
 pub use kept_head::KeptHead;
+pub use oddities::Oddities;
 pub use open_error::OpenError;
 pub use opening::Opened;

@@ -10,7 +10,7 @@ ghost use Rattle.rw_wal_append.specs.Additions.{definition_entry};
 ghost use Rattle.rw_journal.specs.Logs.{entries_of, IsWholeText};
 ghost use Rattle.rw_wal_append.specs.Ends.{EndsAt};
 ghost use Rattle.rw_wal_append.specs.References.{only_defined};
-ghost use Rattle.rw_kept_head.specs.Kept.{SaysWhat, IsLastWithin, IsLeft};
+ghost use Rattle.rw_kept_head.specs.Kept.{SaysWhat, IsLastWithin, IsLeft, StaysDefinedOnce};
 ghost use Rattle.rw_kept_head.specs.inner.Inner.{IsWritable, IsWritten, GoesOn, Keeps};
 ghost use Rattle.rw_kept_head.specs.declared.keep_error.KeepError.TheVariants.{Unspelled, Journal};
 
@@ -105,6 +105,9 @@ fn write_added<J: Journal>(
     ensures written { OnOk result (IsWritten references.old references.new
         (entries_of page_size (J.seen journal.old)) (entries_of page_size (J.seen journal.new))) }
     ensures undone { IsErrOf result Unspelled → only_defined references.new ≡ references.old }
+    ensures once { OnOk result (StaysDefinedOnce (J.seen journal.old) (J.seen journal.new)) }
+    ensures once_unspelled { IsErrOf result Unspelled
+        → StaysDefinedOnce (J.seen journal.old) (J.seen journal.new) }
 {
     new_samples_are_read();
     let samples = collect(alloc, references, staged)?;
@@ -183,6 +186,8 @@ impl<J: Journal> LogWriter<J> {
             (entries_of page_size (J.seen self.new.journal)) }
         ensures forgotten { result ≡ false → self.new.fault ≡ None
             → self.new.references ≡ self.old.references }
+        ensures once { self.new.fault ≡ None
+            → StaysDefinedOnce (J.seen self.old.journal) (J.seen self.new.journal) }
     {
         let written = write_added(
             self.alloc,

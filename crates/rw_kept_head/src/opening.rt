@@ -2,10 +2,13 @@
 
 ghost use Rattle.std.specs.Prelude.{◌≡◌, ◌<◌, ◌≤◌, ◌^◌, ◌++◌, [], ◌∷◌, length, take, None, IfOk, OnOk, IfErr, IsErrOf};
 ghost use Rattle.rw_journal.specs.Journal.{on_last, Only, LeavesOnly};
+ghost use Rattle.rw_journal.specs.Logs.{entries_of};
 ghost use Rattle.rw_wal_append.specs.Ends.{EndsAt};
+ghost use Rattle.rw_wal_append.specs.References.{IsNoted};
+ghost use Rattle.rw_wal_format.specs.Pieces.{page_size};
 ghost use Rattle.rw_reopen.specs.Reopening.{IsEnd};
 ghost use Rattle.rw_reopen.specs.declared.error.ReopenError.TheVariants.{Failed};
-ghost use Rattle.rw_kept_head.specs.Kept.{SaysWhat, KeepsStore};
+ghost use Rattle.rw_kept_head.specs.Kept.{SaysWhat, KeepsStore, StaysDefinedOnce};
 ghost use Rattle.rw_head.specs.Store.{list_of};
 ghost use Rattle.rw_kept_head.specs.Admitted.{MayHold, label_limits};
 ghost use Rattle.rw_kept_head.specs.Opening.{HasForeignPlace, HasOpeningCause, HasSameEntries, IsRefusedRightly};
@@ -13,8 +16,10 @@ ghost use Rattle.rw_kept_head.specs.declared.open_error.OpenError.TheVariants.{L
 
 use crate::kept_head::KeptHead;
 use crate::log_writer::LogWriter;
+use crate::noting::note_all;
+use crate::oddities::Oddities;
 use crate::open_error::OpenError;
-use crate::restoring::Restoring;
+use crate::restoring::{RestoredParts, Restoring};
 use rw_head::{Head, Limits};
 use rw_journal::{Journal, close_torn};
 use rw_reopen::{LogEnd as ReadEnd, ReopenError, read_log};
@@ -26,23 +31,34 @@ use std::alloc::{AllocError, Global};
 /// The first reference that is not given: a log that has it is refused.
 const MAX_REFERENCE: u64 = 1 << 63;
 
-/// Reads a log, closes what a crash left of a write, and begins a next segment. Returns the head
-/// that the log says, and how the log ended.
+/// A log that was read: the head that it says, the references that it defines, how it ended, and
+/// what is odd of it.
+#[derive(Drop)]
+struct ReadLog {
+    head: Head,
+    references: References,
+    end: ReadEnd,
+    oddities: Oddities,
+}
+
+/// Reads a log, closes what a crash left of a write, and begins a next segment.
 fn open_log<J: Journal>(
     alloc: Global,
     limits: &Limits,
     journal: &mut J,
-) -> Result<(Head, ReadEnd), OpenError>
+) -> Result<ReadLog, OpenError>
     requires synced { Only (J.seen journal.old) (J.may_leave journal.old) }
-    ensures says { IfOk result (λ r. SaysWhat (J.seen journal.old) r.0.store) }
-    ensures says_still { IfOk result (λ r. SaysWhat (J.seen journal.new) r.0.store) }
-    ensures limits { IfOk result (λ r. r.0.limits ≡ label_limits limits.now) }
-    ensures busy { IfOk result (λ r. r.0.busy ≡ limits.now.busy_first) }
-    ensures holds { IfOk result (λ r. MayHold r.0.limits (list_of r.0.store)) }
-    ensures free { IfOk result (λ r. r.1.greatest < 2 ^ 63) }
-    ensures end { IfOk result (λ r. IsEnd (J.seen journal.old) r.1) }
+    ensures says { IfOk result (λ r. SaysWhat (J.seen journal.old) r.head.store) }
+    ensures says_still { IfOk result (λ r. SaysWhat (J.seen journal.new) r.head.store) }
+    ensures limits { IfOk result (λ r. r.head.limits ≡ label_limits limits.now) }
+    ensures busy { IfOk result (λ r. r.head.busy ≡ limits.now.busy_first) }
+    ensures holds { IfOk result (λ r. MayHold r.head.limits (list_of r.head.store)) }
+    ensures noted { IfOk result (λ r. IsNoted (entries_of page_size (J.seen journal.new))
+        r.references) }
+    ensures none_else { IfOk result (λ r. r.references.fresh ≡ []) }
+    ensures end { IfOk result (λ r. IsEnd (J.seen journal.old) r.end) }
     ensures segments { IfOk result (λ r. J.seen journal.new
-        ≡ on_last (take r.1.whole) (J.seen journal.old) ++ [] ∷ []) }
+        ≡ on_last (take r.end.whole) (J.seen journal.old) ++ [] ∷ []) }
     ensures entries { OnOk result (HasSameEntries (J.seen journal.old) (J.seen journal.new)) }
     ensures ends { IfOk result (λ r. EndsAt (J.seen journal.new) 0) }
     ensures synced { IfOk result (λ r. Only (J.seen journal.new) (J.may_leave journal.new)) }
@@ -57,14 +73,27 @@ fn open_log<J: Journal>(
     let mut restoring = Restoring::new(alloc, limits);
     let end = read_log(journal, alloc, &mut restoring)?;
     let accepted = restoring.accepted();
-    let Some(head) = restoring.into_head() else {
+    let Some(parts) = restoring.into_parts() else {
         return Err(OpenError::Foreign(accepted));
     };
     if end.greatest >= MAX_REFERENCE {
         return Err(OpenError::NoReferenceLeft);
     }
+    let RestoredParts {
+        head,
+        series,
+        mut oddities,
+    } = parts;
+    let Ok(references) = note_all(alloc, series, end.greatest + 1, &mut oddities) else {
+        return Err(OpenError::Log(ReopenError::OutOfMemory));
+    };
     close_torn(journal, end.whole)?;
-    Ok((head, end))
+    Ok(ReadLog {
+        head,
+        references,
+        end,
+        oddities,
+    })
 }
 
 /// Returns limits that make the same heads as these.
@@ -87,6 +116,8 @@ pub struct Opened<J: Journal> {
     pub segments: usize,
     /// How the log ended: what a crash had left of a write, which was cut off, and where.
     pub end: ReadEnd,
+    /// How often the log has what a log that began with this version never has.
+    pub oddities: Oddities,
 }
 
 impl<J: Journal> KeptHead<J> {
@@ -125,6 +156,10 @@ impl<J: Journal> KeptHead<J> {
         ensures segments { IfOk result (λ o. J.seen o.kept.journal
             ≡ on_last (take o.end.whole) (J.seen journal) ++ [] ∷ []) }
 
+        // The log defines each label set once if it did so before; so it does after each `admit`.
+        ensures once { IfOk result
+            (λ o. StaysDefinedOnce (J.seen journal) (J.seen o.kept.journal)) }
+
         // A crash at any moment leaves a log with the same entries, also if it is not opened.
         ensures any_moment { IfOk result (λ o. LeavesOnly J.moment J.left_since journal
             o.kept.journal (HasSameEntries (J.seen journal))) }
@@ -148,11 +183,17 @@ impl<J: Journal> KeptHead<J> {
             Err(_) => return Err((OpenError::Log(ReopenError::OutOfMemory), journal)),
         };
         match open_log(alloc, limits, &mut journal) {
-            Ok((head, end)) => {
+            Ok(read) => {
+                let ReadLog {
+                    head,
+                    references,
+                    end,
+                    oddities,
+                } = read;
                 let log = LogWriter {
                     alloc,
                     journal,
-                    references: References::new(alloc, end.greatest + 1),
+                    references,
                     end: LogEnd::new(pages),
                     pages,
                     fault: None,
@@ -168,6 +209,7 @@ impl<J: Journal> KeptHead<J> {
                     kept,
                     segments,
                     end,
+                    oddities,
                 })
             }
             Err(error) => Err((error, journal)),

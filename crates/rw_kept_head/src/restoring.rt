@@ -4,17 +4,20 @@ ghost use Rattle.std.specs.Prelude.{◌≡◌, ◌≢◌, ◌∷◌, ◌++◌, [
 ghost use Rattle.std.specs.HashMap.{get};
 ghost use Rattle.rw_types.specs.Labels.{Labels, text_label};
 ghost use Rattle.rw_types.specs.declared.entry.Entry.{Entry};
+ghost use Rattle.rw_types.specs.declared.names.Names.TheVariants.{Utf8};
 ghost use Rattle.rw_wal_append.specs.Additions.{samples_of_labels};
 ghost use Rattle.rw_head.specs.declared.verdict.Verdict.TheVariants.{Stored};
 ghost use Rattle.rw_head.specs.Store.{list_of};
 ghost use Rattle.rw_kept_head.specs.Admitted.{MayHold, IsRefusedAt, label_limits};
+ghost use Rattle.rw_kept_head.specs.inner.Noting.{AreNames};
 ghost use Rattle.rw_kept_head.specs.inner.Restoring.{accepted_next, AddsOne, Defines, TakesSample, IsRestored, IsRestoredOrRefused, IsSeriesOf};
 
+use crate::oddities::Oddities;
 use indexmap::IndexMap;
 use rw_head::{Head, Limits, Verdict};
 use rw_history::History;
 use rw_reopen::EntrySink;
-use rw_types::{Entry, LabelFault, LabelSet, Names, RawLabels, Word};
+use rw_types::{Entry, LabelFault, LabelSet, Names, RawLabels, Word, utf8_takes_any_name};
 use rw_write_request::{Message, Series};
 use std::alloc::{AllocError, Global};
 use std::marker::Model;
@@ -31,14 +34,10 @@ fn copy_of(alloc: Global, labels: &[(String, String)]) -> Result<Vec<(String, St
 }
 
 /// Returns a series with these labels and no samples; `None` if they are not a label set.
-fn empty_series(
-    alloc: Global,
-    names: Names,
-    labels: &RawLabels,
-) -> Result<Option<Series>, AllocError>
-    ensures { IfOk result (IsSeriesOf names labels.now) }
+fn empty_series(alloc: Global, labels: &RawLabels) -> Result<Option<Series>, AllocError>
+    ensures { IfOk result (IsSeriesOf Utf8 labels.now) }
 {
-    let set = match LabelSet::check_as(alloc, names, labels) {
+    let set = match LabelSet::check_as(alloc, Names::Utf8, labels) {
         Ok(set) => set,
         Err(LabelFault::OutOfMemory) => return Err(AllocError),
         Err(_) => return Ok(None),
@@ -87,21 +86,20 @@ fn append_one(head: &mut Head, message: &Message) -> Result<bool, AllocError>
     }
 }
 
-/// Takes a definition. If its labels are not a label set, the head cannot hold samples of the
-/// reference.
+/// Takes a definition, and returns whether the reference had none. If its labels are not a label
+/// set, no head can hold samples of the reference.
 fn define(
     alloc: Global,
-    names: Names,
     series: &mut IndexMap<u64, Option<Series>>,
     reference: u64,
     labels: &RawLabels,
-) -> Result<(), AllocError>
-    ensures { OnOk result (Defines names (λ n. get nat_eq series.old n)
+) -> Result<bool, AllocError>
+    ensures { OnOk result (Defines Utf8 (λ n. get nat_eq series.old n)
         (λ n. get nat_eq series.new n) reference labels.now) }
 {
-    let found = empty_series(alloc, names, labels)?;
-    series.insert(reference, found)?;
-    Ok(())
+    let found = empty_series(alloc, labels)?;
+    let before = series.insert(reference, found)?;
+    Ok(before.is_none())
 }
 
 /// Takes a sample, and returns whether the head appended it. One without a definition is passed
@@ -110,6 +108,7 @@ fn add_sample(
     head: &mut Head,
     series: &mut IndexMap<u64, Option<Series>>,
     message: &mut Message,
+    oddities: &mut Oddities,
     reference: u64,
     sample: (i64, Word),
 ) -> Result<bool, AllocError>
@@ -120,7 +119,9 @@ fn add_sample(
     ensures limits { head.new.limits ≡ head.old.limits }
     ensures busy { head.new.busy ≡ head.old.busy }
 {
+    utf8_takes_any_name();
     let Some(known) = series.swap_remove(&reference) else {
+        oddities.pass_over();
         return Ok(true);
     };
     let Some(mut found) = known else {
@@ -141,14 +142,13 @@ fn add_sample(
 fn take_entry(
     alloc: Global,
     head: &mut Head,
-    names: Names,
     series: &mut IndexMap<u64, Option<Series>>,
     message: &mut Message,
+    oddities: &mut Oddities,
     entry: &Entry,
 ) -> Result<bool, AllocError>
-    requires names { names ≡ head.old.limits.names }
     ensures done { IfOk result (λ done. (taken : List Entry)
-        → IsRestored head.old.limits.names taken (λ n. get nat_eq series.old n) head.old.store
+        → IsRestored Utf8 taken (λ n. get nat_eq series.old n) head.old.store
         → IsRestoredOrRefused head.old.limits (taken ++ entry.now ∷ [])
         (λ n. get nat_eq series.new n) head.new.store done) }
     ensures held { OnOk result (MayHold head.old.limits (list_of head.old.store)
@@ -158,11 +158,12 @@ fn take_entry(
 {
     match entry {
         Entry::Def { reference, labels } => {
-            define(alloc, names, series, *reference, labels)?;
+            let first = define(alloc, series, *reference, labels)?;
+            oddities.count_definition(first);
             Ok(true)
         }
         Entry::Sample { reference, t, word } => {
-            let done = add_sample(head, series, message, *reference, (*t, *word))?;
+            let done = add_sample(head, series, message, oddities, *reference, (*t, *word))?;
             Ok(done)
         }
     }
@@ -186,6 +187,14 @@ fn count_accepted(accepted: u64, refused: bool) -> u64
     }
 }
 
+/// What the entries of a log say: the head, the series of each reference, and what is odd of them.
+#[derive(Drop)]
+pub(crate) struct RestoredParts {
+    pub(crate) head: Head,
+    pub(crate) series: IndexMap<u64, Option<Series>>,
+    pub(crate) oddities: Oddities,
+}
+
 /// Makes the head that a log says, as its entries come. Contracts see the entries, what the head
 /// holds, whether an entry was refused, and whether memory ran out.
 #[derive(Drop)]
@@ -193,9 +202,9 @@ pub(crate) struct Restoring {
     alloc: Global,
     taken: History<Entry>,
     head: Head,
-    names: Names,
     series: IndexMap<u64, Option<Series>>,
     message: Message,
+    oddities: Oddities,
     /// How many entries came before the first one that was refused.
     accepted: u64,
     /// Whether there is an entry that no head like this one was given.
@@ -223,8 +232,8 @@ impl Model for Restoring {
       failed = r.failed;
     } };
 
-    ghost invariant = { λ r. (r.names ≡ r.head.limits.names) × (r.failed ≡ false
-        → IsRestoring r.taken (λ n. get nat_eq r.series n) r.head r.accepted r.refused) };
+    ghost invariant = { λ r. r.failed ≡ false
+        → IsRestoring r.taken (λ n. get nat_eq r.series n) r.head r.accepted r.refused };
 }
 
 impl Restoring {
@@ -239,11 +248,11 @@ impl Restoring {
             alloc,
             taken: History::new(),
             head: Head::new(alloc, limits),
-            names: limits.names,
             series: IndexMap::new(alloc),
             message: Message {
                 series: Vec::new(alloc),
             },
+            oddities: Oddities::none(),
             accepted: 0,
             refused: false,
             failed: false,
@@ -257,13 +266,14 @@ impl Restoring {
         self.accepted
     }
 
-    /// Returns the head, which holds what the entries say; `None` if one of them was refused.
-    pub(crate) fn into_head(self) -> Option<Head>
+    /// Returns what the entries say; `None` if one of them was refused.
+    pub(crate) fn into_parts(self) -> Option<RestoredParts>
         requires whole { self.failed ≡ false }
-        ensures says { IfSome result (λ h. (l : Labels)
-            → list_of h.store l ≡ samples_of_labels self.taken l) }
-        ensures holds { IfSome result (λ h. MayHold h.limits (list_of h.store)) }
-        ensures same { IfSome result (λ h. h ≡ self.head) }
+        ensures says { IfSome result (λ p. (l : Labels)
+            → list_of p.head.store l ≡ samples_of_labels self.taken l) }
+        ensures holds { IfSome result (λ p. MayHold p.head.limits (list_of p.head.store)) }
+        ensures same { IfSome result (λ p. p.head ≡ self.head) }
+        ensures known { IfSome result (λ p. AreNames self.taken p.series.entries) }
         ensures refused { result ≡ None → MayHold self.head.limits (samples_of_labels self.taken)
             → ⊥ }
         ensures first { result ≡ None → IsRefusedAt self.head.limits self.taken self.accepted }
@@ -272,14 +282,22 @@ impl Restoring {
             alloc: _,
             taken: _,
             head,
-            names: _,
-            series: _,
+            series,
             message: _,
+            oddities,
             accepted: _,
             refused,
             failed: _,
         } = self;
-        if refused { None } else { Some(head) }
+        let _count = series.len();
+        if refused {
+            return None;
+        }
+        Some(RestoredParts {
+            head,
+            series,
+            oddities,
+        })
     }
 }
 
@@ -302,9 +320,9 @@ impl EntrySink for Restoring {
         let done = take_entry(
             self.alloc,
             &mut self.head,
-            self.names,
             &mut self.series,
             &mut self.message,
+            &mut self.oddities,
             &entry,
         )?;
         self.taken.push(&entry);

@@ -1,3 +1,6 @@
+mod HeaderLemmas
 mod ReadingLemmas
+mod RecordAtLemmas
 mod Runs
+mod WalkLemmas
 pub mod shared

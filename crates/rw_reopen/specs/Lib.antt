@@ -1,4 +1,5 @@
 pub mod Errors
 pub mod Reading
+pub mod Records
 pub mod Reopening
 pub mod inner

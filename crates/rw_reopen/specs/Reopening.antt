@@ -1,5 +1,5 @@
 -- How a log is opened after a crash.
-use Rattle.std.specs.Prelude.{◌≡◌, ℕ, ◌<◌, ◌≤◌, List, [], length, drop, get_or}
+use Rattle.std.specs.Prelude.{◌≡◌, ℕ, ◌+◌, ◌<◌, ◌≤◌, List, [], length, drop, get_or}
 use Rattle.rw_journal.specs.Journal.{Segments, Only, LeavesOnly}
 use Rattle.rw_journal.specs.Torn.{end_of_page}
 use Rattle.rw_wal_format.specs.Pieces.{page_size}
@@ -7,6 +7,7 @@ use Rattle.rw_wal_tail.specs.Places.{stop_offset}
 use Rattle.rw_journal.specs.Logs.{entries_of, IsCleanCut}
 use Rattle.rw_journal.specs.TornLogs.{last_of}
 use Rattle.rw_reopen.specs.Reading.{HasFault, greatest_after}
+use Rattle.rw_reopen.specs.Records.{FollowsFault}
 use Rattle.rw_reopen.specs.declared.error.Damage.{Damage}
 use Rattle.rw_reopen.specs.declared.error.ReopenError.{ReopenError}
 use Rattle.rw_reopen.specs.declared.error.ReopenError.TheVariants.{OutOfMemory, Failed, Damaged}
@@ -18,10 +19,12 @@ pub record IsSegmentCut (text : List ℕ) (at : ℕ) : Type 0 where
   pub clean : IsCleanCut page_size text at
   pub in_page : at < length text → length text ≤ end_of_page page_size (stop_offset page_size text)
 
--- a segment of the log has this fault, there
+-- A segment of the log has this fault, there. If it is the last one it goes on after the page in
+-- which reading stops, so no crash left it.
 pub record IsDamage (segments : Segments) (d : Damage) : Type 0 where
   pub within : d.place.segment < length segments
   pub has : HasFault (get_or segments d.place.segment []) d.fault d.place.offset
+  pub goes_on : d.place.segment + 1 ≡ length segments → end_of_page page_size d.place.offset < length (get_or segments d.place.segment [])
 
 -- the log is said to be damaged only if it has that damage
 abbrev pub HasDamage : Segments → ReopenError → Type 0
@@ -34,10 +37,12 @@ IsDamaged OutOfMemory = ⊥
 IsDamaged Failed = ⊥
 IsDamaged (Damaged d) = Unit {0}
 
--- how a log ends: where its last segment is cut, what is cut off, and its greatest reference
+-- how a log ends: where its last segment is cut, what is cut off, whether a whole record follows
+-- the fault at which reading stops, and its greatest reference
 pub record IsEnd (segments : Segments) (end : LogEnd) : Type 0 where
   pub cut : IsSegmentCut (last_of segments) end.whole
   pub torn : end.torn.items ≡ drop end.whole (last_of segments)
+  pub follows : FollowsFault (last_of segments) end.follows
   pub greatest : end.greatest ≡ greatest_after 0 (entries_of page_size segments)
 
 -- A journal was read, and not changed: all of it is synced, and a crash at any moment leaves it as

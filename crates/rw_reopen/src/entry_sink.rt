@@ -3,7 +3,6 @@
 ghost use Rattle.std.specs.Prelude.{◌≡◌, ◌++◌, ◌∷◌, [], List, OnOk};
 ghost use Rattle.rw_types.specs.declared.entry.Entry.{Entry};
 
-use rw_history::History;
 use rw_types::Entry;
 use std::alloc::AllocError;
 
@@ -21,23 +20,4 @@ pub trait EntrySink {
     fn take(&mut self, entry: Entry) -> Result<(), AllocError>
         ensures taken { OnOk result (taken self.new ≡ taken self.old ++ entry ∷ []) }
         ensures fixed { OnOk result (Self.fixed self.new ≡ Self.fixed self.old) };
-}
-
-/// Drops the entries that it takes. Only contracts see them.
-#[derive(Drop)]
-pub(crate) struct Discard {
-    pub(crate) past: History<Entry>,
-}
-
-impl EntrySink for Discard {
-    ghost taken = { λ d. d.past };
-
-    ghost Fixed = { Unit {0} };
-
-    ghost fixed = { λ _. tt };
-
-    fn take(&mut self, entry: Entry) -> Result<(), AllocError> {
-        self.past.push(&entry);
-        Ok(())
-    }
 }

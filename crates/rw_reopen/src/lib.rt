@@ -7,6 +7,7 @@ mod entry_sink;
 mod error;
 mod opening;
 mod reading;
+mod records;
 mod walking;
 
 pub use entry_sink::EntrySink;

@@ -14,6 +14,7 @@ use crate::cutting::{damage_error, find_cut};
 use crate::entry_sink::EntrySink;
 use crate::error::ReopenError;
 use crate::reading::read_segment;
+use crate::records::find_after_fault;
 use rw_journal::{Journal, close_torn};
 use std::alloc::Global;
 
@@ -24,6 +25,9 @@ pub struct LogEnd {
     pub whole: usize,
     /// The bytes after that place, which a crash left of a write.
     pub torn: Vec<u8>,
+    /// Where the first whole record after the fault at which reading stops begins, if there is
+    /// one. Then the fault may be damage, and what is cut off may have been acknowledged.
+    pub follows: Option<usize>,
     /// The greatest reference that the log defines; 0 if it defines none.
     pub greatest: u64,
 }
@@ -51,7 +55,7 @@ fn read_earlier<J: Journal, S: EntrySink>(
     count: usize,
 ) -> Result<(), ReopenError>
     requires synced { Only (J.seen journal.old) (J.may_leave journal.old) }
-    requires within { count ≤ length (J.seen journal.old) }
+    requires within { count < length (J.seen journal.old) }
     ensures entries { OnOk result (S.taken sink.new
         ≡ S.taken sink.old ++ entries_of page_size (take count (J.seen journal.old))) }
     ensures greatest { OnOk result (greatest.new
@@ -75,18 +79,19 @@ fn read_earlier<J: Journal, S: EntrySink>(
     Ok(())
 }
 
-/// Reads the last segment, and returns where it is to be cut, and the bytes after that place.
+/// Reads the last segment. Returns where it is to be cut, the bytes after that place, and where a
+/// whole record after its fault begins.
 fn read_last<J: Journal, S: EntrySink>(
     journal: &mut J,
     alloc: Global,
     sink: &mut S,
     greatest: &mut u64,
     segment: usize,
-) -> Result<(usize, Vec<u8>), ReopenError>
+) -> Result<(usize, Vec<u8>, Option<usize>), ReopenError>
     requires synced { Only (J.seen journal.old) (J.may_leave journal.old) }
     requires within { segment < length (J.seen journal.old) }
     ensures read { IfOk result (λ r. IsLast (get_or (J.seen journal.old) segment []) r.0
-        r.1.items (S.taken sink.old) (S.taken sink.new) greatest.old greatest.new) }
+        r.1.items r.2 (S.taken sink.old) (S.taken sink.new) greatest.old greatest.new) }
     ensures fixed { OnOk result (S.fixed sink.new ≡ S.fixed sink.old) }
     ensures journal { IsOnlyRead J.seen J.may_leave J.moment J.left_since J.faults journal.old
         journal.new }
@@ -96,9 +101,10 @@ fn read_last<J: Journal, S: EntrySink>(
 {
     let text = load(journal, alloc, segment)?;
     let read = read_segment(alloc, &text, sink, greatest)?;
-    let at = find_cut(alloc, &text, &read, segment)?;
+    let at = find_cut(&text, &read, segment)?;
+    let follows = find_after_fault(&text, &read);
     let torn = text[at..].to_vec(alloc)?;
-    Ok((at, torn))
+    Ok((at, torn, follows))
 }
 
 /// Reads a log again after a crash, and lets its entries be taken. Nothing is changed.
@@ -107,7 +113,7 @@ fn read_last<J: Journal, S: EntrySink>(
 /// of the bytes that it cuts, which are `torn`.
 ///
 /// `Damaged` is returned if a segment before the last one is not whole, or if the last one goes on
-/// after the page in which reading stops: no crash leaves such a log.
+/// after the page in which reading stops, and only then: no crash leaves such a log.
 pub fn read_log<J: Journal, S: EntrySink>(
     journal: &mut J,
     alloc: Global,
@@ -136,15 +142,17 @@ pub fn read_log<J: Journal, S: EntrySink>(
         return Ok(LogEnd {
             whole: 0,
             torn: Vec::new(alloc),
+            follows: None,
             greatest: 0,
         });
     }
     let mut greatest = 0;
     read_earlier(journal, alloc, sink, &mut greatest, count - 1)?;
-    let (whole, torn) = read_last(journal, alloc, sink, &mut greatest, count - 1)?;
+    let (whole, torn, follows) = read_last(journal, alloc, sink, &mut greatest, count - 1)?;
     Ok(LogEnd {
         whole,
         torn,
+        follows,
         greatest,
     })
 }

@@ -117,13 +117,13 @@ module _ {J : Type 0} (seen : J → Segments) (may_leave : J → Segments → Ty
 
   started : (limits : LabelLimits) (n : ℕ) (left : Segments) (new : Kept J) → IsOpenedFrom seen may_leave moment left_since tears limits n left new → Started limits left new
   started limits zero left new (j, disk, opened) = record {
-    says = subst (λ (s : Segments). SaysWhat s new.head.store) disk.0 opened.says;
+    says = subst (λ (s : Segments). SaysWhat s new.head.store) disk opened.says;
     keeps = opened.kept;
     limits_are = opened.limits_are;
   }
   started limits (suc n) left new (j, ended, again, disk, leaves, is, opened) =
       let later = started limits n again new opened in record {
-        says = λ l. later.says l ∙ ap (λ (es : List Entry). samples_of_labels es l) (leaves.each again is) ∙ ap (λ (s : Segments). samples_of_labels (entries_of page_size s) l) disk.0;
+        says = λ l. later.says l ∙ ap (λ (es : List Entry). samples_of_labels es l) (leaves.each again is) ∙ ap (λ (s : Segments). samples_of_labels (entries_of page_size s) l) disk;
         keeps = later.keeps;
         limits_are = later.limits_are;
       }

@@ -19,7 +19,7 @@ use Rattle.rw_endpoint.specs.declared.finding.Finding.TheVariants.{Body}
 use Rattle.rw_machine.specs.Worlds.{Setup}
 use Rattle.rw_machine.specs.declared.event.How.{How}
 use Rattle.rw_machine.specs.declared.event.How.TheVariants.{Plain, Busy, OutOfMemory}
-use Rattle.rw_journal.specs.Journal.{Segments, Only, LeavesOnly}
+use Rattle.rw_journal.specs.Journal.{Segments, LeavesOnly}
 use Rattle.rw_journal.specs.Logs.{entries_of}
 use Rattle.rw_journal.specs.declared.journal.JournalError.{JournalError}
 use Rattle.rw_wal_append.specs.Additions.{samples_of_labels}
@@ -74,10 +74,12 @@ module _ {J : Type 0} (seen : J → Segments) (may_leave : J → Segments → Ty
       pub limits_are : new.head.limits ≡ limits
 
     -- ---- a start
-    -- The premise on the disk: the folder that is opened has what the crash left, and what is read
-    -- there is synced.
+    -- The premise on the disk: the folder that is opened has what the crash left. That it stays so
+    -- is no premise: `KeptHead::open` asks for it (`synced`), and `open_journal` ensures it, since
+    -- it writes anew what it has read. If there is a crash before it has done so, what is left then
+    -- is also something that the crash before it may have left, and is meant here.
     abbrev pub IsOnDisk : Segments → J → Type 0
-    IsOnDisk left journal = (seen journal ≡ left) × Only (seen journal) (may_leave journal)
+    IsOnDisk left journal = seen journal ≡ left
 
     -- The head was opened from these segments, after n crashes while it was being opened.
     abbrev pub IsOpenedFrom : LabelLimits → ℕ → Segments → Kept J → Type 0

@@ -63,8 +63,9 @@ pub fn a_kept_receiver_is_such_a_receiver<J: Journal>()
 
 /// Law: what a receiver with a journal was asked between a start and an end that was no crash came
 /// to it one request after the other, as the events of such a receiver do. That its head was asked
-/// these questions in this order, and nothing else, is what `SharedHead::gather` ensures; that each
-/// is the body that the endpoint read in a request is what `serve` ensures (`AreServed`).
+/// these questions in this order, and nothing else, is what `SharedHead::gather` ensures. That each
+/// is the body that the endpoint read in a request (`AreServed`) is a premise: `serve` ensures it
+/// of a connection whose bytes are known in advance, and those of a TCP connection are not.
 pub fn a_served_receiver_is_asked_in_order<J: Journal>()
     ensures { (c : Setup) (runs : List RunOfWorkers) (requests : List ServedRequest)
         (first last : Kept J) (acknowledged : Store) → ServesInOrder J.seen J.may_leave J.moment

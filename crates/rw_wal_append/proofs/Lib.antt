@@ -1,3 +1,4 @@
 mod PlaceLemmas
 mod ReferenceLemmas
+mod TableLemmas
 pub mod shared

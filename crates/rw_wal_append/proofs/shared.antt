@@ -1,2 +1,3 @@
 pub mod AdditionLemmas
+pub mod DefinitionLemmas
 pub mod HoldLemmas

@@ -1,4 +1,5 @@
 pub mod Additions
+pub mod Definitions
 pub mod Ends
 pub mod References
 pub mod inner

@@ -3,6 +3,7 @@
 
 ghost use Rattle.std.specs.Prelude.{◌≡◌, ◌++◌, [], ◌∷◌, ℕ, List, Some, length, ℤ, map};
 ghost use Rattle.std.specs.List.{AllByRecursion};
+ghost use Rattle.rw_types.specs.Beginnings.{Begins};
 ghost use Rattle.rw_types.specs.Labels.{Labels};
 ghost use Rattle.rw_types.specs.declared.entry.Entry.{Entry};
 ghost use Rattle.rw_types.specs.declared.entry.Entry.TheVariants.{Def};
@@ -13,7 +14,8 @@ ghost use Rattle.rw_journal.specs.Journal.{Segments};
 ghost use Rattle.rw_journal.specs.Logs.{IsWholeText};
 ghost use Rattle.rw_journal.specs.TornLogs.{AllBefore};
 ghost use Rattle.rw_wal_append.specs.Additions.{Addition, samples_of_labels, added_entries, samples_of_additions, AreNamed, definition_entry};
-ghost use Rattle.rw_wal_append.specs.References.{ReferenceTable, AreDefined, AreReferenced, points_of, undefined};
+ghost use Rattle.rw_wal_append.specs.Definitions.{IsDefinedOnce};
+ghost use Rattle.rw_wal_append.specs.References.{ReferenceTable, all_defined, AreReferenced, IsNoted, IsTable, points_of, undefined};
 ghost use Rattle.rw_wal_append.specs.Ends.{EndsAt};
 
 /// Law: if the reference of each addition stands for its label set, the log with the added samples
@@ -34,16 +36,25 @@ pub fn definitions_give_names()
 {}
 
 /// Law: if a log gets the definitions that it does not have, and then samples of these references,
-/// it has all definitions, and of each label set the samples that it had, and then the new ones.
+/// it has all definitions, and of each label set the samples that it had, and then the new ones. If
+/// it defined each label set once, it does so after.
 pub fn new_samples_are_read()
     ensures defined { (es : List Entry) (n : ReferenceTable) (samples : List (ℕ × ℤ × ℕ))
-        → AreDefined es n
-        → AreDefined (es ++ map definition_entry (undefined n) ++ map sample_entry samples)
-        (record n { defined = length n.sets }) }
+        → IsNoted es n → IsTable n
+        → IsNoted (es ++ map definition_entry (undefined n) ++ map sample_entry samples)
+        (all_defined n) }
     ensures samples { (es : List Entry) (n : ReferenceTable) (samples : List (ℕ × ℤ × ℕ)) (l : Labels)
-        → AreDefined es n → AreReferenced n samples
+        → IsNoted es n → IsTable n → AreReferenced n samples
         → samples_of_labels (es ++ map definition_entry (undefined n) ++ map sample_entry samples) l
         ≡ samples_of_labels es l ++ points_of n l samples }
+    ensures once { (es : List Entry) (n : ReferenceTable) (samples : List (ℕ × ℤ × ℕ))
+        → IsNoted es n → IsTable n → IsDefinedOnce es → IsDefinedOnce
+        (es ++ map definition_entry (undefined n) ++ map sample_entry samples) }
+{}
+
+/// Law: if a log defines each label set once, so does each beginning of it.
+pub fn a_beginning_is_defined_once()
+    ensures { (es fs : List Entry) → Begins es fs → IsDefinedOnce fs → IsDefinedOnce es }
 {}
 
 /// Law: a log with an empty last segment ends at 0, if each segment before it ends between two

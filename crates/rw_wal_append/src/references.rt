@@ -1,12 +1,15 @@
 //! The references that stand for label sets in a log that is being written.
 
-ghost use Rattle.std.specs.Prelude.{◌≡◌, ℕ, ◌+◌, ◌≤◌, ◌<◌, ◌^◌, ◌++◌, [], length, slice_get, Some, None, IfSome, IfOk, OnOk, OnErr, if◌then◌else◌};
-ghost use Rattle.rw_types.specs.Labels.{Labels};
+ghost use Rattle.std.specs.Prelude.{◌≡◌, ◌≢◌, ℕ, ◌≤◌, ◌<◌, ◌^◌, ◌++◌, [], Some, None, IfSome, IfOk, OnOk, OnErr, if◌then◌else◌};
+ghost use Rattle.std.specs.List.{AllByRecursion};
+ghost use Rattle.rw_types.specs.Labels.{Labels, IsLabelSet};
+ghost use Rattle.rw_types.specs.declared.names.Names.TheVariants.{Utf8};
 ghost use Rattle.rw_types.specs.LabelOrder.{labels_eq};
-ghost use Rattle.rw_wal_append.specs.References.{Grows, labels_at, only_defined, undefined, AreReferenced, points_of};
+ghost use Rattle.rw_wal_append.specs.Definitions.{IsOneOf};
+ghost use Rattle.rw_wal_append.specs.References.{all_defined, AreReferenced, Grows, IsTable, labels_at, only_defined, pairs_of, points_of, undefined, with_pair, with_set};
 ghost use Rattle.rw_wal_append.specs.inner.References.{with_reference};
 
-use indexmap::IndexSet;
+use indexmap::IndexMap;
 use rw_types::{LabelSet, Names, RawLabels, Word};
 use std::alloc::{AllocError, Global};
 use std::marker::Model;
@@ -34,6 +37,13 @@ fn copy_of(alloc: Global, labels: &LabelSet) -> Result<LabelSet, AllocError>
     }
 }
 
+/// Reads a label set, so that the contract knows what each one is.
+fn is_label_set(labels: &LabelSet)
+    ensures { IsLabelSet Utf8 labels.now }
+{
+    let _labels = labels.as_slice();
+}
+
 /// Appends samples of one reference.
 fn put_points(
     samples: &mut Vec<(u64, i64, Word)>,
@@ -49,15 +59,21 @@ fn put_points(
     Ok(())
 }
 
-/// The references that stand for label sets in a log that is being written. The label set that came
-/// first has the reference `first`, the next one `first` + 1, and so on. Contracts see `first`, the
-/// label sets, and for how many of them the log has the definition.
+/// The references that stand for label sets in a log. Those that the log defines keep theirs, and
+/// each other one that comes gets the next. Contracts see the references that the log defines, the
+/// next one, and the label sets without a definition.
 #[derive(Drop)]
 pub struct References {
     alloc: Global,
-    first: u64,
-    sets: IndexSet<LabelSet>,
+
+    /// The reference of each label set, in the order in which they came.
+    sets: IndexMap<LabelSet, u64>,
+
+    /// Of how many label sets the log has the definition; they come first.
     defined: usize,
+
+    /// The reference of the first label set without a definition.
+    next: u64,
 
     /// The place after the label set that was found last: a target's next scrape has the same
     /// series in the same order, so the next label set is often there.
@@ -65,54 +81,63 @@ pub struct References {
 }
 
 impl Model for References {
-    ghost use Rattle.std.specs.Prelude.{◌≤◌, ◌^◌, length};
     ghost use Rattle.rw_wal_append.specs.References.{ReferenceTable};
+    ghost use Rattle.rw_wal_append.specs.inner.References.{table_of, HasTable};
 
     ghost Value = { ReferenceTable };
 
-    ghost view = { λ r. record { first = r.first; sets = r.sets.keys; defined = r.defined } };
+    ghost view = { λ r. table_of r.sets.entries r.defined r.next };
 
-    ghost invariant = { λ r. (r.first ≤ 2 ^ 63) × (r.defined ≤ length r.sets.keys) };
+    ghost invariant = { λ r. HasTable r.sets.entries r.defined r.next };
 }
 
 impl References {
-    /// Returns references for a log that has none from `first` on. This takes no memory.
-    pub fn new(alloc: Global, first: u64) -> References
-        requires { first ≤ 2 ^ 63 }
-        ensures { result ≡ record { first = first; sets = []; defined = 0 } }
+    /// Returns references for a log that has none from `next` on. This takes no memory.
+    pub fn new(alloc: Global, next: u64) -> References
+        requires { next ≤ 2 ^ 63 }
+        ensures { result ≡ record { known = []; next = next; fresh = [] } }
     {
         References {
             alloc,
-            first,
-            sets: IndexSet::new(alloc),
+            sets: IndexMap::new(alloc),
             defined: 0,
+            next,
             likely: 0,
         }
     }
 
-    /// Returns the reference of the label set at a place.
-    fn at(&self, place: usize) -> u64
-        requires { place < length self.now.sets }
-        ensures { result ≡ self.now.first + place }
+    /// Notes that a reference stands for a label set in the log, unless another one does already.
+    /// Returns whether none did.
+    pub fn note(&mut self, reference: u64, labels: LabelSet) -> Result<bool, AllocError>
+        requires fresh { self.old.fresh ≡ [] }
+        requires below { reference < self.old.next }
+        requires unknown { AllByRecursion (λ p. p.0 ≢ reference) self.old.known }
+        ensures known { OnOk result
+            (self.new ≡ with_pair (reference, labels) self.old) }
+        ensures err { OnErr result (self.new ≡ self.old) }
     {
+        is_label_set(&labels);
         let len = self.sets.len();
-        if place < len {
-            self.first + place as u64
-        } else {
-            unreachable!()
+        if self.sets.contains_key(&labels) {
+            return Ok(false);
         }
+        self.sets.insert(labels, reference)?;
+        self.defined = len + 1;
+        Ok(true)
     }
 
-    /// Returns the place of a label set, if it is there.
-    fn place(&self, labels: &LabelSet) -> Option<usize>
-        ensures some { IfSome result (λ k. slice_get self.now.sets k ≡ Some labels.now) }
-        ensures none { result ≡ None → (k : ℕ) → labels_at self.now k ≡ Some labels.now → ⊥ }
+    /// Returns the place and the reference of a label set, if it is there.
+    fn place(&self, labels: &LabelSet) -> Option<(usize, u64)>
+        ensures some { IfSome result (λ p. IsOneOf (pairs_of self.now) (p.1, labels.now)) }
+        ensures none { result ≡ None → (k : ℕ) → IsOneOf (pairs_of self.now) (k, labels.now) → ⊥ }
     {
-        let sets = self.sets.as_slice();
-        if self.likely < sets.len() && sets[self.likely] == *labels {
-            return Some(self.likely);
+        if let Some((set, reference)) = self.sets.get_index(self.likely) {
+            if *set == *labels {
+                return Some((self.likely, *reference));
+            }
         }
-        self.sets.get_index_of(labels)
+        let (place, _, reference) = self.sets.get_full(labels)?;
+        Some((place, *reference))
     }
 
     /// Returns the reference of a label set, if it has one.
@@ -121,21 +146,23 @@ impl References {
         ensures none { result ≡ None → (k : ℕ) → labels_at self.new k ≡ Some labels.now → ⊥ }
         ensures same { self.new ≡ self.old }
     {
-        let place = self.place(labels)?;
+        let (place, reference) = self.place(labels)?;
         self.likely = place.saturating_add(1);
-        Some(self.at(place))
+        Some(reference)
     }
 
-    /// Gives a label set the next reference, if it has none.
+    /// Gives a label set without a reference the next one.
     fn insert(&mut self, labels: &LabelSet) -> Result<u64, AllocError>
+        requires none { (k : ℕ) → labels_at self.old k ≡ Some labels.now → ⊥ }
         ensures is { IfOk result (λ r. labels_at self.new r ≡ Some labels.now) }
-        ensures grows { Grows labels.now self.old self.new }
+        ensures more { OnOk result (self.new ≡ with_set labels.now self.old) }
         ensures err { OnErr result (self.new ≡ self.old) }
-        ensures undone { only_defined self.new ≡ only_defined self.old }
     {
+        is_label_set(labels);
         let set = copy_of(self.alloc, labels)?;
-        let (place, _) = self.sets.insert_full(set)?;
-        Ok(self.at(place))
+        let reference = self.next + (self.sets.len() - self.defined) as u64;
+        self.sets.insert(set, reference)?;
+        Ok(reference)
     }
 
     /// Returns the reference of a label set. One that has none gets the next reference.
@@ -180,23 +207,24 @@ impl References {
 
     /// Returns the definitions that the log does not have, each as a reference and its labels.
     pub fn undefined(&self, alloc: Global) -> Result<Vec<(u64, RawLabels)>, AllocError>
-        ensures { IfOk result (λ v. v.items ≡ undefined self.now) }
+        ensures definitions { IfOk result (λ v. v.items ≡ undefined self.now) }
+        ensures table { IsTable self.now }
     {
         let mut definitions = Vec::new(alloc);
-        let sets = self.sets.as_slice();
-        let rest = &sets[self.defined..];
-        for i in 0..rest.len() {
-            let labels = raw_labels(alloc, &rest[i])?;
-            definitions.push((self.at(self.defined + i), labels))?;
+        let (_, rest) = self.sets.as_slice().split_at(self.defined);
+        for (labels, reference) in rest.iter() {
+            definitions.push((*reference, raw_labels(alloc, labels)?))?;
         }
         Ok(definitions)
     }
 
     /// Notes that the log has all definitions.
     pub fn commit(&mut self)
-        ensures { self.new ≡ record self.old { defined = length self.old.sets } }
+        ensures { self.new ≡ all_defined self.old }
     {
-        self.defined = self.sets.len();
+        let len = self.sets.len();
+        self.next += (len - self.defined) as u64;
+        self.defined = len;
     }
 
     /// Forgets the label sets whose definition the log does not have.

@@ -31,6 +31,11 @@ impl Countdown {
         Countdown::new(u64::MAX)
     }
 
+    /// Has the call of this number fail, from now on.
+    pub(crate) fn fail_at(&self, call: u64) {
+        self.left.set(call);
+    }
+
     /// Returns how often the bytes of a file were synced, and how often a file or a folder whole.
     pub(crate) fn syncs(&self) -> (u64, u64) {
         (self.data_syncs.get(), self.whole_syncs.get())
@@ -54,7 +59,8 @@ impl Countdown {
     }
 }
 
-/// The files of a runtime, of which one call fails. Each call on a file counts.
+/// The files of a runtime, of which one call fails. Each call on a file counts, and so does each
+/// look at a path and each new name.
 #[derive(Clone, Copy)]
 pub(crate) struct FailingFiles<'a, R> {
     pub(crate) rt: R,
@@ -158,6 +164,7 @@ impl<'a, R: Files> Files for FailingFiles<'a, R> {
     }
 
     fn metadata(&self, path: &str) -> io::Result<Metadata> {
+        self.countdown.call()?;
         self.rt.metadata(path)
     }
 
@@ -170,6 +177,7 @@ impl<'a, R: Files> Files for FailingFiles<'a, R> {
     }
 
     fn rename(&self, from: &str, to: &str) -> io::Result<()> {
+        self.countdown.call()?;
         self.rt.rename(from, to)
     }
 

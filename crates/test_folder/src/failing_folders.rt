@@ -5,7 +5,7 @@ ghost use Rattle.std.specs.Prelude.{OnOk};
 ghost use Rattle.rw_journal.specs.Journal.{Only};
 
 use crate::failing_files::{Countdown, FailingFiles};
-use crate::folder_journals::make_folder;
+use crate::folder_journals::{STRICT, make_folder};
 use rw_journal::{Journal, JournalError};
 use rw_kept_folder::{FolderMonitor, open_journal};
 use std::alloc::Global;
@@ -63,7 +63,7 @@ enum End {
 
 /// Opens the folder and goes on.
 fn open_and_go_on<R: Files + Clock + AllocGlobal + Copy>(rt: &R, dir: &str) -> End {
-    let Ok(journal) = open_journal(rt, dir, FolderMonitor::none()) else {
+    let Ok(journal) = open_journal(rt, dir, STRICT, FolderMonitor::none()) else {
         return End::Failed;
     };
     let mut journal = journal;
@@ -81,7 +81,7 @@ fn a_folder_is_written_cut_and_read_again(rt: HostRuntime) -> Result<(), Fail> {
         "rwship-a-journal",
         &[("lock", "x"), ("torn-00000007", "y")],
     )?;
-    let mut journal = open_journal(&rt, dir.as_path().as_str(), FolderMonitor::none())?;
+    let mut journal = open_journal(&rt, dir.as_path().as_str(), STRICT, FolderMonitor::none())?;
     assert_eq!(rt; journal.count(), 0);
     journal.begin()?;
     write_segment(&mut journal, "abc")?;
@@ -96,6 +96,13 @@ fn a_folder_is_written_cut_and_read_again(rt: HostRuntime) -> Result<(), Fail> {
     Ok(())
 }
 
+/// Two segments that a receiver wrote, and its mark.
+static RECEIVED: [(&str, &str); 3] = [
+    ("00000000", "abc"),
+    ("00000001", "de"),
+    ("rwship-receive", ""),
+];
+
 /// What may be there after a call has failed: the first segment is whole, the second one is cut
 /// only if its end was set aside, and the third one is written only after that.
 fn is_kept(rt: &HostRuntime, dir: Path<'_>) -> bool {
@@ -106,19 +113,40 @@ fn is_kept(rt: &HostRuntime, dir: Path<'_>) -> bool {
     has_text(rt, dir, "00000000", Some("abc")) && (is_cut && is_aside || is_uncut && has_no_third)
 }
 
+/// Whether a folder can be opened again, has the first two segments as they were or the second one
+/// cut, and no copy of a segment.
+fn is_opened_again(rt: &HostRuntime, dir: Path<'_>) -> bool {
+    let alloc = rt.alloc();
+    let Ok(mut journal) = open_journal(rt, dir.as_str(), STRICT, FolderMonitor::none()) else {
+        return false;
+    };
+    if journal.count() < 2 {
+        return false;
+    }
+    match (journal.read(alloc, 0), journal.read(alloc, 1)) {
+        (Ok(first), Ok(second)) => {
+            let is_second = second.as_slice() == b"d".as_slice()
+                || second.as_slice() == b"de".as_slice();
+            first.as_slice() == b"abc".as_slice()
+                && is_second
+                && has_text(rt, dir, "00000001.tmp", None)
+        }
+        _ => false,
+    }
+}
+
 /// Has each call of the device fail in turn. Returns how many there are, or `None` if one of them
 /// is passed over or loses what is kept.
 fn fail_each_call(rt: &HostRuntime) -> Result<Option<u64>, Fail> {
     for call in 0..1000u64 {
-        let files = [("00000000", "abc"), ("00000001", "de")];
-        let dir = make_folder(rt, "rwship-a-failing-journal", &files)?;
+        let dir = make_folder(rt, "rwship-a-failing-journal", &RECEIVED)?;
         let countdown = Countdown::new(call);
         let failing = FailingFiles {
             rt: *rt,
             countdown: &countdown,
         };
         let end = open_and_go_on(&failing, dir.as_path().as_str());
-        let is_kept = is_kept(rt, dir.as_path());
+        let is_kept = is_kept(rt, dir.as_path()) && is_opened_again(rt, dir.as_path());
         fs::remove_dir_all(rt, dir.as_path())?;
         match end {
             End::Failed if is_kept && countdown.has_failed() => {}
@@ -136,13 +164,12 @@ fn a_call_that_fails_loses_nothing(rt: HostRuntime) -> Result<(), Fail> {
     Ok(())
 }
 
-/// Both segments are synced as they are read, and the last one and the folder as it is opened; the
+/// Both segments are synced as they are read, then the copy of the last one and the folder; the
 /// copy of what is cut and the folder, and the cut; the folder after each of two begun segments;
 /// and what is appended, a byte at a time.
 #[test]
 fn what_is_read_and_written_is_synced(rt: HostRuntime) -> Result<(), Fail> {
-    let files = [("00000000", "abc"), ("00000001", "de")];
-    let dir = make_folder(&rt, "rwship-a-synced-journal", &files)?;
+    let dir = make_folder(&rt, "rwship-a-synced-journal", &RECEIVED)?;
     let countdown = Countdown::endless();
     let counted = FailingFiles {
         rt,
@@ -153,6 +180,81 @@ fn what_is_read_and_written_is_synced(rt: HostRuntime) -> Result<(), Fail> {
     fs::remove_dir_all(&rt, dir.as_path())?;
     assert_eq!(rt; end, End::Done);
     assert!(rt; is_written);
-    assert_eq!(rt; countdown.syncs(), (2 + 1 + 1 + 1, 1 + 2 + 2));
+    assert_eq!(rt; countdown.syncs(), (2 + 1 + 1, 2 + 2 + 2));
+    Ok(())
+}
+
+/// A sync has failed, so that of `abc` only `a` is on the disk. The bytes are read from memory
+/// again, and then lost with it: they are those of the file that was there, which has a second
+/// name.
+fn lose_memory(rt: &HostRuntime, dir: Path<'_>, aside: Path<'_>) -> Result<(), Fail> {
+    let alloc = rt.alloc();
+    let file = dir.join(alloc, "00000000")?;
+    let other = aside.join(alloc, "00000000")?;
+    fs::hard_link(rt, file.as_path(), other.as_path())?;
+    let journal = open_journal(rt, dir.as_str(), STRICT, FolderMonitor::none())?;
+    fs::write(rt, other.as_path(), "a")?;
+    drop(journal);
+    Ok(())
+}
+
+#[test]
+fn what_was_read_is_on_the_disk_once_a_journal_is_opened(rt: HostRuntime) -> Result<(), Fail> {
+    let files = [
+        ("00000000", "abc"),
+        ("00000000.tmp", "an earlier start"),
+        ("rwship-receive", ""),
+    ];
+    let dir = make_folder(&rt, "rwship-a-lost-journal", &files)?;
+    let aside = make_folder(&rt, "rwship-a-lost-file", &[])?;
+    lose_memory(&rt, dir.as_path(), aside.as_path())?;
+    let is_whole = has_text(&rt, dir.as_path(), "00000000", Some("abc"));
+    let has_no_copy = has_text(&rt, dir.as_path(), "00000000.tmp", None);
+    fs::remove_dir_all(&rt, dir.as_path())?;
+    fs::remove_dir_all(&rt, aside.as_path())?;
+    assert!(rt; is_whole);
+    assert!(rt; has_no_copy);
+    Ok(())
+}
+
+/// Begins a segment and syncs three bytes, and has each call fail in turn in writing more. Returns
+/// what the segment is then, at the first call that is not made.
+fn fail_each_write(rt: &HostRuntime) -> Result<bool, Fail> {
+    for call in 0..100u64 {
+        let dir = make_folder(rt, "rwship-a-cut-journal", &[])?;
+        let countdown = Countdown::endless();
+        let failing = FailingFiles {
+            rt: *rt,
+            countdown: &countdown,
+        };
+        let mut journal = open_journal(
+            &failing,
+            dir.as_path().as_str(),
+            STRICT,
+            FolderMonitor::none(),
+        )?;
+        journal.begin()?;
+        journal.append(b"abc")?;
+        journal.sync()?;
+        countdown.fail_at(call);
+        let is_written = journal.append(b"def").is_ok() && journal.sync().is_ok();
+        let is_whole = has_text(rt, dir.as_path(), "00000000", Some("abcdef"));
+        let is_cut = has_text(rt, dir.as_path(), "00000000", Some("abc"));
+        drop(journal);
+        fs::remove_dir_all(rt, dir.as_path())?;
+        if is_written {
+            return Ok(is_whole && !countdown.has_failed());
+        }
+        if !is_cut {
+            return Ok(false);
+        }
+    }
+    Ok(false)
+}
+
+#[test]
+fn what_a_failed_sync_left_is_cut_off(rt: HostRuntime) -> Result<(), Fail> {
+    let are_cut = fail_each_write(&rt)?;
+    assert!(rt; are_cut);
     Ok(())
 }

@@ -1,13 +1,27 @@
 //! Journals in the files of a folder: which folders are refused, and why, and what is counted.
 
 use rw_journal::{Journal, JournalError};
-use rw_kept_folder::{FaultCause, FolderError, FolderMonitor, open_journal, refuse_running_server};
+use rw_kept_folder::{
+    FaultCause, FolderError, FolderMonitor, FolderRules, open_journal, refuse_running_server,
+};
 use rw_metrics::{KeptNumbers, ReceiveCounters};
 use std::alloc::{AllocError, Global};
 use std::path::{Path, PathBuf};
 use std::sync::Arc;
 use std::test::Fail;
 use std::{env, fs};
+
+/// Neither a folder that no receiver wrote nor one without its first segments is taken.
+pub(crate) const STRICT: FolderRules = FolderRules {
+    adopts: false,
+    allows_missing_start: false,
+};
+
+/// Both are taken.
+pub(crate) const LENIENT: FolderRules = FolderRules {
+    adopts: true,
+    allows_missing_start: true,
+};
 
 /// Makes a folder of this name that holds files, each with its text.
 pub(crate) fn make_folder(
@@ -59,7 +73,7 @@ static REFUSED: [Refused; 4] = [
 fn first_not_refused(rt: &HostRuntime) -> Result<Option<&'static str>, Fail> {
     for row in &REFUSED {
         let dir = make_folder(rt, "rwship-a-refused-journal", row.files)?;
-        let error = open_journal(rt, dir.as_path().as_str(), FolderMonitor::none()).err();
+        let error = open_journal(rt, dir.as_path().as_str(), STRICT, FolderMonitor::none()).err();
         fs::remove_dir_all(rt, dir.as_path())?;
         if error != Some(row.error) {
             return Ok(Some(row.name));
@@ -79,8 +93,8 @@ fn a_folder_that_cannot_be_listed_says_why(rt: HostRuntime) -> Result<(), Fail> 
     let dir = make_folder(&rt, "rwship-an-unlisted-journal", &[("00000000", "a")])?;
     let file = dir.as_path().join(rt.alloc(), "00000000")?;
     let none = dir.as_path().join(rt.alloc(), "none")?;
-    let of_file = open_journal(&rt, file.as_path().as_str(), FolderMonitor::none()).err();
-    let of_none = open_journal(&rt, none.as_path().as_str(), FolderMonitor::none()).err();
+    let of_file = open_journal(&rt, file.as_path().as_str(), STRICT, FolderMonitor::none()).err();
+    let of_none = open_journal(&rt, none.as_path().as_str(), STRICT, FolderMonitor::none()).err();
     fs::remove_dir_all(&rt, dir.as_path())?;
     assert_eq!(rt;
         of_file,
@@ -121,7 +135,7 @@ fn the_log_of_a_running_server_is_refused(rt: HostRuntime) -> Result<(), Fail> {
 fn a_segment_has_the_number_of_its_name(rt: HostRuntime) -> Result<(), Fail> {
     let files = [("00000007", "a"), ("00000008", "b")];
     let dir = make_folder(&rt, "rwship-a-late-journal", &files)?;
-    let journal = open_journal(&rt, dir.as_path().as_str(), FolderMonitor::none())?;
+    let journal = open_journal(&rt, dir.as_path().as_str(), LENIENT, FolderMonitor::none())?;
     let number = journal.files().number_of(1);
     fs::remove_dir_all(&rt, dir.as_path())?;
     assert_eq!(rt; number, 8);
@@ -140,7 +154,7 @@ fn long_bytes(alloc: Global) -> Result<Vec<u8>, AllocError> {
 /// Writes a segment of three bytes, and a last one that gets these bytes by two appends.
 fn write_long(rt: &HostRuntime, dir: Path<'_>, bytes: &[u8]) -> Result<(), Fail> {
     let (front, rest) = bytes.split_at(bytes.len() / 2);
-    let mut journal = open_journal(rt, dir.as_str(), FolderMonitor::none())?;
+    let mut journal = open_journal(rt, dir.as_str(), STRICT, FolderMonitor::none())?;
     journal.begin()?;
     journal.append(b"abc")?;
     journal.sync()?;
@@ -155,7 +169,7 @@ fn write_long(rt: &HostRuntime, dir: Path<'_>, bytes: &[u8]) -> Result<(), Fail>
 /// Opens the folder, and returns whether it has two segments, which are read as `abc` and as these
 /// bytes.
 fn has_last(rt: &HostRuntime, dir: Path<'_>, bytes: &[u8]) -> Result<bool, Fail> {
-    let mut journal = open_journal(rt, dir.as_str(), FolderMonitor::none())?;
+    let mut journal = open_journal(rt, dir.as_str(), STRICT, FolderMonitor::none())?;
     Ok(
         journal.count() == 2
             && journal.read(rt.alloc(), 0)?.as_slice() == b"abc".as_slice()
@@ -182,7 +196,7 @@ fn write_until_a_fault(
     dir: Path<'_>,
     monitor: FolderMonitor,
 ) -> Result<bool, Fail> {
-    let mut journal = open_journal(rt, dir.as_str(), monitor)?;
+    let mut journal = open_journal(rt, dir.as_str(), STRICT, monitor)?;
     journal.begin()?;
     journal.append(b"abc")?;
     journal.sync()?;
@@ -210,5 +224,95 @@ fn a_journal_is_counted_up_to_its_fault(rt: HostRuntime) -> Result<(), Fail> {
     };
     assert!(rt; has_failed);
     assert_eq!(rt; counted, Some(wanted));
+    Ok(())
+}
+
+/// Writes three bytes to a segment and syncs them, and again after something was done to the
+/// folder. Returns why that failed.
+fn cause_after(
+    rt: &HostRuntime,
+    dir: Path<'_>,
+    change: Change,
+) -> Result<Option<FaultCause>, Fail> {
+    let mut journal = open_journal(rt, dir.as_str(), STRICT, FolderMonitor::none())?;
+    journal.begin()?;
+    journal.append(b"abc")?;
+    journal.sync()?;
+    change.make(rt, dir)?;
+    let is_written = journal.append(b"def").is_ok() && journal.sync().is_ok();
+    match journal.files().fault() {
+        Some(fault) if !is_written => Ok(Some(fault.cause)),
+        _ => Ok(None),
+    }
+}
+
+/// What is done to a folder while a journal in it is open.
+#[derive(Clone, Copy)]
+enum Change {
+    RemoveSegment,
+    ReplaceSegment,
+    RenameFolder,
+    AddFile,
+}
+
+impl Change {
+    fn make(&self, rt: &HostRuntime, dir: Path<'_>) -> Result<(), Fail> {
+        let alloc = rt.alloc();
+        let segment = dir.join(alloc, "00000000")?;
+        let other = dir.join(alloc, "other")?;
+        match self {
+            Change::RemoveSegment => fs::remove_file(rt, segment.as_path())?,
+            Change::ReplaceSegment => {
+                fs::write(rt, other.as_path(), "abc")?;
+                fs::rename(rt, other.as_path(), segment.as_path())?;
+            }
+            Change::RenameFolder => {
+                let moved = format!(in alloc; "{}-moved", dir.as_str())?;
+                let _ = fs::remove_dir_all(rt, moved.as_str());
+                fs::rename(rt, dir, moved.as_str())?;
+                fs::create_dir(rt, dir)?;
+                fs::remove_dir_all(rt, moved.as_str())?;
+            }
+            Change::AddFile => fs::write(rt, other.as_path(), "abc")?,
+        }
+        Ok(())
+    }
+}
+
+static CHANGES: [(&'static str, Change, Option<FaultCause>); 4] = [
+    (
+        "a removed segment",
+        Change::RemoveSegment,
+        Some(FaultCause::Removed),
+    ),
+    (
+        "another file of its name",
+        Change::ReplaceSegment,
+        Some(FaultCause::Removed),
+    ),
+    (
+        "another folder of its name",
+        Change::RenameFolder,
+        Some(FaultCause::Removed),
+    ),
+    ("one more file", Change::AddFile, None),
+];
+
+/// Returns the first change that is not noticed as its row says.
+fn first_not_noticed(rt: &HostRuntime) -> Result<Option<&'static str>, Fail> {
+    for row in &CHANGES {
+        let dir = make_folder(rt, "rwship-a-changed-journal", &[])?;
+        let cause = cause_after(rt, dir.as_path(), row.1)?;
+        fs::remove_dir_all(rt, dir.as_path())?;
+        if cause != row.2 {
+            return Ok(Some(row.0));
+        }
+    }
+    Ok(None)
+}
+
+#[test]
+fn a_segment_that_is_gone_is_a_failed_write(rt: HostRuntime) -> Result<(), Fail> {
+    assert_eq!(rt; first_not_noticed(&rt)?, None);
     Ok(())
 }

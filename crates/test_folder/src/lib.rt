@@ -15,4 +15,6 @@ mod journals;
 #[cfg(test)]
 mod order;
 #[cfg(test)]
+mod owners;
+#[cfg(test)]
 mod pages;

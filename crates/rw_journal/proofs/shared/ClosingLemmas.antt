@@ -3,8 +3,8 @@
 use Rattle.std.proofs.Common.{◌≡◌, inl, inr, ℕ, zero, suc, ◌<◌, ◌≤◌, List, [], ◌∷◌, ◌++◌, length, take, drop, refl, sym, ap, ◌∙◌, subst, arith, append-nil, length-append, take-append-drop}
 use Rattle.std.proofs.lemmas.List.{take-take}
 use Rattle.rw_types.specs.declared.entry.Entry.{Entry}
-use Rattle.rw_wal_format.specs.Segments.{Stop, between, Reading, segment, item_at}
-use Rattle.rw_wal_format.specs.Pieces.{reading, reading_after, then_after}
+use Rattle.rw_wal_format.specs.Segments.{segment, item_at}
+use Rattle.rw_wal_format.specs.Pieces.{reading, reading_after}
 use Rattle.rw_wal_format.proofs.shared.Growing.{segment_grows}
 use Rattle.rw_journal.specs.Journal.{Segments, on_last, IsCutEnd, IsBegun}
 use Rattle.rw_journal.specs.Logs.{log_of, entries_of, IsWholeText, IsCleanCut}

@@ -1,5 +1,5 @@
 -- The segments of a log, read one after the other.
-use Rattle.std.proofs.Common.{ℕ, ◌+◌, List, [], ◌∷◌, ◌++◌}
+use Rattle.std.proofs.Common.{ℕ, List, [], ◌∷◌, ◌++◌}
 use Rattle.std.specs.List.{AllByRecursion}
 use Rattle.rw_journal.specs.Journal.{Segments}
 use Rattle.rw_journal.specs.TornLogs.{AllBefore}

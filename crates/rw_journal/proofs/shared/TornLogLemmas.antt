@@ -6,13 +6,12 @@ use Rattle.rw_types.specs.Beginnings.{Begins}
 use Rattle.rw_types.specs.declared.entry.Entry.{Entry}
 use Rattle.rw_types.proofs.shared.BeginningLemmas.{begins_itself}
 use Rattle.rw_wal_format.specs.Segments.{segment}
-use Rattle.rw_wal_format.specs.Pieces.{reading, reading_after}
+use Rattle.rw_wal_format.specs.Pieces.{reading}
 use Rattle.rw_wal_format.proofs.shared.Growing.{segment_grows}
 use Rattle.rw_journal.specs.Journal.{Segments, with_more}
 use Rattle.rw_journal.specs.Torn.{IsTorn, IsTornFrom, IsTornLog}
-use Rattle.rw_journal.specs.Logs.{log_of, entries_of, IsWholeText}
+use Rattle.rw_journal.specs.Logs.{entries_of, IsWholeText}
 use Rattle.rw_journal.specs.TornLogs.{NoChance, last_of, AllBefore}
-use Rattle.rw_journal.proofs.LogLemmas.{then_between}
 use Rattle.rw_journal.proofs.TornLemmas.{torn_begins}
 use Rattle.rw_journal.proofs.shared.ClosingLemmas.{front_of}
 

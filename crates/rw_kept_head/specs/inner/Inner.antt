@@ -1,5 +1,5 @@
 -- Invariants of a log that is being written.
-use Rattle.std.specs.Prelude.{◌≡◌, ◌<◌, ◌+◌, ◌++◌, ℕ, ℤ, List, length, map, Option}
+use Rattle.std.specs.Prelude.{◌≡◌, ◌++◌, [], ℕ, ℤ, List, map, Option}
 use Rattle.rw_types.specs.Beginnings.{Begins}
 use Rattle.rw_types.specs.declared.entry.Entry.{Entry}
 use Rattle.rw_wal_format.specs.Laws.{sample_entry}
@@ -8,9 +8,8 @@ use Rattle.rw_head.specs.Store.{Store}
 use Rattle.rw_journal.specs.Journal.{Segments, Only, IsBegun}
 use Rattle.rw_journal.specs.declared.journal.JournalError.{JournalError}
 use Rattle.rw_journal.specs.Logs.{entries_of}
-use Rattle.rw_reopen.specs.Reading.{greatest_after}
 use Rattle.rw_wal_append.specs.Additions.{definition_entry}
-use Rattle.rw_wal_append.specs.References.{ReferenceTable, AreDefined, undefined}
+use Rattle.rw_wal_append.specs.References.{ReferenceTable, IsNoted}
 use Rattle.rw_wal_append.specs.Ends.{End, EndsAt}
 use Rattle.rw_kept_head.specs.Kept.{SaysWhat}
 
@@ -23,14 +22,12 @@ pub record Writing (J : Type 0) : Type 0 where
   pub pages : ℕ
   pub fault : Option JournalError
 
--- The log ends there between two records, it has the definition of each label set that has a
--- reference, the references that are given next are later than all that it defines, and all of it
--- is synced.
+-- The log ends there between two records, the references are those that it defines, none of them is
+-- new, and all of it is synced.
 pub record IsWritable (segments : Segments) (may_leave : Segments → Type 0) (references : ReferenceTable) (offset : ℕ) : Type 0 where
   pub ends : EndsAt segments offset
-  pub defined : AreDefined (entries_of page_size segments) references
-  pub none_else : references.defined ≡ length references.sets
-  pub later : greatest_after 0 (entries_of page_size segments) < references.first + length references.sets
+  pub noted : IsNoted (entries_of page_size segments) references
+  pub none_else : references.fresh ≡ []
   pub synced : Only segments may_leave
 
 -- a next segment was begun or not; the log has the same entries, and all of it is synced
@@ -45,10 +42,9 @@ pub record Keeps (segments : Segments) (may_leave : Segments → Type 0) (refere
   pub writable : IsWritable segments may_leave references offset
   pub says : SaysWhat segments store
 
--- What was written: each label set that has got a reference is defined once, and the samples come
--- after the definitions. The references that there were are kept.
+-- What was written: the definitions of the label sets that have got a reference, and after them the
+-- samples. The references that there were are kept.
 pub record IsWritten (old new : ReferenceTable) (before after : List Entry) : Type 0 where
   pub samples : List (ℕ × ℤ × ℕ)
-  pub entries : after ≡ before ++ map definition_entry (undefined (record new { defined = length old.sets })) ++ map sample_entry samples
-  pub first : new.first ≡ old.first
-  pub kept : Begins old.sets new.sets
+  pub kept : Begins old.known new.known
+  pub entries : after ≡ before ++ map definition_entry kept.0 ++ map sample_entry samples

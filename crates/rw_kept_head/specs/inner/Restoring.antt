@@ -5,6 +5,7 @@ use Rattle.rw_types.specs.LabelOrder.{labels_eq}
 use Rattle.rw_types.specs.Rising.{Rises}
 use Rattle.rw_types.specs.declared.entry.Entry.{Entry}
 use Rattle.rw_types.specs.declared.names.Names.{Names}
+use Rattle.rw_types.specs.declared.names.Names.TheVariants.{Utf8}
 use Rattle.rw_wal_format.specs.Series.{labels_of, has_labels}
 use Rattle.rw_write_request.specs.Message.{TimeSeries, WriteRequest}
 use Rattle.rw_wal_append.specs.Additions.{samples_of_labels}
@@ -77,14 +78,14 @@ pub record AddsSample (names : Names) (old new : Store) (lookup later : ℕ → 
 
 -- a sample of a reference was appended, or no head with these limits holds it
 abbrev pub TakesSample : LabelLimits → Store → Store → (ℕ → Option (Option TimeSeries)) → (ℕ → Option (Option TimeSeries)) → ℕ → ℤ × ℕ → Bool → Type 0
-TakesSample limits old new lookup later reference sample true = AddsSample limits.names old new lookup later reference sample
+TakesSample limits old new lookup later reference sample true = AddsSample Utf8 old new lookup later reference sample
 TakesSample limits old new lookup later reference sample false =
-    (found : Option (List (List ℕ × List ℕ))) → StandsFor limits.names (lookup reference) found
+    (found : Option (List (List ℕ × List ℕ))) → StandsFor Utf8 (lookup reference) found
     → (l : Labels) × (found ≡ Some l) × CannotFollow limits old l sample
 
 -- the store has what these entries say, or no head with these limits takes them
 abbrev pub IsRestoredOrRefused : LabelLimits → List Entry → (ℕ → Option (Option TimeSeries)) → Store → Bool → Type 0
-IsRestoredOrRefused limits taken lookup store true = IsRestored limits.names taken lookup store
+IsRestoredOrRefused limits taken lookup store true = IsRestored Utf8 taken lookup store
 IsRestoredOrRefused limits taken lookup store false = MayHold limits (samples_of_labels taken) → ⊥
 
 -- how many entries came before the first one that was refused, with one more entry
@@ -94,7 +95,7 @@ accepted_next n refused = if refused then n else min (n + 1) (2 ^ 64 - 1)
 -- the head has what the entries say, unless one of them was refused: then no head with these limits
 -- takes them
 pub record IsRestoring (taken : List Entry) (lookup : ℕ → Option (Option TimeSeries)) (head : State) (accepted : ℕ) (refused : Bool) : Type 0 where
-  pub restored : refused ≡ false → IsRestored head.limits.names taken lookup head.store
+  pub restored : refused ≡ false → IsRestored Utf8 taken lookup head.store
   pub refuses : refused ≡ true → MayHold head.limits (samples_of_labels taken) → ⊥
   pub holds : MayHold head.limits (list_of head.store)
   pub all : refused ≡ false → accepted ≡ min (length taken) (2 ^ 64 - 1)

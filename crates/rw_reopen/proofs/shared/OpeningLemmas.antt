@@ -1,5 +1,5 @@
 -- The segments of a log, read one after the other.
-use Rattle.std.proofs.Common.{◌≡◌, ℕ, ◌+◌, ◌<◌, List, [], ◌∷◌, ◌++◌, length, take, drop, get_or, Some, None, refl, sym, ap, ◌∙◌, subst, append_assoc, append-nil, add-one, arith}
+use Rattle.std.proofs.Common.{◌≡◌, ℕ, ◌+◌, ◌<◌, List, [], ◌∷◌, ◌++◌, length, take, drop, get_or, Option, None, refl, sym, ap, ◌∙◌, subst, append_assoc, append-nil, add-one, arith}
 use Rattle.std.specs.List.{AllByRecursion}
 use Rattle.std.proofs.lemmas.List.{take_all}
 use Rattle.std.proofs.lemmas.List.Sums.{fold-append}
@@ -7,15 +7,17 @@ use Rattle.std.proofs.Math.Seq.{take-suc, take-length, drop-nil}
 use Rattle.rw_types.proofs.shared.AllLemmas.{AllByRecursion-append}
 use Rattle.rw_types.specs.declared.entry.Entry.{Entry}
 use Rattle.rw_journal.specs.Journal.{Segments}
-use Rattle.rw_wal_format.specs.Segments.{Stop, between, inside, at_fault, Reading, segment, item_at}
-use Rattle.rw_wal_format.specs.Pieces.{fault, fault_at, page_size, reading, reading_after, then_after}
-use Rattle.rw_journal.specs.Logs.{log_of, entries_of, IsWholeText}
+use Rattle.rw_wal_format.specs.Segments.{segment, item_at}
+use Rattle.rw_wal_format.specs.Pieces.{fault, page_size, reading}
+use Rattle.rw_journal.specs.Logs.{entries_of, IsWholeText}
 use Rattle.rw_journal.specs.TornLogs.{last_of, AllBefore}
 use Rattle.rw_journal.proofs.shared.ClosingLemmas.{front_of, nothing_read}
 use Rattle.rw_journal.proofs.shared.CutLemmas.{no_fault}
 use Rattle.rw_journal.proofs.shared.OpeningLemmas.{before_of}
 use Rattle.rw_reopen.specs.Reading.{greater, greatest_after, ended}
 use Rattle.rw_reopen.specs.inner.Reading.{IsFaultOf, ReadsSegment}
+use Rattle.rw_reopen.specs.Records.{FollowsFault}
+use Rattle.rw_reopen.proofs.RecordAtLemmas.{nothing_follows}
 use Rattle.rw_reopen.specs.Reopening.{IsSegmentCut, IsEnd}
 use Rattle.rw_reopen.specs.inner.Reopening.{IsLast}
 use Rattle.rw_reopen.specs.declared.opening.LogEnd.{LogEnd}
@@ -50,10 +52,11 @@ unfolding segment item_at
 nothing_whole = refl
 
 -- the end of a log of no segments
-pub ends_nowhere : (ss : Segments) (end : LogEnd) → ss ≡ [] → end.whole ≡ 0 → end.torn.items ≡ [] → end.greatest ≡ 0 → IsEnd ss end
-ends_nowhere ss end empty at torn greatest = record {
+pub ends_nowhere : (ss : Segments) (end : LogEnd) → ss ≡ [] → end.whole ≡ 0 → end.torn.items ≡ [] → end.follows ≡ None → end.greatest ≡ 0 → IsEnd ss end
+ends_nowhere ss end empty at torn follows greatest = record {
   cut = subst (λ (s : Segments). IsSegmentCut (last_of s) end.whole) (sym empty) (subst (IsSegmentCut []) (sym at) (cut_at_end [] nothing_whole));
   torn = torn ∙ sym (ap (λ (s : Segments). drop end.whole (last_of s)) empty ∙ drop-nil end.whole);
+  follows = subst (λ (s : Segments). FollowsFault (last_of s) end.follows) (sym empty) (subst (FollowsFault []) (sym follows) nothing_follows);
   greatest = greatest ∙ sym (ap (greatest_after 0) (none_of ss empty));
 }
 
@@ -119,16 +122,17 @@ going_more ss n text read before now after low high higher h lt is reads sound =
     }
 
 -- all segments were read
-pub record AllRead (ss : Segments) (at : ℕ) (torn : List ℕ) (before after : List Entry) (low high : ℕ) : Type 0 where
+pub record AllRead (ss : Segments) (at : ℕ) (torn : List ℕ) (found : Option ℕ) (before after : List Entry) (low high : ℕ) : Type 0 where
   pub cut : IsSegmentCut (last_of ss) at
   pub torn_is : torn ≡ drop at (last_of ss)
+  pub follows : FollowsFault (last_of ss) found
   pub taken : after ≡ before ++ entries_of page_size ss
   pub greatest : high ≡ greatest_after low (entries_of page_size ss)
   pub whole : AllBefore (IsWholeText page_size) ss
 
-pub all_read : (ss : Segments) (n at : ℕ) (torn : List ℕ) (before now after : List Entry) (low high higher : ℕ) → Going ss n before now low high → n + 1 ≡ length ss
-    → IsLast (get_or ss n []) at torn now after high higher → AllRead ss at torn before after low higher
-all_read ss n at torn before now after low high higher h len is =
+pub all_read : (ss : Segments) (n at : ℕ) (torn : List ℕ) (found : Option ℕ) (before now after : List Entry) (low high higher : ℕ) → Going ss n before now low high → n + 1 ≡ length ss
+    → IsLast (get_or ss n []) at torn found now after high higher → AllRead ss at torn found before after low higher
+all_read ss n at torn found before now after low high higher h len is =
     let lt : n < length ss = omega (arith, len) in
     let all : ss ≡ take n ss ++ get_or ss n [] ∷ [] = sym (take_all (n + 1) ss (omega (arith, len))) ∙ next_of ss n lt in
     let last : last_of ss ≡ get_or ss n [] = ap last_of all ∙ last_is (take n ss) (get_or ss n []) in
@@ -137,6 +141,7 @@ all_read ss n at torn before now after low high higher h len is =
     record {
       cut = subst (λ (t : List ℕ). IsSegmentCut t at) (sym last) is.cut;
       torn_is = is.torn_is ∙ ap (drop at) (sym last);
+      follows = subst (λ (t : List ℕ). FollowsFault t found) (sym last) is.follows;
       taken = both.0 ∙ ap (λ (s : Segments). before ++ entries_of page_size s) full;
       greatest = both.1 ∙ ap (λ (s : Segments). greatest_after low (entries_of page_size s)) full;
       whole = subst (AllBefore (IsWholeText page_size)) (sym all) (before_of (IsWholeText page_size) (take n ss) (get_or ss n []) h.whole);

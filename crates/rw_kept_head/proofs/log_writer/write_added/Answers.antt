@@ -1,4 +1,4 @@
-use Rattle.std.proofs.Common.{◌≡◌, ◌<◌, ◌+◌, ◌++◌, rules, map, List, ℕ, ap, sym, subst, ◌∙◌, arith, length}
+use Rattle.std.proofs.Common.{◌≡◌, ◌++◌, refl, rules, map, List, ℕ, ap, sym, subst, ◌∙◌, arith, length}
 use Rattle.rw_types.specs.declared.entry.Entry.{Entry}
 use Rattle.rw_journal.specs.Journal.{with_more, IsBegun}
 use Rattle.rw_journal.specs.Torn.{IsTornLog}
@@ -6,13 +6,13 @@ use Rattle.rw_journal.proofs.shared.Moments.{started}
 use Rattle.rw_wal_format.specs.Laws.{sample_entry}
 use Rattle.rw_wal_format.specs.Pieces.{page_size}
 use Rattle.rw_wal_append.specs.Additions.{definition_entry, samples_of_labels}
+use Rattle.rw_wal_append.specs.Definitions.{IsDefinedOnce}
 use Rattle.rw_wal_append.specs.References.{undefined}
 use Rattle.rw_journal.specs.Logs.{entries_of}
 use Rattle.rw_kept_head.specs.inner.Inner.{GoesOn}
-use Rattle.rw_kept_head.specs.Kept.{SaysWhat, IsLeft}
-use Rattle.rw_reopen.specs.Reading.{greatest_after}
-use Rattle.rw_kept_head.proofs.WrittenLemmas.{is_written, later_written, nothing_new}
-use Rattle.rw_kept_head.proofs.KeptLemmas.{goes_nowhere, still_writable, then_runs, is_unharmed, is_begun, is_torn, offset_more, says_more, still_defined}
+use Rattle.rw_kept_head.specs.Kept.{SaysWhat, IsLeft, StaysDefinedOnce}
+use Rattle.rw_kept_head.proofs.WrittenLemmas.{is_written, none_new, noted_written, nothing_new, once_written, still_noted}
+use Rattle.rw_kept_head.proofs.KeptLemmas.{goes_nowhere, still_writable, then_runs, is_unharmed, is_begun, is_torn, offset_more, says_more}
 use Rattle.rw_kept_head.proofs.log_writer.write_added.Goals as goal
 
 pub returns-in_err-samples-clause-any_moment : goal.returns-in_err-samples-clause-any_moment
@@ -44,17 +44,21 @@ returns-in_err-write_in_pages-clause-any_moment g c =
     let base = g.J.Journal.seen c.spell.new.journal in
     let on : GoesOn seen base (g.J.Journal.may_leave c.spell.new.journal) c.spell.new.end.offset = c.in_ok-bytes.ensures.ok in
     let entries = c.in_ok-bytes.ensures.entries
-    ∙ ap (λ ds. entries_of page_size base ++ map definition_entry ds ++ map sample_entry c.deref-2.result.now) (c.deref.ensures.value ∙ c.in_ok-definitions.ensures)
+    ∙ ap (λ ds. entries_of page_size base ++ map definition_entry ds ++ map sample_entry c.deref-2.result.now) (c.deref.ensures.value ∙ c.in_ok-definitions.ensures.definitions)
     ∙ ap (λ ss. entries_of page_size base ++ map definition_entry (undefined c.collect.new.references) ++ map sample_entry ss) c.deref-2.ensures.value in
     let says : SaysWhat base old = λ l. c.requires.says l ∙ ap (λ (es : List Entry). samples_of_labels es l) (sym on.entries) in
-    let defined = still_defined (entries_of page_size seen) (entries_of page_size base) c.args.references.now c.collect.new.references on.entries c.collect.ensures.undone c.requires.writable.defined in
-    let said = says_more c.new_samples_are_read.ensures.samples old new base c.in_ok-bytes.bytes.items c.collect.new.references c.in_ok-samples.samples.items c.args.staged.now.added says c.collect.ensures.adds defined
-    c.in_ok-samples.ensures.of c.in_ok-samples.ensures.points entries in
+    let noted = still_noted (entries_of page_size seen) (entries_of page_size base) c.args.references.now c.collect.new.references on.entries c.collect.ensures.undone c.requires.writable.noted in
+    let said = says_more c.new_samples_are_read.ensures.samples old new base c.in_ok-bytes.bytes.items c.collect.new.references c.in_ok-samples.samples.items c.args.staged.now.added says c.collect.ensures.adds noted
+    c.undefined.ensures.table c.in_ok-samples.ensures.of c.in_ok-samples.ensures.points entries in
     let will : SaysWhat (with_more base c.deref-3.result.now) new = subst (λ (b : List ℕ). SaysWhat (with_more base b) new) (sym c.deref-3.ensures.value) said in
+    let once : StaysDefinedOnce base (with_more base c.deref-3.result.now) =
+    subst (λ (b : List ℕ). StaysDefinedOnce base (with_more base b)) (sym c.deref-3.ensures.value)
+    (once_written (entries_of page_size base) (entries_of page_size base) (entries_of page_size (with_more base c.in_ok-bytes.bytes.items)) c.collect.new.references c.in_ok-samples.samples.items
+    c.new_samples_are_read.ensures.once refl noted c.undefined.ensures.table entries) in
     then_runs g.J.Journal.moment g.J.Journal.left_since c.args.journal.now c.spell.new.journal c.write_in_pages.new.journal (IsBegun seen) (IsTornLog g.J.Journal.tears page_size c.offset.result base c.deref-3.result.now)
     (IsLeft g.J.Journal.tears new seen) c.spell.ensures.any_moment c.write_in_pages.ensures.any_moment (λ x b. is_begun g.J.Journal.tears new seen x b)
     (λ x torn.
-    is_torn g.J.Journal.tears new seen base c.spell.new.end.offset c.deref-3.result.now x on.begun on.ends will
+    is_torn g.J.Journal.tears new seen base c.spell.new.end.offset c.deref-3.result.now x on.begun on.ends will once
     (subst (λ (n : ℕ). IsTornLog g.J.Journal.tears page_size n base c.deref-3.result.now x) c.offset.ensures.offset torn))
 
 pub returns-clause-any_moment : goal.returns-clause-any_moment
@@ -65,17 +69,21 @@ returns-clause-any_moment g c =
     let base = g.J.Journal.seen c.spell.new.journal in
     let on : GoesOn seen base (g.J.Journal.may_leave c.spell.new.journal) c.spell.new.end.offset = c.in_ok-bytes.ensures.ok in
     let entries = c.in_ok-bytes.ensures.entries
-    ∙ ap (λ ds. entries_of page_size base ++ map definition_entry ds ++ map sample_entry c.deref-2.result.now) (c.deref.ensures.value ∙ c.in_ok-definitions.ensures)
+    ∙ ap (λ ds. entries_of page_size base ++ map definition_entry ds ++ map sample_entry c.deref-2.result.now) (c.deref.ensures.value ∙ c.in_ok-definitions.ensures.definitions)
     ∙ ap (λ ss. entries_of page_size base ++ map definition_entry (undefined c.collect.new.references) ++ map sample_entry ss) c.deref-2.ensures.value in
     let says : SaysWhat base old = λ l. c.requires.says l ∙ ap (λ (es : List Entry). samples_of_labels es l) (sym on.entries) in
-    let defined = still_defined (entries_of page_size seen) (entries_of page_size base) c.args.references.now c.collect.new.references on.entries c.collect.ensures.undone c.requires.writable.defined in
-    let said = says_more c.new_samples_are_read.ensures.samples old new base c.in_ok-bytes.bytes.items c.collect.new.references c.in_ok-samples.samples.items c.args.staged.now.added says c.collect.ensures.adds defined
-    c.in_ok-samples.ensures.of c.in_ok-samples.ensures.points entries in
+    let noted = still_noted (entries_of page_size seen) (entries_of page_size base) c.args.references.now c.collect.new.references on.entries c.collect.ensures.undone c.requires.writable.noted in
+    let said = says_more c.new_samples_are_read.ensures.samples old new base c.in_ok-bytes.bytes.items c.collect.new.references c.in_ok-samples.samples.items c.args.staged.now.added says c.collect.ensures.adds noted
+    c.undefined.ensures.table c.in_ok-samples.ensures.of c.in_ok-samples.ensures.points entries in
     let will : SaysWhat (with_more base c.deref-3.result.now) new = subst (λ (b : List ℕ). SaysWhat (with_more base b) new) (sym c.deref-3.ensures.value) said in
+    let once : StaysDefinedOnce base (with_more base c.deref-3.result.now) =
+    subst (λ (b : List ℕ). StaysDefinedOnce base (with_more base b)) (sym c.deref-3.ensures.value)
+    (once_written (entries_of page_size base) (entries_of page_size base) (entries_of page_size (with_more base c.in_ok-bytes.bytes.items)) c.collect.new.references c.in_ok-samples.samples.items
+    c.new_samples_are_read.ensures.once refl noted c.undefined.ensures.table entries) in
     then_runs g.J.Journal.moment g.J.Journal.left_since c.args.journal.now c.spell.new.journal c.write_in_pages.new.journal (IsBegun seen) (IsTornLog g.J.Journal.tears page_size c.offset.result base c.deref-3.result.now)
     (IsLeft g.J.Journal.tears new seen) c.spell.ensures.any_moment c.write_in_pages.ensures.any_moment (λ x b. is_begun g.J.Journal.tears new seen x b)
     (λ x torn.
-    is_torn g.J.Journal.tears new seen base c.spell.new.end.offset c.deref-3.result.now x on.begun on.ends will
+    is_torn g.J.Journal.tears new seen base c.spell.new.end.offset c.deref-3.result.now x on.begun on.ends will once
     (subst (λ (n : ℕ). IsTornLog g.J.Journal.tears page_size n base c.deref-3.result.now x) c.offset.ensures.offset torn))
 
 pub returns-clause-ok : goal.returns-clause-ok
@@ -84,33 +92,64 @@ returns-clause-ok g c =
     let base = g.J.Journal.seen c.spell.new.journal in
     let on : GoesOn seen base (g.J.Journal.may_leave c.spell.new.journal) c.spell.new.end.offset = c.in_ok-bytes.ensures.ok in
     let entries = c.in_ok-bytes.ensures.entries
-    ∙ ap (λ ds. entries_of page_size base ++ map definition_entry ds ++ map sample_entry c.deref-2.result.now) (c.deref.ensures.value ∙ c.in_ok-definitions.ensures)
+    ∙ ap (λ ds. entries_of page_size base ++ map definition_entry ds ++ map sample_entry c.deref-2.result.now) (c.deref.ensures.value ∙ c.in_ok-definitions.ensures.definitions)
     ∙ ap (λ ss. entries_of page_size base ++ map definition_entry (undefined c.collect.new.references) ++ map sample_entry ss) c.deref-2.ensures.value in
     let there : g.J.Journal.seen c.write_in_pages.new.journal ≡ with_more base c.in_ok-bytes.bytes.items = search rules in
-    let later = later_written (entries_of page_size seen) (entries_of page_size (g.J.Journal.seen c.write_in_pages.new.journal)) c.args.references.now c.collect.new.references c.in_ok-samples.samples.items
-    c.requires.writable.none_else c.collect.ensures.undone c.requires.writable.later
-    (ap (entries_of page_size) there ∙ entries ∙ ap (λ es. es ++ map definition_entry (undefined c.collect.new.references) ++ map sample_entry c.in_ok-samples.samples.items) on.entries) in
+    let old = c.args.staged.now.before.store in
+    let new = c.args.staged.now.after.store in
+    let says : SaysWhat base old = λ l. c.requires.says l ∙ ap (λ (es : List Entry). samples_of_labels es l) (sym on.entries) in
+    let was = still_noted (entries_of page_size seen) (entries_of page_size base) c.args.references.now c.collect.new.references on.entries c.collect.ensures.undone c.requires.writable.noted in
+    let said = says_more c.new_samples_are_read.ensures.samples old new base c.in_ok-bytes.bytes.items c.collect.new.references c.in_ok-samples.samples.items c.args.staged.now.added says c.collect.ensures.adds was
+    c.undefined.ensures.table c.in_ok-samples.ensures.of c.in_ok-samples.ensures.points entries in
+    let noted = noted_written (entries_of page_size base) (entries_of page_size (g.J.Journal.seen c.write_in_pages.new.journal)) c.collect.new.references c.commit.new.self c.in_ok-samples.samples.items
+    c.new_samples_are_read.ensures.defined
+    (still_noted (entries_of page_size seen) (entries_of page_size base) c.args.references.now c.collect.new.references on.entries c.collect.ensures.undone c.requires.writable.noted)
+    c.undefined.ensures.table c.commit.ensures (ap (entries_of page_size) there ∙ entries) in
     record {
       writable = record {
         ends = search rules;
-        defined = search rules;
-        none_else = search rules;
-        later = subst (λ m. greatest_after 0 (entries_of page_size (g.J.Journal.seen c.write_in_pages.new.journal)) < m.first + length m.sets) (sym c.commit.ensures) later;
+        noted = noted;
+        none_else = none_new c.collect.new.references c.commit.new.self c.commit.ensures;
         synced = search rules;
       };
-      says = search rules;
+      says = subst (λ ss. SaysWhat ss new) (sym there) said;
     }
+
+pub returns-clause-once : goal.returns-clause-once
+returns-clause-once g c =
+    let seen = g.J.Journal.seen c.args.journal.now in
+    let base = g.J.Journal.seen c.spell.new.journal in
+    let on : GoesOn seen base (g.J.Journal.may_leave c.spell.new.journal) c.spell.new.end.offset = c.in_ok-bytes.ensures.ok in
+    let entries = c.in_ok-bytes.ensures.entries
+    ∙ ap (λ ds. entries_of page_size base ++ map definition_entry ds ++ map sample_entry c.deref-2.result.now) (c.deref.ensures.value ∙ c.in_ok-definitions.ensures.definitions)
+    ∙ ap (λ ss. entries_of page_size base ++ map definition_entry (undefined c.collect.new.references) ++ map sample_entry ss) c.deref-2.ensures.value in
+    let there : g.J.Journal.seen c.write_in_pages.new.journal ≡ with_more base c.in_ok-bytes.bytes.items = search rules in
+    once_written (entries_of page_size seen) (entries_of page_size base) (entries_of page_size (g.J.Journal.seen c.write_in_pages.new.journal)) c.collect.new.references c.in_ok-samples.samples.items
+    c.new_samples_are_read.ensures.once on.entries
+    (still_noted (entries_of page_size seen) (entries_of page_size base) c.args.references.now c.collect.new.references on.entries c.collect.ensures.undone c.requires.writable.noted)
+    c.undefined.ensures.table (ap (entries_of page_size) there ∙ entries)
+
+pub returns-in_err-samples-clause-once_unspelled : goal.returns-in_err-samples-clause-once_unspelled
+returns-in_err-samples-clause-once_unspelled g c = λ _ once. once
+
+pub returns-in_err-definitions-clause-once_unspelled : goal.returns-in_err-definitions-clause-once_unspelled
+returns-in_err-definitions-clause-once_unspelled g c = λ _ once. once
+
+pub returns-in_err-bytes-clause-once_unspelled : goal.returns-in_err-bytes-clause-once_unspelled
+returns-in_err-bytes-clause-once_unspelled g c = λ e once.
+    let on : GoesOn (g.J.Journal.seen c.args.journal.now) (g.J.Journal.seen c.spell.new.journal) (g.J.Journal.may_leave c.spell.new.journal) c.spell.new.end.offset = search rules in
+    subst IsDefinedOnce (sym on.entries) once
 
 pub returns-clause-written : goal.returns-clause-written
 returns-clause-written g c =
     let base = g.J.Journal.seen c.spell.new.journal in
     let on : GoesOn (g.J.Journal.seen c.args.journal.now) base (g.J.Journal.may_leave c.spell.new.journal) c.spell.new.end.offset = c.in_ok-bytes.ensures.ok in
     let entries = c.in_ok-bytes.ensures.entries
-    ∙ ap (λ ds. entries_of page_size base ++ map definition_entry ds ++ map sample_entry c.deref-2.result.now) (c.deref.ensures.value ∙ c.in_ok-definitions.ensures)
+    ∙ ap (λ ds. entries_of page_size base ++ map definition_entry ds ++ map sample_entry c.deref-2.result.now) (c.deref.ensures.value ∙ c.in_ok-definitions.ensures.definitions)
     ∙ ap (λ ss. entries_of page_size base ++ map definition_entry (undefined c.collect.new.references) ++ map sample_entry ss) c.deref-2.ensures.value in
     let there : g.J.Journal.seen c.write_in_pages.new.journal ≡ with_more base c.in_ok-bytes.bytes.items = search rules in
     is_written (entries_of page_size (g.J.Journal.seen c.args.journal.now)) (entries_of page_size (g.J.Journal.seen c.write_in_pages.new.journal)) c.args.references.now c.collect.new.references c.commit.new.self
-    c.in_ok-samples.samples.items c.requires.writable.none_else c.collect.ensures.undone c.commit.ensures
+    c.in_ok-samples.samples.items c.collect.ensures.undone c.commit.ensures
     (ap (entries_of page_size) there ∙ entries ∙ ap (λ es. es ++ map definition_entry (undefined c.collect.new.references) ++ map sample_entry c.in_ok-samples.samples.items) on.entries)
 
 pub returns-in_err-samples-clause-unspelled : goal.returns-in_err-samples-clause-unspelled

@@ -3,15 +3,16 @@ use Rattle.std.proofs.lemmas.Int.{to_z-of_z}
 use Rattle.std.specs.HashMap.{get}
 use Rattle.std.specs.Prelude.{FitsSigned}
 use Rattle.rw_types.specs.declared.entry.Entry.{Entry}
+use Rattle.rw_types.specs.declared.names.Names.TheVariants.{Utf8}
 use Rattle.rw_types.specs.declared.entry.Entry.TheVariants.{Sample}
 use Rattle.rw_kept_head.specs.inner.Restoring.{IsRestored, IsRestoredOrRefused}
-use Rattle.rw_kept_head.proofs.RestoringLemmas.{defined_under, sample_taken}
+use Rattle.rw_kept_head.proofs.RestoringLemmas.{defined_next, sample_taken}
 use Rattle.rw_kept_head.proofs.restoring.take_entry.Goals as goal
 
-pub returns-in_ok-define-in-Def-clause-done : goal.returns-in_ok-define-in-Def-clause-done
-returns-in_ok-define-in-Def-clause-done c = λ taken restored.
-    subst (λ (e : Entry). IsRestored c.args.head.now.limits.names (taken ++ e ∷ []) (λ n. get nat_eq c.define.new.series n) c.args.head.now.store) (sym c.in-Def.is)
-    (defined_under c.args.names c.args.head.now.limits.names c.requires.names taken (λ n. get nat_eq c.args.series.now n) (λ n. get nat_eq c.define.new.series n) c.args.head.now.store _ _ c.in_ok-define-in-Def.ensures restored)
+pub returns-in_ok-first-in-Def-clause-done : goal.returns-in_ok-first-in-Def-clause-done
+returns-in_ok-first-in-Def-clause-done c = λ taken restored.
+    subst (λ (e : Entry). IsRestored Utf8 (taken ++ e ∷ []) (λ n. get nat_eq c.define.new.series n) c.args.head.now.store) (sym c.in-Def.is)
+    (defined_next Utf8 taken (λ n. get nat_eq c.args.series.now n) (λ n. get nat_eq c.define.new.series n) c.args.head.now.store _ _ c.in_ok-first-in-Def.ensures restored)
 
 pub returns-in_ok-done-in-Sample-clause-done : goal.returns-in_ok-done-in-Sample-clause-done
 returns-in_ok-done-in-Sample-clause-done c =

@@ -1,7 +1,26 @@
-use Rattle.rw_wal_append.proofs.PlaceLemmas.{stored_at}
+use Rattle.std.proofs.Common.{◌+◌, ◌-◌, ap, refl, ◌∙◌}
+use Rattle.rw_wal_append.specs.References.{with_set}
+use Rattle.rw_wal_append.proofs.TableLemmas.{grown_table, is_last, last_named, table_grown}
 use Rattle.rw_wal_append.proofs.references.References.insert.Goals as goal
+
+pub invariant_of-self-2 : goal.invariant_of-self-2
+invariant_of-self-2 c =
+    table_grown c.self.inside.sets.entries c.insert.new.self.entries c.self.inside.defined c.self.inside.next c.len.result (c.self.inside.next + (c.len.result - c.self.inside.defined)) c.args.labels.now c.in_ok-set.set
+    c.args.self.now c.self.invariant c.self.view_is c.is_label_set.ensures c.requires.none c.in_ok-set.ensures c.in_ok-insert.ensures.entries c.len.ensures.len refl
 
 pub returns-clause-is : goal.returns-clause-is
 returns-clause-is c =
-    stored_at (record { first = c.self.inside.first; sets = c.insert_full.new.self.keys; defined = c.self.inside.defined }) c.args.labels.now c.in_ok-set.set c.in_ok-place.ensures.stored.0
-    c.in_ok-place.place c.at.result c.in_ok-set.ensures c.in_ok-place.ensures.stored.1 c.in_ok-place.ensures.stored.2 c.at.ensures
+    let q = c.self.inside.next + (c.len.result - c.self.inside.defined) in
+    last_named c.self.inside.sets.entries c.insert.new.self.entries c.self.inside.defined c.self.inside.next q c.args.labels.now
+    (table_grown c.self.inside.sets.entries c.insert.new.self.entries c.self.inside.defined c.self.inside.next c.len.result q c.args.labels.now c.in_ok-set.set c.args.self.now c.self.invariant c.self.view_is
+    c.is_label_set.ensures c.requires.none c.in_ok-set.ensures c.in_ok-insert.ensures.entries c.len.ensures.len refl)
+    (is_last c.self.inside.sets.entries c.insert.new.self.entries c.self.inside.defined c.self.inside.next q c.args.labels.now c.in_ok-set.set c.args.self.now c.self.invariant c.self.view_is c.requires.none
+    c.in_ok-set.ensures c.in_ok-insert.ensures.entries)
+
+pub returns-clause-more : goal.returns-clause-more
+returns-clause-more c =
+    let q = c.self.inside.next + (c.len.result - c.self.inside.defined) in
+    grown_table c.self.inside.sets.entries c.insert.new.self.entries c.self.inside.defined c.self.inside.next q c.args.labels.now c.self.invariant
+    (is_last c.self.inside.sets.entries c.insert.new.self.entries c.self.inside.defined c.self.inside.next q c.args.labels.now c.in_ok-set.set c.args.self.now c.self.invariant c.self.view_is c.requires.none
+    c.in_ok-set.ensures c.in_ok-insert.ensures.entries)
+    ∙ ap (with_set c.args.labels.now) c.self.view_is
