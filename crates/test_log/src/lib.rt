@@ -1,5 +1,5 @@
 //! Tests of the lowest layer: histories, words, labels, devices, the codes of a log, its reader and
-//! its writer, and messages.
+//! its writer, messages, and blocks of Snappy.
 #![tactic(auto)]
 
 #[cfg(test)]
@@ -22,6 +22,8 @@ mod message_memory;
 mod message_rows;
 #[cfg(test)]
 mod rows;
+#[cfg(test)]
+mod snappy_blocks;
 #[cfg(test)]
 mod tail;
 #[cfg(test)]
