@@ -1,5 +1,5 @@
-//! The engines of the program `rwship`, one for each of its commands. This crate re-exports what
-//! the crates of the engines have.
+//! The engines of the commands `body`, `log`, `plan`, `replay`, `send` and `receive`. This crate
+//! re-exports what the crates of the engines have.
 #![tactic(auto)]
 
 pub use rw_follow::{Segments, StopRequest, StopSignal, Watch};

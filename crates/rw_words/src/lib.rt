@@ -113,6 +113,10 @@ pub struct Receiving<'a> {
     pub is_quiet: bool,
     /// Whether it stops once a write to that folder has failed.
     pub ends_on_write_error: bool,
+    /// Whether it goes on in a folder with segments that no receiver wrote, or of a server.
+    pub adopts: bool,
+    /// Whether it goes on in a folder whose first segments are missing.
+    pub allows_missing_start: bool,
     pub reporting: Reporting<'a>,
 }
 

@@ -41,6 +41,8 @@ pub(crate) fn receive_task<'a>(
             dir: options.get_str("dir"),
             is_quiet: options.get_flag("quiet"),
             ends_on_write_error: options.get_flag("end-on-write-error"),
+            adopts: options.get_flag("adopt"),
+            allows_missing_start: options.get_flag("allow-missing-start"),
             reporting,
         },
     })

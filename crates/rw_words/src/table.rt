@@ -385,6 +385,18 @@ static RECEIVE: Words = Words {
             bonds: &[Bond::Needs("dir"), Bond::Excludes("connections")],
             help: "With --dir: stop once a write to DIR has failed,\nand end with status 4",
         },
+        Opt {
+            name: "adopt",
+            takes: Takes::Nothing,
+            bonds: &[Bond::Needs("dir")],
+            help: "With --dir: go on in DIR though it has segments that\nno receiver wrote, or is in the folder of a server",
+        },
+        Opt {
+            name: "allow-missing-start",
+            takes: Takes::Nothing,
+            bonds: &[Bond::Needs("dir")],
+            help: "With --dir: go on in DIR though its first segments\nare missing",
+        },
         PROGRESS,
         METRICS,
     ],

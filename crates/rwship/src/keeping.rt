@@ -7,25 +7,25 @@ use crate::stopping::{report_write_error, stop_signal};
 use rw_follow::StopSignal;
 use rw_head::Limits;
 use rw_kept_folder::{
-    FolderError, FolderFault, FolderJournal, FolderMonitor, OpenFolder, open_journal,
-    refuse_running_server,
+    FaultCause, FolderError, FolderFault, FolderJournal, FolderMonitor, FolderRules, OpenFolder,
+    open_journal, refuse_running_server,
 };
-use rw_kept_head::{KeptHead, OpenError, Opened};
+use rw_kept_head::{KeptHead, Oddities, OpenError, Opened};
 use rw_metrics::ReceiveCounters;
 use rw_receive::{FinalHead, serve_connections, serve_until_stop};
-use rw_reopen::{Damage, ReopenError};
+use rw_reopen::{Damage, ReopenError, whole_len};
 use rw_text::ToolFault;
 use rw_types::Std;
 use rw_words::{Receiving, Until};
 use std::alloc::{AllocError, Global};
-use std::fs;
 use std::fs::{File, TryLockError};
-use std::io::Error;
+use std::io::{Error, Read};
 use std::net::TcpListener;
 use std::process::ExitCode;
 use std::sync::{Arc, Wait};
 use std::thread::Threads;
 use std::time::Clock;
+use std::{fs, io};
 
 /// A log in the files of a folder.
 type Log = FolderJournal<OpenFolder<HostRuntime>>;
@@ -71,11 +71,20 @@ fn open_error(error: OpenError, files: &OpenFolder<HostRuntime>) -> KeepError {
     }
 }
 
+/// Returns which folders the arguments let a receiver go on in.
+pub fn rules_of(receiving: &Receiving<'_>) -> FolderRules {
+    FolderRules {
+        adopts: receiving.adopts,
+        allows_missing_start: receiving.allows_missing_start,
+    }
+}
+
 /// Opens the log in a folder. The counters count what is written to it.
 pub fn open_head(
     rt: &HostRuntime,
     limits: &Limits,
     dir: &str,
+    rules: FolderRules,
     counters: &Arc<ReceiveCounters, Global>,
 ) -> Result<Opened<Log>, KeepError> {
     let Ok(counters) = Arc::try_clone(counters) else {
@@ -84,7 +93,7 @@ pub fn open_head(
     if let Err(error) = refuse_running_server(rt, dir) {
         return Err(KeepError::Folder(error));
     }
-    let journal = match open_journal(rt, dir, FolderMonitor::new(counters)) {
+    let journal = match open_journal(rt, dir, rules, FolderMonitor::new(counters)) {
         Ok(journal) => journal,
         Err(error) => return Err(KeepError::Folder(error)),
     };
@@ -104,22 +113,59 @@ fn fault_of(error: &KeepError) -> ToolFault {
     }
 }
 
-/// Says where the log in a folder is damaged, and what to do.
+/// Returns the bytes of a segment in a folder.
+fn read_segment(rt: &HostRuntime, dir: &str, number: u64) -> io::Result<Vec<u8>> {
+    let alloc = rt.alloc();
+    let path = format!(in alloc; "{dir}/{number:08}")?;
+    let mut file = fs::open(rt, path.as_str())?;
+    let mut bytes = Vec::new(alloc);
+    file.read_to_end(&mut bytes)?;
+    Ok(bytes)
+}
+
+/// Says where the log in a folder is damaged, and where to cut it, if that segment can be read.
 fn print_damage(rt: &HostRuntime, dir: &str, damage: &Damage, number: u64) {
     let (fault, at) = (damage.fault, damage.place.offset);
     let _ = eprintln!(rt;
         "  cannot keep samples in {dir}: {fault} in segment {number} at byte {at}"
     );
+    let Ok(text) = read_segment(rt, dir, number) else {
+        return;
+    };
+    let whole = whole_len(&text, at as usize);
     let _ = eprintln!(rt;
-        "  next: move segment {number} and all after it out of {dir}, and start the receiver and its sender again: it ships once more what its log has"
+        "  next: copy {dir}/{number:08}, then cut it after its last whole record, 'truncate -s {whole} {dir}/{number:08}', and start the receiver and its sender again; of that segment, what came after the cut is lost unless the sender's log still has it"
     );
+}
+
+/// What to do if the reason of a failed call does not say it.
+const MAKE_READABLE: &str =
+    "make the folder and its files readable and writable, or choose another one";
+
+const SEE_THE_DISK: &str = "see whether the disk is full or fails, and start the receiver again";
+
+/// Returns what to do about a call on the files of a folder that failed for this reason.
+fn step_after_cause(cause: FaultCause, otherwise: &'static str) -> &'static str {
+    match cause {
+        FaultCause::DiskFull => "make room on its disk, and start the receiver again",
+        FaultCause::ReadOnly => "mount its file system for writing, and start the receiver again",
+        FaultCause::NoPermission =>
+            "let the user of the receiver read and write the folder and its files",
+        _ => otherwise,
+    }
 }
 
 /// Returns what to do if a folder cannot be used because of this error, or `None` if the text of
 /// the error says so.
 fn step_after_folder(error: &FolderError) -> Option<&'static str> {
     match error {
-        FolderError::OutOfMemory | FolderError::ServerRuns | FolderError::LockUnreadable(_) => None,
+        FolderError::OutOfMemory
+        | FolderError::ServerRuns
+        | FolderError::LockUnreadable(_)
+        | FolderError::NotReceived
+        | FolderError::BesideServer
+        | FolderError::OwnerUnknown(_)
+        | FolderError::StartMissing(_) => None,
         FolderError::Missing(_) => {
             Some("copy the missing segment there, or move all after it out of the folder")
         }
@@ -127,9 +173,11 @@ fn step_after_folder(error: &FolderError) -> Option<&'static str> {
         FolderError::Checkpoint => {
             Some("choose a folder that no Prometheus has written to; an empty one will do")
         }
-        FolderError::Unreadable(_) | FolderError::Fault(_) => {
-            Some("make the folder and its files readable and writable, or choose another one")
+        FolderError::Unmarked(_) => {
+            Some("make the folder writable, and room on its disk, or choose another one")
         }
+        FolderError::Unreadable(cause) => Some(step_after_cause(*cause, MAKE_READABLE)),
+        FolderError::Fault(fault) => Some(step_after_cause(fault.cause, MAKE_READABLE)),
     }
 }
 
@@ -146,9 +194,7 @@ fn next_step(error: &KeepError) -> Option<&'static str> {
             Some("give the settings with which the folder was written, or another folder")
         }
         KeepError::Log(OpenError::NoReferenceLeft, None) => Some("choose another folder"),
-        KeepError::Log(_, Some(_)) => {
-            Some("see whether the disk is full or fails, and start the receiver again")
-        }
+        KeepError::Log(_, Some(fault)) => Some(step_after_cause(fault.cause, SEE_THE_DISK)),
         KeepError::Damaged(..) | KeepError::Log(..) => None,
     }
 }
@@ -177,16 +223,62 @@ pub fn report_keep_error(rt: &HostRuntime, dir: &str, error: KeepError) -> ExitC
     status
 }
 
-/// Reports what a folder holds, if somebody may read that, and in any case what was cut off.
-pub fn report_opened(rt: &HostRuntime, dir: &str, opened: &Opened<Log>, receiving: &Receiving<'_>) {
+/// Reports that the first segments of a folder are missing, if they are.
+fn report_missing_start(rt: &HostRuntime, dir: &str, opened: &Opened<Log>) {
+    let first = opened.kept.journal().files().number_of(0);
+    if first > 0 && opened.segments > 0 {
+        let _ = eprintln!(rt; "rwship: {dir} has no segment before segment {first}");
+    }
+}
+
+/// Reports what was cut off the end of a folder's log, and what to do.
+fn report_cut(rt: &HostRuntime, dir: &str, opened: &Opened<Log>) {
     let torn = opened.end.torn.len();
-    if torn > 0 {
-        let last = opened.segments.saturating_sub(1) as u64;
-        let number = opened.kept.journal().files().number_of(last);
+    if torn == 0 {
+        return;
+    }
+    let last = opened.segments.saturating_sub(1) as u64;
+    let number = opened.kept.journal().files().number_of(last);
+    let _ = eprintln!(rt;
+        "rwship: the end of {dir} is not whole: {torn} bytes are cut off, and copied to {dir}/torn-{number:08}"
+    );
+    if let Some(at) = opened.end.follows {
         let _ = eprintln!(rt;
-            "rwship: the last write to {dir} was torn: {torn} bytes are cut off, and copied to {dir}/torn-{number:08}"
+            "  a whole record follows the fault, at byte {at} of segment {number}: unless the machine lost its power, this is damage"
         );
     }
+    let _ = eprintln!(rt;
+        "  next: if no crash and no failed write left them, they may hold acknowledged samples: start the sender again now, so that it ships them once more"
+    );
+}
+
+/// Reports what the log of a folder has that one which this version began never has.
+fn report_oddities(rt: &HostRuntime, dir: &str, oddities: &Oddities) {
+    let (repeated, passed) = (
+        oddities.repeated_definitions,
+        oddities.samples_without_series,
+    );
+    if repeated > 0 {
+        let _ = eprintln!(rt;
+            "rwship: the log in {dir} defines label sets again, {repeated} times, as an earlier version did at each start: a Prometheus over it answers only what follows the last definition"
+        );
+        let _ = eprintln!(rt;
+            "  next: for a folder that a Prometheus can read, ship it to a receiver with a new one: rwship send --dir {dir}"
+        );
+    }
+    if passed > 0 {
+        let _ = eprintln!(rt;
+            "rwship: {passed} samples in {dir} have no label set, and are not held"
+        );
+    }
+}
+
+/// Reports what a folder holds, if somebody may read that, and in any case what was cut off, and
+/// what is odd of its log.
+pub fn report_opened(rt: &HostRuntime, dir: &str, opened: &Opened<Log>, receiving: &Receiving<'_>) {
+    report_cut(rt, dir, opened);
+    report_missing_start(rt, dir, opened);
+    report_oddities(rt, dir, &opened.oddities);
     if is_watched(rt, &receiving.reporting) {
         let (head, segments) = (opened.kept.head(), opened.segments);
         let (samples, series) = (head.total(), head.places());

@@ -6,7 +6,8 @@ use crate::ending::{
 };
 use crate::inspecting::has_output_failed;
 use crate::keeping::{
-    FolderHead, lock_folder, open_head, report_keep_error, report_kept, report_opened, serve_kept,
+    FolderHead, lock_folder, open_head, report_keep_error, report_kept, report_opened, rules_of,
+    serve_kept,
 };
 use crate::reporting::{begin_reporting, end_reporting, print_listen_error};
 use crate::settings::settings_in;
@@ -187,7 +188,7 @@ fn receive_into<R: Threads + Wait + Clock + Sync>(
     let Ok(counters) = new_counters(rt, receiving) else {
         return report_result(rt, Err(ToolFault::OutOfMemory));
     };
-    let status = match open_head(rt, &settings.limits, dir, &counters) {
+    let status = match open_head(rt, &settings.limits, dir, rules_of(receiving), &counters) {
         Ok(opened) => {
             report_opened(rt, dir, &opened, receiving);
             let head = opened.kept;

@@ -78,6 +78,8 @@ impl<J: Journal> Journal for FailingJournal<J> {
 
     ghost only_now = { λ f c left. J.only_now f.inner c left };
 
+    ghost leaves_seen = { λ f. J.leaves_seen f.inner };
+
     fn count(&self) -> usize {
         self.inner.count()
     }

@@ -252,3 +252,20 @@ fn logs_are_opened_or_refused(rt: HostRuntime) -> Result<(), Fail> {
     assert_eq!(rt; wrong, Ok(None));
     Ok(())
 }
+
+/// Returns where the record after the fault begins, if a byte of the record before it is damaged.
+fn record_after_damage(alloc: Global) -> Result<Option<usize>, ReopenError> {
+    let mut journal = MemoryJournal::new(alloc);
+    let mut text = UP.to_vec(alloc)?;
+    text[20] ^= 0xff;
+    journal.append(&text)?;
+    journal.sync()?;
+    let mut counter = Counter::new();
+    Ok(reopen(&mut journal, alloc, &mut counter)?.follows)
+}
+
+#[test]
+fn a_record_after_a_fault_is_reported(rt: HostRuntime) -> Result<(), Fail> {
+    assert_eq!(rt; record_after_damage(rt.alloc()), Ok(Some(29)));
+    Ok(())
+}

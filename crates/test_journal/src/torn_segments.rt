@@ -69,7 +69,7 @@ fn entries_after(alloc: Global, crash: &Crash) -> Result<u64, ReopenError> {
 
 static SYNCED: [usize; 4] = [0, 7, 29, 40];
 
-static JUNK: [&[u8]; 3] = [&[], &[0], &[9; 40]];
+static JUNK: [&[u8]; 4] = [&[], &[0], &[9; 40], &[0; 40]];
 
 /// Returns the first crash that is not opened with the entries of the bytes that it left: how many
 /// bytes were synced, and how many were left.
