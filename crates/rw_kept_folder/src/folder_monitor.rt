@@ -21,11 +21,25 @@ impl FolderMonitor {
         FolderMonitor { counters: None }
     }
 
-    /// Returns a monitor that counts the bytes that are written, the syncs, the segments that are
-    /// begun, and the failed calls.
+    /// Returns a monitor that counts the segments that are read at the start, the bytes that are
+    /// written, the syncs, the segments that are begun, and the failed calls.
     pub fn new(counters: Arc<ReceiveCounters, Global>) -> FolderMonitor {
         FolderMonitor {
             counters: Some(counters),
+        }
+    }
+
+    /// Counts the segments that are there and about to be read.
+    pub(crate) fn count_found(&self, segments: usize) {
+        if let Some(counters) = &self.counters {
+            counters.find_log_segments(segments);
+        }
+    }
+
+    /// Counts one of them that was read.
+    pub(crate) fn count_read(&self) {
+        if let Some(counters) = &self.counters {
+            counters.read_log_segment();
         }
     }
 

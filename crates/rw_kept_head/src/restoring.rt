@@ -120,11 +120,11 @@ fn add_sample(
     ensures busy { head.new.busy ≡ head.old.busy }
 {
     utf8_takes_any_name();
-    let Some(known) = series.swap_remove(&reference) else {
+    let Some(known) = series.get_mut(&reference) else {
         oddities.pass_over();
         return Ok(true);
     };
-    let Some(mut found) = known else {
+    let Some(mut found) = known.take() else {
         return Ok(false);
     };
     set_sample(&mut found, sample.0, sample.1)?;
@@ -134,7 +134,7 @@ fn add_sample(
     let Some(found) = message.series.pop() else {
         return Err(AllocError);
     };
-    series.insert(reference, Some(found))?;
+    *known = Some(found);
     Ok(done)
 }
 

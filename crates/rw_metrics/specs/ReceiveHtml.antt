@@ -38,6 +38,8 @@ answers_table n =
 unfoldable pub log_table : KeptNumbers → List ℕ
 log_table n =
     table_start (codes "Log")
+    ++ row (codes "Segments at the start") n.found
+    ++ row (codes "Segments of these read") n.read
     ++ row (codes "Bytes written") n.bytes
     ++ row (codes "Syncs") n.syncs
     ++ row (codes "Milliseconds in syncs") (n.sync_micros / 1000)

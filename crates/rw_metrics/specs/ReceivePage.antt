@@ -34,10 +34,16 @@ log_page n =
     ++ counter (codes "rwship_receive_log_segments_total") (codes "Segments of the log that were begun.") n.segments
     ++ counter (codes "rwship_receive_log_writes_failed_total") (codes "Writes, syncs and new segments of the log that failed.") n.failed
 
--- the same, if the receiver has such a log
+-- how far it was read at the start
+abbrev pub opening_page : KeptNumbers → List ℕ
+opening_page n =
+    gauge (codes "rwship_receive_log_segments_found") (codes "Segments of the log that were there at the start.") n.found
+    ++ gauge (codes "rwship_receive_log_segments_read") (codes "How many of them were read. Nothing is answered before that is all.") n.read
+
+-- both, if the receiver has such a log
 unfoldable pub kept_page : Option KeptNumbers → List ℕ
 kept_page None = []
-kept_page (Some n) = log_page n
+kept_page (Some n) = opening_page n ++ log_page n
 
 abbrev pub receive_page : ReceiveNumbers → List ℕ
 receive_page n = connections_page n ++ requests_page n ++ held_page n ++ kept_page n.kept

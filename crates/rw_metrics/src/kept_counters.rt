@@ -11,6 +11,8 @@ pub(crate) struct KeptCounters {
     sync_micros: AtomicU64,
     segments: AtomicU64,
     failed: AtomicU64,
+    found: AtomicU64,
+    read: AtomicU64,
 }
 
 fn read(counter: &AtomicU64) -> u64 {
@@ -29,6 +31,8 @@ impl KeptCounters {
             sync_micros: AtomicU64::new(0),
             segments: AtomicU64::new(0),
             failed: AtomicU64::new(0),
+            found: AtomicU64::new(0),
+            read: AtomicU64::new(0),
         }
     }
 
@@ -49,13 +53,23 @@ impl KeptCounters {
         add(&self.failed, 1);
     }
 
-    pub(crate) fn read(&self) -> KeptNumbers {
+    pub(crate) fn find_segments(&self, count: u64) {
+        add(&self.found, count);
+    }
+
+    pub(crate) fn read_segment(&self) {
+        add(&self.read, 1);
+    }
+
+    pub(crate) fn numbers(&self) -> KeptNumbers {
         KeptNumbers {
             bytes: read(&self.bytes),
             syncs: read(&self.syncs),
             sync_micros: read(&self.sync_micros),
             segments: read(&self.segments),
             failed: read(&self.failed),
+            found: read(&self.found),
+            read: read(&self.read),
         }
     }
 }

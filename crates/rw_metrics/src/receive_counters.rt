@@ -94,7 +94,7 @@ impl ReceiveCounters {
         self.max_label_sets.store(max_label_sets, Ordering::Relaxed);
     }
 
-    /// Counts bytes that were written to the log of a folder. This and the next three calls count
+    /// Counts bytes that were written to the log of a folder. This and the next five calls count
     /// nothing if the receiver keeps no log.
     pub fn write_log(&self, bytes: u64) {
         if let Some(kept) = &self.kept {
@@ -123,6 +123,20 @@ impl ReceiveCounters {
         }
     }
 
+    /// Counts the segments of that log that are there at the start, and are about to be read.
+    pub fn find_log_segments(&self, count: usize) {
+        if let Some(kept) = &self.kept {
+            kept.find_segments(count as u64);
+        }
+    }
+
+    /// Counts one of them that was read.
+    pub fn read_log_segment(&self) {
+        if let Some(kept) = &self.kept {
+            kept.read_segment();
+        }
+    }
+
     /// Returns the values of the counters.
     pub fn numbers(&self, alloc: Global) -> Result<ReceiveNumbers, AllocError> {
         let statuses = self.statuses.read(alloc)?;
@@ -137,7 +151,7 @@ impl ReceiveCounters {
             label_sets: read(&self.label_sets),
             max_samples: read(&self.max_samples),
             max_label_sets: read(&self.max_label_sets),
-            kept: self.kept.as_ref().map(|kept| kept.read()),
+            kept: self.kept.as_ref().map(|kept| kept.numbers()),
         })
     }
 }

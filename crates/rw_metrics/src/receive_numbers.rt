@@ -13,6 +13,10 @@ pub struct KeptNumbers {
     pub segments: u64,
     /// Writes, syncs and new segments that failed.
     pub failed: u64,
+    /// Segments that were there at the start.
+    pub found: u64,
+    /// How many of them were read. Nothing is answered before that is all.
+    pub read: u64,
 }
 
 /// The values of a receiver's counters when they were read, one after the other.

@@ -61,6 +61,8 @@ fn push_log(out: &mut Vec<u8>, n: &KeptNumbers) -> Result<(), AllocError>
     ensures { OnOk result (out.new.items ≡ out.old.items ++ log_table n.now) }
 {
     push_table_start(out, "Log")?;
+    push_row(out, "Segments at the start", n.found)?;
+    push_row(out, "Segments of these read", n.read)?;
     push_row(out, "Bytes written", n.bytes)?;
     push_row(out, "Syncs", n.syncs)?;
     push_row(out, "Milliseconds in syncs", n.sync_micros / 1_000)?;

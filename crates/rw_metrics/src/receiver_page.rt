@@ -1,7 +1,7 @@
 //! The page of a receiver.
 
 ghost use Rattle.std.specs.Prelude.{◌≡◌, ◌++◌, IfOk, OnOk};
-ghost use Rattle.rw_metrics.specs.ReceivePage.{connections_page, held_page, kept_page, log_page, receive_page, requests_page};
+ghost use Rattle.rw_metrics.specs.ReceivePage.{connections_page, held_page, kept_page, log_page, opening_page, receive_page, requests_page};
 
 use crate::exposition::{
     push_counter, push_counters, push_gauge, push_seconds_counter, push_statuses,
@@ -118,14 +118,36 @@ fn push_log(out: &mut Vec<u8>, n: &KeptNumbers) -> Result<(), AllocError>
     Ok(())
 }
 
-/// Adds what was written to the log of a folder, if the receiver has one.
+/// Adds how far the log of a folder was read at the start.
+fn push_opening(out: &mut Vec<u8>, n: &KeptNumbers) -> Result<(), AllocError>
+    ensures { OnOk result (out.new.items ≡ out.old.items ++ opening_page n.now) }
+{
+    push_gauge(
+        out,
+        "rwship_receive_log_segments_found",
+        "Segments of the log that were there at the start.",
+        n.found,
+    )?;
+    push_gauge(
+        out,
+        "rwship_receive_log_segments_read",
+        "How many of them were read. Nothing is answered before that is all.",
+        n.read,
+    )?;
+    Ok(())
+}
+
+/// Adds how far the log of a folder was read, and what was written to it, if the receiver has one.
 #[tactic(auto, unfolding(crate::specs::ReceivePage::kept_page))]
 fn push_kept(out: &mut Vec<u8>, kept: &Option<KeptNumbers>) -> Result<(), AllocError>
     ensures { OnOk result (out.new.items ≡ out.old.items ++ kept_page kept.now) }
 {
     match kept {
         None => Ok(()),
-        Some(numbers) => push_log(out, numbers),
+        Some(numbers) => {
+            push_opening(out, numbers)?;
+            push_log(out, numbers)
+        }
     }
 }
 

@@ -6,14 +6,13 @@ use crate::ending::{
 };
 use crate::inspecting::has_output_failed;
 use crate::keeping::{
-    FolderHead, lock_folder, open_head, report_keep_error, report_kept, report_opened, rules_of,
-    serve_kept,
+    lock_folder, open_head, report_keep_error, report_kept, report_opened, rules_of, serve_kept,
 };
 use crate::reporting::{begin_reporting, end_reporting, print_listen_error};
 use crate::settings::settings_in;
 use crate::stopping::{is_misplaced, stop_signal};
 use rw_metrics::{Counters, ReceiveCounters};
-use rw_receive::{FinalHead, run_receive, run_receive_until};
+use rw_receive::{run_receive, run_receive_until};
 use rw_settings::Settings;
 use rw_text::ToolFault;
 use rw_types::Std;
@@ -97,16 +96,17 @@ fn new_counters(
     Ok(Arc::new(rt.alloc(), counters)?)
 }
 
-/// Reports these counters from here on, as far as that is asked for. Returns them as what is shown.
-fn report_counters<R: Threads>(
+/// Returns counters that have counted nothing, and reports them from here on, as far as that is
+/// asked for. The second ones are what is shown.
+fn begin_counting<R: Threads>(
     rt: &HostRuntime,
     threads: &R,
     receiving: &Receiving<'_>,
-    counters: &Arc<ReceiveCounters, Global>,
-) -> Result<Counters, ToolFault> {
-    let shown = Counters::Receive(Arc::try_clone(counters)?);
+) -> Result<(Arc<ReceiveCounters, Global>, Counters), ToolFault> {
+    let counters = new_counters(rt, receiving)?;
+    let shown = Counters::Receive(Arc::try_clone(&counters)?);
     begin_reporting(rt, threads, &receiving.reporting, &shown)?;
-    Ok(shown)
+    Ok((counters, shown))
 }
 
 /// Serves connections, and reports how that goes as far as it is asked for.
@@ -118,8 +118,7 @@ fn serve_and_report<R: Threads + Wait + Clock + Sync>(
     receiving: &Receiving<'_>,
     output: &mut Std<Stdout>,
 ) -> Result<(), ToolFault> {
-    let counters = new_counters(rt, receiving)?;
-    let shown = report_counters(rt, threads, receiving, &counters)?;
+    let (counters, shown) = begin_counting(rt, threads, receiving)?;
     let outcome = serve(
         rt, threads, settings, listener, receiving, &counters, output,
     );
@@ -146,32 +145,8 @@ fn report_served(
     status
 }
 
-/// Serves connections over a head whose log is in a folder, and reports how that goes as far as it
-/// is asked for.
-fn keep<R: Threads + Wait + Clock + Sync>(
-    rt: &HostRuntime,
-    threads: &R,
-    settings: &Settings,
-    listener: TcpListener,
-    receiving: &Receiving<'_>,
-    counters: &Arc<ReceiveCounters, Global>,
-    head: FolderHead,
-) -> Result<FinalHead<FolderHead>, ToolFault> {
-    let shown = report_counters(rt, threads, receiving, counters)?;
-    let outcome = serve_kept(
-        rt,
-        threads,
-        &settings.limits,
-        listener,
-        receiving,
-        counters,
-        head,
-    );
-    end_reporting(rt, &receiving.reporting, &shown);
-    outcome
-}
-
-/// Opens the log in a folder, and serves connections over it.
+/// Opens the log in a folder, and serves connections over it. What is asked for is reported from
+/// the beginning, so that one can see how far the log is read.
 fn receive_into<R: Threads + Wait + Clock + Sync>(
     rt: &HostRuntime,
     threads: &R,
@@ -185,15 +160,18 @@ fn receive_into<R: Threads + Wait + Clock + Sync>(
         Ok(lock) => lock,
         Err(error) => return report_keep_error(rt, dir, error),
     };
-    let Ok(counters) = new_counters(rt, receiving) else {
-        return report_result(rt, Err(ToolFault::OutOfMemory));
+    let (counters, shown) = match begin_counting(rt, threads, receiving) {
+        Ok(begun) => begun,
+        Err(fault) => return report_result(rt, Err(fault)),
     };
     let status = match open_head(rt, &settings.limits, dir, rules_of(receiving), &counters) {
         Ok(opened) => {
             report_opened(rt, dir, &opened, receiving);
             let head = opened.kept;
             counters.begin_with(head.head().total(), head.head().places());
-            let outcome = keep(rt, threads, settings, listener, receiving, &counters, head);
+            let limits = &settings.limits;
+            let outcome = serve_kept(rt, threads, limits, listener, receiving, &counters, head);
+            end_reporting(rt, &receiving.reporting, &shown);
             report_kept(rt, dir, receiving, outcome, is_explained)
         }
         Err(error) => report_keep_error(rt, dir, error),

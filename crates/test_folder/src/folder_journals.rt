@@ -221,6 +221,8 @@ fn a_journal_is_counted_up_to_its_fault(rt: HostRuntime) -> Result<(), Fail> {
         sync_micros,
         segments: 1,
         failed: 1,
+        found: 0,
+        read: 0,
     };
     assert!(rt; has_failed);
     assert_eq!(rt; counted, Some(wanted));

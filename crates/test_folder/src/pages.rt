@@ -114,6 +114,12 @@ const RECEIVER: &str = "</style>
 /// The end of the page for Prometheus of a receiver that keeps a log.
 const LOG_PAGE: &str = "
 rwship_receive_max_label_sets 0
+# HELP rwship_receive_log_segments_found Segments of the log that were there at the start.
+# TYPE rwship_receive_log_segments_found gauge
+rwship_receive_log_segments_found 3
+# HELP rwship_receive_log_segments_read How many of them were read. Nothing is answered before that is all.
+# TYPE rwship_receive_log_segments_read gauge
+rwship_receive_log_segments_read 1
 # HELP rwship_receive_log_bytes_written_total Bytes that were written to the log.
 # TYPE rwship_receive_log_bytes_written_total counter
 rwship_receive_log_bytes_written_total 32771
@@ -135,6 +141,8 @@ rwship_receive_log_writes_failed_total 1
 const LOG_TABLE: &str = "
 <h2>Log</h2>
 <table>
+<tr><th>Segments at the start</th><td>3</td></tr>
+<tr><th>Segments of these read</th><td>1</td></tr>
 <tr><th>Bytes written</th><td>32771</td></tr>
 <tr><th>Syncs</th><td>2</td></tr>
 <tr><th>Milliseconds in syncs</th><td>12003</td></tr>
@@ -364,6 +372,8 @@ fn a_receiver_for_people(rt: HostRuntime) -> Result<(), Fail> {
 
 /// Counts what a receiver has written to its log.
 fn count_log(counters: &ReceiveCounters) {
+    counters.find_log_segments(3);
+    counters.read_log_segment();
     counters.begin_log_segment();
     counters.write_log(32_768);
     counters.sync_log(11_999_000);

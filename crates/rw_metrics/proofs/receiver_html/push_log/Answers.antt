@@ -7,6 +7,8 @@ unfolding log_table
 returns c =
     rw (
       c.in_ok-push_table_end.ensures,
+      c.in_ok-push_row-7.ensures,
+      c.in_ok-push_row-6.ensures,
       c.in_ok-push_row-5.ensures,
       c.in_ok-push_row-4.ensures,
       c.in_ok-push_row-3.ensures,
