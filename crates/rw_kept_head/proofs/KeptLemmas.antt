@@ -25,7 +25,7 @@ use Rattle.rw_wal_append.specs.Definitions.{IsDefinedOnce}
 use Rattle.rw_wal_append.specs.References.{ReferenceTable, AreReferenced, IsNoted, IsTable, points_of, undefined, only_defined}
 use Rattle.rw_wal_append.specs.Ends.{EndsAt}
 use Rattle.rw_wal_append.proofs.shared.HoldLemmas.{before_all, more_last}
-use Rattle.rw_kept_head.specs.Kept.{SaysWhat, LiesBetween, IsLastWithin, IsLeft, IsTornWrite, HasNoChance, StaysDefinedOnce}
+use Rattle.rw_kept_head.specs.Kept.{SaysWhat, LiesBetween, IsLastWithin, IsLeft, IsTornWrite, HasNoChance, StaysDefinedOnce, Became}
 use Rattle.rw_kept_head.specs.Lives.{MayBecome}
 use Rattle.rw_kept_head.specs.inner.Inner.{GoesOn, IsWritable}
 use Rattle.rw_reopen.proofs.shared.OpeningLemmas.{last_is}
@@ -119,9 +119,9 @@ goes_next up old new may_leave offset ends whole begun at_zero synced = record {
 
 -- ---- what a crash leaves
 
-module _ (up : AddUp) (tears : List ℕ → List ℕ → Type 0) (old new : Store) (segments left : Segments) (says : SaysWhat segments old) (whole : AllByRecursion (IsWholeText page_size) segments)
+module _ (up : AddUp) (tears : List ℕ → List ℕ → Type 0) (ended : Option Segments) (old new : Store) (segments left : Segments) (says : SaysWhat segments old) (whole : AllByRecursion (IsWholeText page_size) segments)
     (begins : (l : Labels) → Begins (list_of old l) (list_of new l)) where
-  between : (base : Segments) → IsBegun segments base → (is : (left ≡ base) ⊎ IsTornWrite tears new base left) → HasNoChance tears new base left is → LiesBetween old new left
+  between : (base : Segments) → IsBegun segments base → (is : (left ≡ base) ⊎ IsTornWrite tears ended new base left) → HasNoChance tears ended new base left is → LiesBetween old new left
   between base begun (inl same) none = λ l.
       let e : samples_of_labels (entries_of page_size left) l ≡ list_of old l =
       ap (λ (es : List Entry). samples_of_labels es l) (ap (entries_of page_size) same ∙ begun_same up page_size segments base whole begun) ∙ sym (says l) in (
@@ -135,17 +135,17 @@ module _ (up : AddUp) (tears : List ℕ → List ℕ → Type 0) (old new : Stor
         subst (Begins (samples_of_labels (entries_of page_size left) l)) (sym (w.will l)) (samples_begin (entries_of page_size left) (entries_of page_size (with_more base w.written)) l both.1),
       )
 
-pub crash_leaves : AddUp → (tears : List ℕ → List ℕ → Type 0) (old new : Store) (segments left : Segments) → SaysWhat segments old → AllByRecursion (IsWholeText page_size) segments
-    → ((l : Labels) → Begins (list_of old l) (list_of new l)) → (x : IsLeft tears new segments left) → HasNoChance tears new x.base left x.is → LiesBetween old new left
-crash_leaves up tears old new segments left says whole begins x none = between up tears old new segments left says whole begins x.base x.begun x.is none
+pub crash_leaves : AddUp → (tears : List ℕ → List ℕ → Type 0) (ended : Option Segments) (old new : Store) (segments left : Segments) → SaysWhat segments old → AllByRecursion (IsWholeText page_size) segments
+    → ((l : Labels) → Begins (list_of old l) (list_of new l)) → (x : IsLeft tears ended new segments left) → HasNoChance tears ended new x.base left x.is → LiesBetween old new left
+crash_leaves up tears ended old new segments left says whole begins x none = between up tears ended old new segments left says whole begins x.base x.begun x.is none
 
 -- nothing was written
-pub is_unharmed : (tears : List ℕ → List ℕ → Type 0) (new : Store) (segments left : Segments) → left ≡ segments → IsLeft tears new segments left
-is_unharmed tears new segments left same = record { base = segments; begun = inl refl; is = inl same }
+pub is_unharmed : (tears : List ℕ → List ℕ → Type 0) (ended : Option Segments) (new : Store) (segments left : Segments) → left ≡ segments → IsLeft tears ended new segments left
+is_unharmed tears ended new segments left same = record { base = segments; begun = inl refl; is = inl same }
 
 -- a next segment was begun, or not
-pub is_begun : (tears : List ℕ → List ℕ → Type 0) (new : Store) (segments left : Segments) → IsBegun segments left → IsLeft tears new segments left
-is_begun tears new segments left begun = record { base = left; begun = begun; is = inl refl }
+pub is_begun : (tears : List ℕ → List ℕ → Type 0) (ended : Option Segments) (new : Store) (segments left : Segments) → IsBegun segments left → IsLeft tears ended new segments left
+is_begun tears ended new segments left begun = record { base = left; begun = begun; is = inl refl }
 
 -- ---- where a log ends
 
@@ -169,11 +169,11 @@ offset_more segments offset later more e f =
     ∙ ap (λ (n : ℕ). n + length more) (sym (offset_last segments offset e))
 
 -- what a crash leaves of a log that defines each label set once
-pub left_once : AddUp → ((es fs : List Entry) → Begins es fs → IsDefinedOnce fs → IsDefinedOnce es) → (tears : List ℕ → List ℕ → Type 0) (new : Store) (segments left : Segments)
-    → AllByRecursion (IsWholeText page_size) segments → (x : IsLeft tears new segments left) → HasNoChance tears new x.base left x.is → StaysDefinedOnce segments left
-left_once up law tears new segments left whole x none = by_case x.base x.begun x.is none
+pub left_once : AddUp → ((es fs : List Entry) → Begins es fs → IsDefinedOnce fs → IsDefinedOnce es) → (tears : List ℕ → List ℕ → Type 0) (ended : Option Segments) (new : Store) (segments left : Segments)
+    → AllByRecursion (IsWholeText page_size) segments → (x : IsLeft tears ended new segments left) → HasNoChance tears ended new x.base left x.is → StaysDefinedOnce segments left
+left_once up law tears ended new segments left whole x none = by_case x.base x.begun x.is none
   where
-    by_case : (base : Segments) → IsBegun segments base → (is : (left ≡ base) ⊎ IsTornWrite tears new base left) → HasNoChance tears new base left is → StaysDefinedOnce segments left
+    by_case : (base : Segments) → IsBegun segments base → (is : (left ≡ base) ⊎ IsTornWrite tears ended new base left) → HasNoChance tears ended new base left is → StaysDefinedOnce segments left
     by_case base begun (inl same) none = λ once. subst IsDefinedOnce (sym (ap (entries_of page_size) same ∙ begun_same up page_size segments base whole begun)) once
     by_case base begun (inr w) none = λ once.
         let both = left_between tears page_size base w.written left (lit< tt) none (begun_before (IsWholeText page_size) segments base whole begun) w.torn in
@@ -183,7 +183,7 @@ left_once up law tears new segments left whole x none = by_case x.base x.begun x
 next_once : AddUp → ((es fs : List Entry) → Begins es fs → IsDefinedOnce fs → IsDefinedOnce es) → (tears : List ℕ → List ℕ → Type 0) (old new : Segments) → MayBecome tears old new → StaysDefinedOnce old new
 next_once up law tears old new (inl same) = λ once. subst IsDefinedOnce (sym same) once
 next_once up law tears old new (inr (inl stays)) = stays
-next_once up law tears old new (inr (inr crash)) = left_once up law tears crash.store old new crash.whole crash.is crash.chance
+next_once up law tears old new (inr (inr crash)) = left_once up law tears crash.ended crash.store old new crash.whole crash.is crash.chance
 
 pub lives_once : AddUp → ((es fs : List Entry) → Begins es fs → IsDefinedOnce fs → IsDefinedOnce es) → (tears : List ℕ → List ℕ → Type 0) (logs : ℕ → Segments) → entries_of page_size (logs 0) ≡ []
     → ((at : ℕ) → MayBecome tears (logs at) (logs (suc at))) → (at : ℕ) → IsDefinedOnce (entries_of page_size (logs at))
@@ -191,12 +191,19 @@ lives_once up law tears logs none becomes zero = subst IsDefinedOnce (sym none) 
 lives_once up law tears logs none becomes (suc at) = next_once up law tears (logs at) (logs (suc at)) (becomes at) (lives_once up law tears logs none becomes at)
 
 -- a torn part of bytes that make the log say what the store has
-pub is_torn : (tears : List ℕ → List ℕ → Type 0) (new : Store) (segments base : Segments) (offset : ℕ) (written : List ℕ) (left : Segments) → IsBegun segments base → EndsAt base offset
-    → SaysWhat (with_more base written) new → StaysDefinedOnce base (with_more base written) → IsTornLog tears page_size offset base written left → IsLeft tears new segments left
-is_torn tears new segments base offset written left begun ends will once torn = record {
+pub is_torn : (tears : List ℕ → List ℕ → Type 0) (ended : Option Segments) (new : Store) (segments base : Segments) (offset : ℕ) (written : List ℕ) (left : Segments) → IsBegun segments base → EndsAt base offset
+    → SaysWhat (with_more base written) new → StaysDefinedOnce base (with_more base written) → Became ended (with_more base written) → IsTornLog tears page_size offset base written left
+    → IsLeft tears ended new segments left
+is_torn tears ended new segments base offset written left begun ends will once whole torn = record {
   base = base;
   begun = begun;
-  is = inr (record { written = written; will = will; once = once; torn = subst (λ (n : ℕ). IsTornLog tears page_size n base written left) (offset_last base offset ends) torn });
+  is = inr (record {
+    written = written;
+    will = will;
+    once = once;
+    torn = subst (λ (n : ℕ). IsTornLog tears page_size n base written left) (offset_last base offset ends) torn;
+    whole = whole;
+  });
 }
 
 -- ---- what is written

@@ -30,7 +30,7 @@ use Rattle.rw_head.proofs.shared.StagingLemmas.{push_has}
 use Rattle.rw_wal_append.specs.Additions.{without_position, samples_of_labels}
 use Rattle.rw_wal_append.proofs.shared.AdditionLemmas.{samples_in-append, no_sample}
 use Rattle.rw_kept_head.specs.Admitted.{MayHold, IsRefusedAt}
-use Rattle.rw_kept_head.specs.inner.Restoring.{accepted_next, StandsFor, IsRestored, IsRestoring, IsRestoredOrRefused, IsSeriesOf, IsAdded, CannotFollow, AddsOne, Defines, AddsSample, TakesSample}
+use Rattle.rw_kept_head.specs.inner.Restoring.{accepted_next, StandsFor, IsRestored, IsRestoring, IsRestoredOrRefused, IsSeriesOf, IsAdded, CannotFollow, AddsOne, AddsTo, Defines, AddsSample, TakesSample}
 use Rattle.rw_kept_head.proofs.AdmittedLemmas.{begin_held}
 use Rattle.rw_kept_head.proofs.KeptLemmas.{samples_begin}
 
@@ -297,27 +297,36 @@ takes_none law limits old new lookup later reference sample bad = λ found is.
     let k = subst (λ (o : Option (Option TimeSeries)). StandsFor Utf8 o found) bad is in
     (k.0, k.1, λ rises none. faulty_refused law limits k.0 k.2 none)
 
-put_back : (names : Names) (lookup mid later : ℕ → Option (Option TimeSeries)) (reference r : ℕ) (s back : TimeSeries) (b : Bool) (found : Option (List (List ℕ × List ℕ))) → nat_eq reference r ≡ b
-    → lookup reference ≡ Some (Some s) → back.labels ≡ s.labels → mid r ≡ cond b None (lookup r) → later r ≡ cond b (Some (Some back)) (mid r) → StandsFor names (lookup r) found → StandsFor names (later r) found
-put_back names lookup mid later reference r s back true found e there labels out again is =
+put_back : (names : Names) (lookup later : ℕ → Option (Option TimeSeries)) (reference r : ℕ) (s back : TimeSeries) (b : Bool) (found : Option (List (List ℕ × List ℕ))) → nat_eq reference r ≡ b
+    → lookup reference ≡ Some (Some s) → back.labels ≡ s.labels → later r ≡ cond b (Some (Some back)) (lookup r) → StandsFor names (lookup r) found → StandsFor names (later r) found
+put_back names lookup later reference r s back true found e there labels again is =
     let was : found ≡ Some s.labels = subst (λ (o : Option (Option TimeSeries)). StandsFor names o found) (ap lookup (sym (eqb-true reference r e)) ∙ there) is in
     subst (λ (o : Option (Option TimeSeries)). StandsFor names o found) (sym again) (was ∙ ap (λ (l : Labels). Some l) (sym labels))
-put_back names lookup mid later reference r s back false found e there labels out again is =
-    subst (λ (o : Option (Option TimeSeries)). StandsFor names o found) (sym (again ∙ out)) is
+put_back names lookup later reference r s back false found e there labels again is = subst (λ (o : Option (Option TimeSeries)). StandsFor names o found) (sym again) is
 
-pub takes_by : (limits : LabelLimits) (old new : Store) (lookup mid later : ℕ → Option (Option TimeSeries)) (reference w : ℕ) (t : ℤ) (s back : TimeSeries) (m : WriteRequest) (done : Bool) → lookup reference ≡ Some (Some s)
-    → ((q : ℕ) → mid q ≡ cond (nat_eq reference q) None (lookup q)) → ((q : ℕ) → later q ≡ cond (nat_eq reference q) (Some (Some back)) (mid q)) → back ≡ record { labels = s.labels; samples = (w, t) ∷ [] }
-    → m ≡ back ∷ [] → AddsOne limits old new m done → TakesSample limits old new lookup later reference (t, w) done
-takes_by limits old new lookup mid later reference w t s back m true there out again is single adds = record {
-  same = λ r found was. put_back Utf8 lookup mid later reference r s back (nat_eq reference r) found refl there (ap (λ (x : TimeSeries). x.labels) is) (out r) (again r) was;
+takes_by : (limits : LabelLimits) (old new : Store) (lookup later : ℕ → Option (Option TimeSeries)) (reference : ℕ) (sample : ℤ × ℕ) (s back : TimeSeries) (done : Bool) → lookup reference ≡ Some (Some s)
+    → ((q : ℕ) → later q ≡ cond (nat_eq reference q) (Some (Some back)) (lookup q)) → back ≡ record { labels = s.labels; samples = (sample.1, sample.0) ∷ [] }
+    → AddsOne limits old new (back ∷ []) done → TakesSample limits old new lookup later reference sample done
+takes_by limits old new lookup later reference sample s back true there again is adds = record {
+  same = λ r found was. put_back Utf8 lookup later reference r s back (nat_eq reference r) found refl there (ap (λ (x : TimeSeries). x.labels) is) (again r) was;
   added = λ l found was.
       let named : found ≡ Some s.labels = subst (λ (o : Option (Option TimeSeries)). StandsFor Utf8 o found) there was in
-      adds s.labels w t (single ∙ ap (λ (x : TimeSeries). x ∷ []) is) l
-      ∙ ap (λ (o : Option (List (List ℕ × List ℕ))). list_of old l ++ cond (has_labels l o) ((t, w) ∷ []) []) (sym named);
+      adds s.labels sample.1 sample.0 (ap (λ (x : TimeSeries). x ∷ []) is) l
+      ∙ ap (λ (o : Option (List (List ℕ × List ℕ))). list_of old l ++ cond (has_labels l o) (sample ∷ []) []) (sym named);
 }
-takes_by limits old new lookup mid later reference w t s back m false there out again is single adds = λ found was.
+takes_by limits old new lookup later reference sample s back false there again is adds = λ found was.
     let named : found ≡ Some s.labels = subst (λ (o : Option (Option TimeSeries)). StandsFor Utf8 o found) there was in
-    (s.labels, named, adds s.labels w t (single ∙ ap (λ (x : TimeSeries). x ∷ []) is))
+    (s.labels, named, adds s.labels sample.1 sample.0 (ap (λ (x : TimeSeries). x ∷ []) is))
+
+-- what is noted of a reference was given a sample
+pub takes_to : TakesLegacy → (limits : LabelLimits) (old new : Store) (lookup later : ℕ → Option (Option TimeSeries)) (reference : ℕ) (sample : ℤ × ℕ) (known after : Option TimeSeries) (done : Bool)
+    → lookup reference ≡ Some known → ((q : ℕ) → later q ≡ cond (nat_eq reference q) (Some after) (lookup q)) → AddsTo limits old new known after sample done
+    → TakesSample limits old new lookup later reference sample done
+takes_to law limits old new lookup later reference sample None after done there again adds =
+    subst (λ (b : Bool). TakesSample limits old new lookup later reference sample b) (sym adds.1) (takes_none law limits old new lookup later reference sample there)
+takes_to law limits old new lookup later reference sample (Some s) after done there again adds =
+    takes_by limits old new lookup later reference sample s (record { labels = s.labels; samples = (sample.1, sample.0) ∷ [] }) done there
+    (λ q. again q ∙ ap (λ (o : Option TimeSeries). cond (nat_eq reference q) (Some o) (lookup q)) adds.0) refl adds.1
 
 -- the only one of a list is its last one
 pub only_one : (rest : List TimeSeries) (a b : TimeSeries) (all : List TimeSeries) → all ≡ a ∷ [] → all ≡ rest ++ b ∷ [] → b ≡ a

@@ -6,7 +6,7 @@ use Rattle.rw_head.specs.Head.{IsStatus, answer}
 use Rattle.rw_head.specs.Store.{list_of}
 use Rattle.rw_journal.specs.Journal.{Segments, LeavesOnly}
 use Rattle.rw_journal.specs.declared.journal.JournalError.{JournalError}
-use Rattle.rw_kept_head.specs.Kept.{Kept, KeepsStore, IsLeft, StaysDefinedOnce}
+use Rattle.rw_kept_head.specs.Kept.{Kept, KeepsStore, IsLeft, StaysDefinedOnce, ended_with}
 
 module _ {J : Type 0} (seen : J → Segments) (may_leave : J → Segments → Type 0) (moment : J → ℕ)
     (left_since : J → ℕ → Segments → Type 0) (tears : List ℕ → List ℕ → Type 0)
@@ -28,7 +28,8 @@ module _ {J : Type 0} (seen : J → Segments) (may_leave : J → Segments → Ty
         pub once : new.fault ≡ None → StaysDefinedOnce (seen old.journal) (seen new.journal)
         pub any_moment : old.fault ≡ None
             → LeavesOnly moment left_since old.journal new.journal
-            (IsLeft tears (answer old.head body).head.store (seen old.journal))
+            (IsLeft tears (ended_with status (seen new.journal))
+            (answer old.head body).head.store (seen old.journal))
         pub begins : (l : Labels) → Begins (list_of old.head.store l)
             (list_of (answer old.head body).head.store l)
         pub closed : (e : JournalError) → old.fault ≡ Some e

@@ -11,7 +11,7 @@ ghost use Rattle.rw_head.specs.Capacity.{exceeds, status_of_admission, unlimited
 ghost use Rattle.rw_head.specs.Growth.{EachRises, HasStoredBody};
 ghost use Rattle.rw_head.specs.Head.{answer, IsStatus, SpellsMessage};
 ghost use Rattle.rw_head.specs.Store.{list_of, total};
-ghost use Rattle.rw_kept_head.specs.Kept.{SaysWhat, IsLeft, StaysDefinedOnce};
+ghost use Rattle.rw_kept_head.specs.Kept.{ended_with, SaysWhat, IsLeft, StaysDefinedOnce};
 
 use crate::log_writer::LogWriter;
 use rw_head::{Admission, Capacity, Head};
@@ -50,7 +50,8 @@ pub(crate) fn admit_kept<J: Journal>(
     ensures says { log.new.fault ≡ None → SaysWhat (J.seen log.new.journal) result.0.store }
     ensures any_moment { log.old.fault ≡ None
         → LeavesOnly J.moment J.left_since log.old.journal log.new.journal
-        (IsLeft J.tears (answer head body.now).head.store (J.seen log.old.journal)) }
+        (IsLeft J.tears (ended_with (status_of_admission result.1) (J.seen log.new.journal))
+        (answer head body.now).head.store (J.seen log.old.journal)) }
     ensures once { log.new.fault ≡ None
         → StaysDefinedOnce (J.seen log.old.journal) (J.seen log.new.journal) }
     ensures closed { (e : JournalError) → log.old.fault ≡ Some e

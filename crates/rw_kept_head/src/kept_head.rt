@@ -11,7 +11,7 @@ ghost use Rattle.rw_head.specs.Capacity.{exceeds, status_of_admission, unlimited
 ghost use Rattle.rw_head.specs.Growth.{EachRises, HasStoredBody};
 ghost use Rattle.rw_head.specs.Head.{answer, IsStatus, SpellsMessage};
 ghost use Rattle.rw_head.specs.Store.{list_of, total};
-ghost use Rattle.rw_kept_head.specs.Kept.{KeepsStore, IsLastWithin, IsLeft, StaysDefinedOnce};
+ghost use Rattle.rw_kept_head.specs.Kept.{ended_with, KeepsStore, IsLastWithin, IsLeft, StaysDefinedOnce};
 
 use crate::answering::admit_kept;
 use crate::log_writer::LogWriter;
@@ -88,10 +88,11 @@ impl<J: Journal> KeptHead<J> {
             (J.seen self.new.journal) self.new.head.store }
 
         // A crash at any moment leaves what was held, and after it a torn part of what is to be
-        // held.
+        // held: of just the bytes that are in the journal once the answer is 204.
         ensures any_moment { self.old.fault ≡ None
             → LeavesOnly J.moment J.left_since self.old.journal self.new.journal
-            (IsLeft J.tears (answer self.old.head body.now).head.store (J.seen self.old.journal)) }
+            (IsLeft J.tears (ended_with (status_of_admission result) (J.seen self.new.journal))
+            (answer self.old.head body.now).head.store (J.seen self.old.journal)) }
         ensures begins { (l : Labels) → Begins (list_of self.old.head.store l)
             (list_of (answer self.old.head body.now).head.store l) }
 

@@ -1,6 +1,6 @@
 //! Laws of a head that is kept in a journal. Each function does nothing: its contract is the law.
 
-ghost use Rattle.std.specs.Prelude.{◌≡◌, ℕ, suc, List, []};
+ghost use Rattle.std.specs.Prelude.{◌≡◌, ℕ, suc, List, [], Option};
 ghost use Rattle.std.specs.List.{AllByRecursion};
 ghost use Rattle.rw_types.specs.Beginnings.{Begins};
 ghost use Rattle.rw_types.specs.Labels.{Labels};
@@ -32,11 +32,11 @@ pub fn samples_go_on()
 /// to be held: of each label set all samples that were held, and after them a prefix of the new
 /// ones. The premise is that no checksum is right by chance in what this crash left.
 pub fn what_is_left_lies_between<J: Journal>()
-    ensures { (old new : Store) (segments left : Segments)
+    ensures { (ended : Option Segments) (old new : Store) (segments left : Segments)
         → SaysWhat segments old → AllByRecursion (IsWholeText page_size) segments
         → ((l : Labels) → Begins (list_of old l) (list_of new l))
-        → (x : IsLeft J.tears new segments left) → HasNoChance J.tears new x.base left x.is
-        → LiesBetween old new left }
+        → (x : IsLeft J.tears ended new segments left)
+        → HasNoChance J.tears ended new x.base left x.is → LiesBetween old new left }
 {
     segments_add_up();
 }
@@ -44,10 +44,10 @@ pub fn what_is_left_lies_between<J: Journal>()
 /// Law: if a log defines each label set once, so does what a crash leaves of it while a request is
 /// answered, with the same premise, and while it is opened.
 pub fn what_is_left_is_defined_once<J: Journal>()
-    ensures answering { (new : Store) (segments left : Segments)
+    ensures answering { (ended : Option Segments) (new : Store) (segments left : Segments)
         → AllByRecursion (IsWholeText page_size) segments
-        → (x : IsLeft J.tears new segments left) → HasNoChance J.tears new x.base left x.is
-        → StaysDefinedOnce segments left }
+        → (x : IsLeft J.tears ended new segments left)
+        → HasNoChance J.tears ended new x.base left x.is → StaysDefinedOnce segments left }
     ensures opening { (segments left : Segments) → HasSameEntries segments left
         → StaysDefinedOnce segments left }
 {

@@ -1,6 +1,6 @@
 //! The log of a head, which is being written.
 
-ghost use Rattle.std.specs.Prelude.{◌≡◌, ◌<◌, ◌≤◌, ◌++◌, true, false, None, Some, map, IfOk, OnOk, IsErrOf};
+ghost use Rattle.std.specs.Prelude.{◌≡◌, ◌<◌, ◌≤◌, ◌++◌, true, false, None, Some, map, if◌then◌else◌, IfOk, OnOk, IsErrOf};
 ghost use Rattle.std.specs.List.{AllByRecursion};
 ghost use Rattle.rw_journal.specs.Journal.{with_more, Only, IsBegun, LeavesOnly};
 ghost use Rattle.rw_journal.specs.declared.journal.JournalError.TheVariants.{Failed};
@@ -11,7 +11,7 @@ ghost use Rattle.rw_journal.specs.Logs.{entries_of, IsWholeText};
 ghost use Rattle.rw_wal_append.specs.Ends.{EndsAt};
 ghost use Rattle.rw_wal_append.specs.References.{only_defined};
 ghost use Rattle.rw_kept_head.specs.Kept.{SaysWhat, IsLastWithin, IsLeft, StaysDefinedOnce};
-ghost use Rattle.rw_kept_head.specs.inner.Inner.{IsWritable, IsWritten, GoesOn, Keeps};
+ghost use Rattle.rw_kept_head.specs.inner.Inner.{ended_if, IsWritable, IsWritten, GoesOn, Keeps};
 ghost use Rattle.rw_kept_head.specs.declared.keep_error.KeepError.TheVariants.{Unspelled, Journal};
 
 use crate::keep_error::KeepError;
@@ -97,7 +97,8 @@ fn write_added<J: Journal>(
         (J.may_leave journal.new) (only_defined references.new) end.new.offset
         staged.now.before.store }
     ensures any_moment { LeavesOnly J.moment J.left_since journal.old journal.new
-        (IsLeft J.tears staged.now.after.store (J.seen journal.old)) }
+        (IsLeft J.tears (ended_if result (J.seen journal.new)) staged.now.after.store
+        (J.seen journal.old)) }
     ensures failed { IsErrOf result (Journal Failed) → J.faults journal.old < J.faults journal.new }
     ensures pages { end.new.pages ≡ pages }
 
@@ -177,7 +178,8 @@ impl<J: Journal> LogWriter<J> {
         ensures unkept { result ≡ false → self.new.fault ≡ None
             → SaysWhat (J.seen self.new.journal) staged.now.before.store }
         ensures any_moment { LeavesOnly J.moment J.left_since self.old.journal self.new.journal
-            (IsLeft J.tears staged.now.after.store (J.seen self.old.journal)) }
+            (IsLeft J.tears (if result then Some (J.seen self.new.journal) else None)
+            staged.now.after.store (J.seen self.old.journal)) }
         ensures failed { self.new.fault ≡ Some Failed
             → J.faults self.old.journal < J.faults self.new.journal }
         ensures pages { self.new.pages ≡ self.old.pages }

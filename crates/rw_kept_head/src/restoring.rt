@@ -10,7 +10,7 @@ ghost use Rattle.rw_head.specs.declared.verdict.Verdict.TheVariants.{Stored};
 ghost use Rattle.rw_head.specs.Store.{list_of};
 ghost use Rattle.rw_kept_head.specs.Admitted.{MayHold, IsRefusedAt, label_limits};
 ghost use Rattle.rw_kept_head.specs.inner.Noting.{AreNames};
-ghost use Rattle.rw_kept_head.specs.inner.Restoring.{accepted_next, AddsOne, Defines, TakesSample, IsRestored, IsRestoredOrRefused, IsSeriesOf};
+ghost use Rattle.rw_kept_head.specs.inner.Restoring.{accepted_next, AddsOne, AddsTo, Defines, TakesSample, IsRestored, IsRestoredOrRefused, IsSeriesOf};
 
 use crate::oddities::Oddities;
 use indexmap::IndexMap;
@@ -102,6 +102,35 @@ fn define(
     Ok(before.is_none())
 }
 
+/// Takes a sample of a reference of which this series is noted, and returns whether the head
+/// appended it. Without a series the head cannot hold it.
+fn add_to(
+    head: &mut Head,
+    known: &mut Option<Series>,
+    message: &mut Message,
+    sample: (i64, Word),
+) -> Result<bool, AllocError>
+    ensures done { IfOk result (AddsTo head.old.limits head.old.store head.new.store known.old
+        known.new sample) }
+    ensures held { OnOk result (MayHold head.old.limits (list_of head.old.store)
+        → MayHold head.old.limits (list_of head.new.store)) }
+    ensures limits { head.new.limits ≡ head.old.limits }
+    ensures busy { head.new.busy ≡ head.old.busy }
+{
+    let Some(mut found) = known.take() else {
+        return Ok(false);
+    };
+    set_sample(&mut found, sample.0, sample.1)?;
+    message.series.clear();
+    message.series.push(found)?;
+    let done = append_one(head, message)?;
+    let Some(found) = message.series.pop() else {
+        return Err(AllocError);
+    };
+    *known = Some(found);
+    Ok(done)
+}
+
 /// Takes a sample, and returns whether the head appended it. One without a definition is passed
 /// over.
 fn add_sample(
@@ -120,22 +149,16 @@ fn add_sample(
     ensures busy { head.new.busy ≡ head.old.busy }
 {
     utf8_takes_any_name();
-    let Some(known) = series.get_mut(&reference) else {
-        oddities.pass_over();
-        return Ok(true);
-    };
-    let Some(mut found) = known.take() else {
-        return Ok(false);
-    };
-    set_sample(&mut found, sample.0, sample.1)?;
-    message.series.clear();
-    message.series.push(found)?;
-    let done = append_one(head, message)?;
-    let Some(found) = message.series.pop() else {
-        return Err(AllocError);
-    };
-    *known = Some(found);
-    Ok(done)
+    match series.get_mut(&reference) {
+        Some(known) => {
+            let done = add_to(head, known, message, sample)?;
+            Ok(done)
+        }
+        None => {
+            oddities.pass_over();
+            Ok(true)
+        }
+    }
 }
 
 /// Takes an entry, and returns whether a head like this one could be given it.

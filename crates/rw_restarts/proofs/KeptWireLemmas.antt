@@ -1,5 +1,5 @@
 -- A receiver whose head is kept in a journal is one of those to which requests come over the wire.
-use Rattle.std.proofs.Common.{◌≡◌, ◌≢◌, ◌⊎◌, inl, inr, ℕ, zero, suc, ◌≤◌, ◌<◌, ◌^◌, nat_lt, Bool, true, false, List, ◌++◌, append-nil, length, length-append, map, None, Some, Result, Ok, Err, refl, sym, ap, ◌∙◌, subst, arith}
+use Rattle.std.proofs.Common.{◌≡◌, ◌≢◌, ◌⊎◌, inl, inr, ℕ, zero, suc, ◌≤◌, ◌<◌, ◌^◌, nat_lt, Bool, true, false, List, ◌++◌, append-nil, length, length-append, map, Option, None, Some, Result, Ok, Err, refl, sym, ap, ◌∙◌, subst, arith}
 use Rattle.std.specs.List.{AllByRecursion}
 use Rattle.std.proofs.lemmas.Bool.{cond-false, le-ltb}
 use Rattle.std.proofs.lemmas.Bool.Decides.{eqb_tells}
@@ -39,7 +39,7 @@ use Rattle.rw_journal.specs.Logs.{entries_of, IsWholeText}
 use Rattle.rw_journal.specs.declared.journal.JournalError.{JournalError}
 use Rattle.rw_wal_append.specs.Additions.{samples_of_labels}
 use Rattle.rw_kept_head.specs.Answered.{KeepsHead, IsKeptAnswer}
-use Rattle.rw_kept_head.specs.Kept.{Kept, SaysWhat, LiesBetween, IsLeft, HasNoChance}
+use Rattle.rw_kept_head.specs.Kept.{Kept, SaysWhat, LiesBetween, IsLeft, HasNoChance, ended_with}
 use Rattle.rw_simulation.specs.Arrivals.{Receives}
 use Rattle.rw_restarts.specs.Receivers.{IsRestarted, state_of}
 use Rattle.rw_restarts.specs.KeptReceivers.{acknowledged_after}
@@ -170,7 +170,7 @@ module _ {J : Type 0} (seen : J → Segments) (may_leave : J → Segments → Ty
     after-answer P before next OutOfMemory (is, inl same) = subst P (sym same) before
     after-answer P before next OutOfMemory (is, inr asked) = next asked.body asked.answered
 
-  module _ (requests : RequestsAreRead) (between : (old new : Store) (segments left : Segments) → SaysWhat segments old → AllByRecursion (IsWholeText page_size) segments → ((l : Labels) → Begins (list_of old l) (list_of new l)) → (x : IsLeft tears new segments left) → HasNoChance tears new x.base left x.is → LiesBetween old new left)
+  module _ (requests : RequestsAreRead) (between : (ended : Option Segments) (old new : Store) (segments left : Segments) → SaysWhat segments old → AllByRecursion (IsWholeText page_size) segments → ((l : Labels) → Begins (list_of old l) (list_of new l)) → (x : IsLeft tears ended new segments left) → HasNoChance tears ended new x.base left x.is → LiesBetween old new left)
       (c : Setup) (runs : List RunOfWorkers) (events : List WireEvent) (states : ℕ → KeptState J) (r : IsKeptReceiver seen may_leave moment left_since tears c runs events states) where
     -- ---- what is so after the first t events, whatever crashes left
     record Sound (t : ℕ) : Type 0 where
@@ -213,7 +213,7 @@ module _ {J : Type 0} (seen : J → Segments) (may_leave : J → Segments → Ty
       left-between =
           let keeps = before_is.keeps crash.no_fault in
           subst (λ (s : Store). LiesBetween s most left) (sym held)
-          (between before.head.store most (seen before.journal) left keeps.says keeps.whole crash.answered.begins ((crash.answered.any_moment crash.no_fault).each left crash.leaves) crash.no_chance)
+          (between (ended_with crash.status (seen crash.after.journal)) before.head.store most (seen before.journal) left keeps.says keeps.whole crash.answered.begins ((crash.answered.any_moment crash.no_fault).each left crash.leaves) crash.no_chance)
 
       -- if the head takes the message of the body
       most-taken : (batch : List Placed) → IsReadAgain batch → body ≡ body_of batch → (answer before.head body).status ≡ 204 → taken_all c.limits (Ok (states t).kept.head.store) (message (map labelled batch)) ≡ Ok most
@@ -295,11 +295,11 @@ module _ {J : Type 0} (seen : J → Segments) (may_leave : J → Segments → Ty
       covered = r.covered;
     }
 
-  pub kept-on-wire : RequestsAreRead → ((old new : Store) (segments left : Segments) → SaysWhat segments old → AllByRecursion (IsWholeText page_size) segments → ((l : Labels) → Begins (list_of old l) (list_of new l)) → (x : IsLeft tears new segments left) → HasNoChance tears new x.base left x.is → LiesBetween old new left)
+  pub kept-on-wire : RequestsAreRead → ((ended : Option Segments) (old new : Store) (segments left : Segments) → SaysWhat segments old → AllByRecursion (IsWholeText page_size) segments → ((l : Labels) → Begins (list_of old l) (list_of new l)) → (x : IsLeft tears ended new segments left) → HasNoChance tears ended new x.base left x.is → LiesBetween old new left)
       → (c : Setup) (runs : List RunOfWorkers) (events : List WireEvent) (states : ℕ → KeptState J) → IsWireReceiverKept seen may_leave moment left_since tears c runs events states
   kept-on-wire requests between c runs events states r = wire_receiver requests between c runs events states r r
 
-  pub kept-holds : RequestsAreRead → ((old new : Store) (segments left : Segments) → SaysWhat segments old → AllByRecursion (IsWholeText page_size) segments → ((l : Labels) → Begins (list_of old l) (list_of new l)) → (x : IsLeft tears new segments left) → HasNoChance tears new x.base left x.is → LiesBetween old new left)
+  pub kept-holds : RequestsAreRead → ((ended : Option Segments) (old new : Store) (segments left : Segments) → SaysWhat segments old → AllByRecursion (IsWholeText page_size) segments → ((l : Labels) → Begins (list_of old l) (list_of new l)) → (x : IsLeft tears ended new segments left) → HasNoChance tears ended new x.base left x.is → LiesBetween old new left)
       → (c : Setup) (runs : List RunOfWorkers) (events : List WireEvent) (states : ℕ → KeptState J) (choice : Choice) (log : List Entry)
       → HoldsLogByWire c runs events (λ (at : ℕ). wire_state (states at)) choice log → HoldsLogKept seen may_leave moment left_since tears c runs events states choice log
   kept-holds requests between c runs events states choice log holds r over = holds (wire_receiver requests between c runs events states r r) over

@@ -24,7 +24,7 @@ use Rattle.rw_journal.specs.Logs.{entries_of}
 use Rattle.rw_journal.specs.declared.journal.JournalError.{JournalError}
 use Rattle.rw_wal_append.specs.Additions.{samples_of_labels}
 use Rattle.rw_kept_head.specs.Answered.{KeepsHead, IsKeptAnswer}
-use Rattle.rw_kept_head.specs.Kept.{Kept, SaysWhat, HasNoChance}
+use Rattle.rw_kept_head.specs.Kept.{Kept, SaysWhat, HasNoChance, ended_with}
 use Rattle.rw_kept_head.specs.Opening.{HasSameEntries}
 use Rattle.rw_restarts.specs.KeptReceivers.{acknowledged_after}
 use Rattle.rw_restarts.specs.Logs.{AreRunsOverLog, HoldsLog}
@@ -144,7 +144,8 @@ module _ {J : Type 0} (seen : J → Segments) (may_leave : J → Segments → Ty
       pub answered : Answers (states since).kept body status after
       pub now : (at ≡ since) ⊎ HasFailed status after (states at).kept
       pub leaves : left_since after.journal (moment (states since).kept.journal) left
-      pub no_chance : HasNoChance tears (answer (states since).kept.head body).head.store
+      pub no_chance : HasNoChance tears (ended_with status (seen after.journal))
+          (answer (states since).kept.head body).head.store
           ((answered.any_moment no_fault).each left leaves).base left
           ((answered.any_moment no_fault).each left leaves).is
 

@@ -1,5 +1,5 @@
 -- Invariants of a log that is being written.
-use Rattle.std.specs.Prelude.{◌≡◌, ◌++◌, [], ℕ, ℤ, List, map, Option}
+use Rattle.std.specs.Prelude.{◌≡◌, ◌++◌, [], ℕ, ℤ, List, map, Option, Some, None, Result, Ok, Err}
 use Rattle.rw_types.specs.Beginnings.{Begins}
 use Rattle.rw_types.specs.declared.entry.Entry.{Entry}
 use Rattle.rw_wal_format.specs.Laws.{sample_entry}
@@ -12,6 +12,7 @@ use Rattle.rw_wal_append.specs.Additions.{definition_entry}
 use Rattle.rw_wal_append.specs.References.{ReferenceTable, IsNoted}
 use Rattle.rw_wal_append.specs.Ends.{End, EndsAt}
 use Rattle.rw_kept_head.specs.Kept.{SaysWhat}
+use Rattle.rw_kept_head.specs.declared.keep_error.KeepError.{KeepError}
 
 -- a journal, the references of its log, where the log ends, the most pages of a segment, and the
 -- fault after which nothing is written any more
@@ -41,6 +42,11 @@ pub record GoesOn (old new : Segments) (may_leave : Segments → Type 0) (offset
 pub record Keeps (segments : Segments) (may_leave : Segments → Type 0) (references : ReferenceTable) (offset : ℕ) (store : Store) : Type 0 where
   pub writable : IsWritable segments may_leave references offset
   pub says : SaysWhat segments store
+
+-- the log once all was written; after an error nothing is said of it
+abbrev pub ended_if : Result (Unit {0}) KeepError → Segments → Option Segments
+ended_if (Ok u) segments = Some segments
+ended_if (Err e) segments = None
 
 -- What was written: the definitions of the label sets that have got a reference, and after them the
 -- samples. The references that there were are kept.

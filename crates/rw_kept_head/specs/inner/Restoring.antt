@@ -65,6 +65,14 @@ AddsOne limits old new m false =
     (l : Labels) (w : ℕ) (t : ℤ) → m ≡ record { labels = l; samples = (w, t) ∷ [] } ∷ []
     → CannotFollow limits old l (t, w)
 
+-- A sample of what is noted of a reference was appended, or the head cannot hold it. The series that
+-- is noted then has that sample.
+abbrev pub AddsTo : LabelLimits → Store → Store → Option TimeSeries → Option TimeSeries → ℤ × ℕ → Bool → Type 0
+AddsTo limits old new None later sample done = (later ≡ None) × (done ≡ false)
+AddsTo limits old new (Some s) later sample done =
+    let one : TimeSeries = record { labels = s.labels; samples = (sample.1, sample.0) ∷ [] } in
+    (later ≡ Some one) × AddsOne limits old new (one ∷ []) done
+
 -- a reference has these labels from now on, and the others are as they were
 abbrev pub Defines : Names → (ℕ → Option (Option TimeSeries)) → (ℕ → Option (Option TimeSeries)) → ℕ → Labels → Type 0
 Defines names old new reference labels =

@@ -1,4 +1,5 @@
-use Rattle.std.proofs.Common.{◌≡◌, ◌∙◌, sym, subst, rules}
+use Rattle.std.proofs.Common.{◌≡◌, ◌∙◌, Bool, cond, Some, None, sym, subst, rules}
+use Rattle.rw_journal.specs.Journal.{LeavesOnly}
 use Rattle.rw_head.specs.Capacity.{StaysWithin}
 use Rattle.rw_head.specs.Head.{State, answer}
 use Rattle.rw_journal.proofs.shared.Moments.{started}
@@ -11,15 +12,15 @@ pub returns-in-Err-clause-any_moment : goal.returns-in-Err-clause-any_moment
 returns-in-Err-clause-any_moment g c = λ none.
     let new = (answer c.args.head c.args.body.now).head.store in
     let seen = g.J.Journal.seen c.args.log.now.journal in
-    started g.J.Journal.moment g.J.Journal.left_since c.args.log.now.journal (IsLeft g.J.Journal.tears new seen)
-    (λ x left. is_unharmed g.J.Journal.tears new seen x (c.fault.ensures.synced (c.fault.ensures.fault ∙ none) x (g.met.J.Journal.only_now c.args.log.now.journal x left)))
+    started g.J.Journal.moment g.J.Journal.left_since c.args.log.now.journal (IsLeft g.J.Journal.tears _ new seen)
+    (λ x left. is_unharmed g.J.Journal.tears _ new seen x (c.fault.ensures.synced (c.fault.ensures.fault ∙ none) x (g.met.J.Journal.only_now c.args.log.now.journal x left)))
 
 pub returns-then-exceeds-clause-any_moment : goal.returns-then-exceeds-clause-any_moment
 returns-then-exceeds-clause-any_moment g c = λ none.
     let new = (answer c.args.head c.args.body.now).head.store in
     let seen = g.J.Journal.seen c.args.log.now.journal in
-    started g.J.Journal.moment g.J.Journal.left_since c.args.log.now.journal (IsLeft g.J.Journal.tears new seen)
-    (λ x left. is_unharmed g.J.Journal.tears new seen x (c.fault.ensures.synced (c.fault.ensures.fault ∙ none) x (g.met.J.Journal.only_now c.args.log.now.journal x left)))
+    started g.J.Journal.moment g.J.Journal.left_since c.args.log.now.journal (IsLeft g.J.Journal.tears _ new seen)
+    (λ x left. is_unharmed g.J.Journal.tears _ new seen x (c.fault.ensures.synced (c.fault.ensures.fault ∙ none) x (g.met.J.Journal.only_now c.args.log.now.journal x left)))
 
 pub returns-in-Err-clause-says : goal.returns-in-Err-clause-says
 returns-in-Err-clause-says g c = λ none.
@@ -46,5 +47,19 @@ pub returns-then-has_failed-clause-any_moment : goal.returns-then-has_failed-cla
 returns-then-has_failed-clause-any_moment g c = λ none.
     let new = (answer c.args.head c.args.body.now).head.store in
     let seen = g.J.Journal.seen c.args.log.now.journal in
-    started g.J.Journal.moment g.J.Journal.left_since c.args.log.now.journal (IsLeft g.J.Journal.tears new seen)
-    (λ x left. is_unharmed g.J.Journal.tears new seen x (c.fault.ensures.synced (c.fault.ensures.fault ∙ none) x (g.met.J.Journal.only_now c.args.log.now.journal x left)))
+    started g.J.Journal.moment g.J.Journal.left_since c.args.log.now.journal (IsLeft g.J.Journal.tears _ new seen)
+    (λ x left. is_unharmed g.J.Journal.tears _ new seen x (c.fault.ensures.synced (c.fault.ensures.fault ∙ none) x (g.met.J.Journal.only_now c.args.log.now.journal x left)))
+
+pub returns-then-keep-clause-any_moment : goal.returns-then-keep-clause-any_moment
+returns-then-keep-clause-any_moment g c = λ none.
+    let seen = g.J.Journal.seen c.args.log.now.journal in
+    let new = (answer c.args.head c.args.body.now).head.store in
+    let all : LeavesOnly g.J.Journal.moment g.J.Journal.left_since c.args.log.now.journal c.keep.new.self.journal (IsLeft g.J.Journal.tears (cond c.keep.result (Some (g.J.Journal.seen c.keep.new.self.journal)) None) new seen) = search rules in
+    subst (λ b. LeavesOnly g.J.Journal.moment g.J.Journal.left_since c.args.log.now.journal c.keep.new.self.journal (IsLeft g.J.Journal.tears (cond b (Some (g.J.Journal.seen c.keep.new.self.journal)) None) new seen)) c.if-keep.true all
+
+pub returns-else-keep-clause-any_moment : goal.returns-else-keep-clause-any_moment
+returns-else-keep-clause-any_moment g c = λ none.
+    let seen = g.J.Journal.seen c.args.log.now.journal in
+    let new = (answer c.args.head c.args.body.now).head.store in
+    let all : LeavesOnly g.J.Journal.moment g.J.Journal.left_since c.args.log.now.journal c.keep.new.self.journal (IsLeft g.J.Journal.tears (cond c.keep.result (Some (g.J.Journal.seen c.keep.new.self.journal)) None) new seen) = search rules in
+    subst (λ b. LeavesOnly g.J.Journal.moment g.J.Journal.left_since c.args.log.now.journal c.keep.new.self.journal (IsLeft g.J.Journal.tears (cond b (Some (g.J.Journal.seen c.keep.new.self.journal)) None) new seen)) c.if-keep.false all

@@ -1,4 +1,5 @@
-use Rattle.std.proofs.Common.{◌≡◌, ◌++◌, refl, rules, map, List, ℕ, ap, sym, subst, ◌∙◌, arith, length}
+use Rattle.std.proofs.Common.{◌≡◌, ◌++◌, refl, rules, map, List, ℕ, ap, sym, subst, ◌∙◌, arith, length, Some}
+use Rattle.std.proofs.lemmas.Result.{err_from_is_err_and}
 use Rattle.rw_types.specs.declared.entry.Entry.{Entry}
 use Rattle.rw_journal.specs.Journal.{with_more, IsBegun}
 use Rattle.rw_journal.specs.Torn.{IsTornLog}
@@ -9,8 +10,8 @@ use Rattle.rw_wal_append.specs.Additions.{definition_entry, samples_of_labels}
 use Rattle.rw_wal_append.specs.Definitions.{IsDefinedOnce}
 use Rattle.rw_wal_append.specs.References.{undefined}
 use Rattle.rw_journal.specs.Logs.{entries_of}
-use Rattle.rw_kept_head.specs.inner.Inner.{GoesOn}
-use Rattle.rw_kept_head.specs.Kept.{SaysWhat, IsLeft, StaysDefinedOnce}
+use Rattle.rw_kept_head.specs.inner.Inner.{GoesOn, ended_if}
+use Rattle.rw_kept_head.specs.Kept.{SaysWhat, IsLeft, StaysDefinedOnce, Became}
 use Rattle.rw_kept_head.proofs.WrittenLemmas.{is_written, none_new, noted_written, nothing_new, once_written, still_noted}
 use Rattle.rw_kept_head.proofs.KeptLemmas.{goes_nowhere, still_writable, then_runs, is_unharmed, is_begun, is_torn, offset_more, says_more}
 use Rattle.rw_kept_head.proofs.log_writer.write_added.Goals as goal
@@ -19,16 +20,16 @@ pub returns-in_err-samples-clause-any_moment : goal.returns-in_err-samples-claus
 returns-in_err-samples-clause-any_moment g c =
     let new = c.args.staged.now.after.store in
     let seen = g.J.Journal.seen c.args.journal.now in
-    started g.J.Journal.moment g.J.Journal.left_since c.args.journal.now (IsLeft g.J.Journal.tears new seen)
-    (λ x left. is_unharmed g.J.Journal.tears new seen x (c.requires.writable.synced x (g.met.J.Journal.only_now c.args.journal.now x left)))
+    started g.J.Journal.moment g.J.Journal.left_since c.args.journal.now (IsLeft g.J.Journal.tears _ new seen)
+    (λ x left. is_unharmed g.J.Journal.tears _ new seen x (c.requires.writable.synced x (g.met.J.Journal.only_now c.args.journal.now x left)))
 
 pub returns-in_err-definitions-clause-any_moment :
     goal.returns-in_err-definitions-clause-any_moment
 returns-in_err-definitions-clause-any_moment g c =
     let new = c.args.staged.now.after.store in
     let seen = g.J.Journal.seen c.args.journal.now in
-    started g.J.Journal.moment g.J.Journal.left_since c.args.journal.now (IsLeft g.J.Journal.tears new seen)
-    (λ x left. is_unharmed g.J.Journal.tears new seen x (c.requires.writable.synced x (g.met.J.Journal.only_now c.args.journal.now x left)))
+    started g.J.Journal.moment g.J.Journal.left_since c.args.journal.now (IsLeft g.J.Journal.tears _ new seen)
+    (λ x left. is_unharmed g.J.Journal.tears _ new seen x (c.requires.writable.synced x (g.met.J.Journal.only_now c.args.journal.now x left)))
 
 pub write_in_pages-requires-clause-fits : goal.write_in_pages-requires-clause-fits
 write_in_pages-requires-clause-fits g c =
@@ -55,10 +56,13 @@ returns-in_err-write_in_pages-clause-any_moment g c =
     subst (λ (b : List ℕ). StaysDefinedOnce base (with_more base b)) (sym c.deref-3.ensures.value)
     (once_written (entries_of page_size base) (entries_of page_size base) (entries_of page_size (with_more base c.in_ok-bytes.bytes.items)) c.collect.new.references c.in_ok-samples.samples.items
     c.new_samples_are_read.ensures.once refl noted c.undefined.ensures.table entries) in
+    let p = err_from_is_err_and c.from_residual-in_err-write_in_pages.result c.from_residual-in_err-write_in_pages.ensures.1 in
+    let whole : Became (ended_if c.from_residual-in_err-write_in_pages.result (g.J.Journal.seen c.write_in_pages.new.journal)) (with_more base c.deref-3.result.now) =
+    subst (λ r. Became (ended_if r (g.J.Journal.seen c.write_in_pages.new.journal)) (with_more base c.deref-3.result.now)) (sym p.1) tt in
     then_runs g.J.Journal.moment g.J.Journal.left_since c.args.journal.now c.spell.new.journal c.write_in_pages.new.journal (IsBegun seen) (IsTornLog g.J.Journal.tears page_size c.offset.result base c.deref-3.result.now)
-    (IsLeft g.J.Journal.tears new seen) c.spell.ensures.any_moment c.write_in_pages.ensures.any_moment (λ x b. is_begun g.J.Journal.tears new seen x b)
+    (IsLeft g.J.Journal.tears (ended_if c.from_residual-in_err-write_in_pages.result (g.J.Journal.seen c.write_in_pages.new.journal)) new seen) c.spell.ensures.any_moment c.write_in_pages.ensures.any_moment (λ x b. is_begun g.J.Journal.tears (ended_if c.from_residual-in_err-write_in_pages.result (g.J.Journal.seen c.write_in_pages.new.journal)) new seen x b)
     (λ x torn.
-    is_torn g.J.Journal.tears new seen base c.spell.new.end.offset c.deref-3.result.now x on.begun on.ends will once
+    is_torn g.J.Journal.tears (ended_if c.from_residual-in_err-write_in_pages.result (g.J.Journal.seen c.write_in_pages.new.journal)) new seen base c.spell.new.end.offset c.deref-3.result.now x on.begun on.ends will once whole
     (subst (λ (n : ℕ). IsTornLog g.J.Journal.tears page_size n base c.deref-3.result.now x) c.offset.ensures.offset torn))
 
 pub returns-clause-any_moment : goal.returns-clause-any_moment
@@ -80,10 +84,11 @@ returns-clause-any_moment g c =
     subst (λ (b : List ℕ). StaysDefinedOnce base (with_more base b)) (sym c.deref-3.ensures.value)
     (once_written (entries_of page_size base) (entries_of page_size base) (entries_of page_size (with_more base c.in_ok-bytes.bytes.items)) c.collect.new.references c.in_ok-samples.samples.items
     c.new_samples_are_read.ensures.once refl noted c.undefined.ensures.table entries) in
+    let whole : g.J.Journal.seen c.write_in_pages.new.journal ≡ with_more base c.deref-3.result.now = search rules in
     then_runs g.J.Journal.moment g.J.Journal.left_since c.args.journal.now c.spell.new.journal c.write_in_pages.new.journal (IsBegun seen) (IsTornLog g.J.Journal.tears page_size c.offset.result base c.deref-3.result.now)
-    (IsLeft g.J.Journal.tears new seen) c.spell.ensures.any_moment c.write_in_pages.ensures.any_moment (λ x b. is_begun g.J.Journal.tears new seen x b)
+    (IsLeft g.J.Journal.tears (Some (g.J.Journal.seen c.write_in_pages.new.journal)) new seen) c.spell.ensures.any_moment c.write_in_pages.ensures.any_moment (λ x b. is_begun g.J.Journal.tears (Some (g.J.Journal.seen c.write_in_pages.new.journal)) new seen x b)
     (λ x torn.
-    is_torn g.J.Journal.tears new seen base c.spell.new.end.offset c.deref-3.result.now x on.begun on.ends will once
+    is_torn g.J.Journal.tears (Some (g.J.Journal.seen c.write_in_pages.new.journal)) new seen base c.spell.new.end.offset c.deref-3.result.now x on.begun on.ends will once whole
     (subst (λ (n : ℕ). IsTornLog g.J.Journal.tears page_size n base c.deref-3.result.now x) c.offset.ensures.offset torn))
 
 pub returns-clause-ok : goal.returns-clause-ok
