@@ -1,11 +1,10 @@
-//! A folder of segments to which bytes are appended: what a read returns, and what a crash may
-//! leave.
+//! A folder of segments to which bytes are appended: what they hold, and what a crash may leave.
 
-ghost use Rattle.std.specs.Prelude.{◌≡◌, ◌<◌, ◌≤◌, ◌++◌, [], ◌∷◌, ℕ, List, length, take, get_or, IfOk, OnOk};
+ghost use Rattle.std.specs.Prelude.{◌≡◌, ◌<◌, ◌≤◌, ◌++◌, [], ◌∷◌, ℕ, List, length, take, OnOk};
 ghost use Rattle.rw_journal.specs.declared.journal.JournalError.TheVariants.{OutOfMemory};
 ghost use Rattle.rw_journal.specs.Journal.{Segments, on_last, with_more, Only, NoMore, IsTornEnd, IsCutEnd, IsBegun, Elapses, HasCause};
 
-use std::alloc::{AllocError, AllocFailed, Global};
+use std::alloc::{AllocError, AllocFailed};
 
 /// Why a call of a journal failed.
 #[derive(Clone, Copy, Debug, PartialEq, Eq)]
@@ -37,7 +36,7 @@ impl<T: Drop> From<AllocFailed<T>> for JournalError {
 ///
 /// After an `Err` the folder has to be opened again: it then holds what a crash may leave.
 pub trait Journal {
-    /// The segments, in order, as a read returns them.
+    /// The segments, in order, with the bytes that they hold.
     ghost seen: { Self → Segments };
 
     /// What a crash at this moment may leave.
@@ -60,16 +59,6 @@ pub trait Journal {
     fn count(&self) -> usize
         ensures { result ≡ length (seen self.now) };
 
-    /// Returns the bytes of a segment.
-    fn read(&mut self, alloc: Global, segment: usize) -> Result<Vec<u8>, JournalError>
-        requires { segment < length (seen self.old) }
-        ensures bytes { IfOk result (λ v. v.items ≡ get_or (seen self.old) segment []) }
-        ensures seen { seen self.new ≡ seen self.old }
-        ensures crash { NoMore (may_leave self.old) (may_leave self.new) }
-        ensures time { Elapses (moment self.old) (moment self.new) (left_since self.old)
-            (left_since self.new) (may_leave self.new) }
-        ensures cause { HasCause (faults self.old) (faults self.new) result };
-
     /// Appends bytes to the last segment. Everything in the folder must be synced.
     fn append(&mut self, bytes: &[u8]) -> Result<(), JournalError>
         requires { Only (seen self.old) (may_leave self.old) }
@@ -89,7 +78,7 @@ pub trait Journal {
             (left_since self.new) (may_leave self.new) }
         ensures cause { HasCause (faults self.old) (faults self.new) result };
 
-    /// Syncs the folder: from then on a crash leaves what a read returns.
+    /// Syncs the folder: from then on a crash leaves what the segments hold.
     fn sync(&mut self) -> Result<(), JournalError>
         ensures durable { OnOk result (Only (seen self.new) (may_leave self.new)) }
         ensures seen { seen self.new ≡ seen self.old }

@@ -9,8 +9,10 @@ mod journal;
 pub mod laws;
 mod memory;
 mod pages;
+mod segment_taker;
 
 pub use closing::close_torn;
 pub use journal::{Journal, JournalError};
 pub use memory::MemoryJournal;
 pub use pages::write_in_pages;
+pub use segment_taker::SegmentTaker;

@@ -1,12 +1,13 @@
 //! A journal in memory. Only contracts see what it held at each moment.
 
-ghost use Rattle.std.specs.Prelude.{◌≡◌, ◌-◌, ◌≤◌, ◌++◌, [], ◌∷◌, length, take, OnOk};
+ghost use Rattle.std.specs.Prelude.{◌≡◌, ◌<◌, ◌-◌, ◌≤◌, ◌++◌, [], ◌∷◌, length, take, get_or, IfOk, OnOk};
 ghost use Rattle.std.proofs.Common.{inl};
 ghost use Rattle.rw_journal.specs.Journal.{Only};
 ghost use Rattle.rw_journal.specs.Memory.{image_segments, IsLeftOf, LeftSince, only_this, all_left};
 
 use crate::image::Image;
 use crate::journal::{Journal, JournalError};
+use crate::segment_taker::SegmentTaker;
 use rw_history::History;
 use std::alloc::{AllocError, Global};
 
@@ -57,6 +58,32 @@ impl MemoryJournal {
     }
 }
 
+impl MemoryJournal {
+    /// Has a taker take the segments, in their order, as after a restart.
+    pub fn give_all<T: SegmentTaker>(&self, taker: &mut T) -> Result<(), AllocError>
+        ensures given { OnOk result
+            (T.taken taker.new ≡ T.taken taker.old ++ image_segments self.now.image) }
+        ensures fixed { OnOk result (T.fixed taker.new ≡ T.fixed taker.old) }
+    {
+        for text in &self.image.done {
+            taker.take(text)?;
+        }
+        taker.take(&self.image.last)
+    }
+
+    /// Returns the bytes of a segment.
+    pub fn read(&self, alloc: Global, segment: usize) -> Result<Vec<u8>, AllocError>
+        requires { segment < length (image_segments self.now.image) }
+        ensures { IfOk result
+            (λ v. v.items ≡ get_or (image_segments self.now.image) segment []) }
+    {
+        if segment < self.image.done.len() {
+            return self.image.done[segment].to_vec(alloc);
+        }
+        self.image.last.to_vec(alloc)
+    }
+}
+
 impl Journal for MemoryJournal {
     ghost seen = { λ m. image_segments m.image };
 
@@ -78,13 +105,6 @@ impl Journal for MemoryJournal {
 
     fn count(&self) -> usize {
         self.image.done.len() + 1
-    }
-
-    fn read(&mut self, alloc: Global, segment: usize) -> Result<Vec<u8>, JournalError> {
-        if segment < self.image.done.len() {
-            return Ok(self.image.done[segment].to_vec(alloc)?);
-        }
-        Ok(self.image.last.to_vec(alloc)?)
     }
 
     fn append(&mut self, bytes: &[u8]) -> Result<(), JournalError> {

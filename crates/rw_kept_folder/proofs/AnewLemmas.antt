@@ -1,12 +1,13 @@
 -- The state of a folder after its segments were loaded, and after the last one was written anew.
-use Rattle.std.proofs.Common.{◌≡◌, inr, ℕ, zero, suc, ◌-◌, ◌<◌, List, [], ◌∷◌, ◌++◌, length, map, get_or, Vec, refl, sym, ap, ◌∙◌, subst, arith}
-use Rattle.std.proofs.lemmas.List.{length-map}
+use Rattle.std.proofs.Common.{◌≡◌, ℕ, ◌+◌, List, [], ◌∷◌, ◌++◌, length, Option, Some, None, Vec, refl, sym, ap, ◌∙◌, subst, append_assoc, length-append, arith}
+use Rattle.std.proofs.lemmas.List.{map-append}
 use Rattle.std.specs.declared.alloc.Global.{Global}
 use Rattle.rw_journal.specs.Journal.{Segments, Only}
 use Rattle.rw_kept_folder.specs.declared.file_call.FileCall.{FileCall}
-use Rattle.rw_kept_folder.specs.declared.file_call.FileCall.TheVariants.{WriteCopy, SyncCopy, RenameCopy, SyncFolder}
+use Rattle.rw_kept_folder.specs.declared.file_call.FileCall.TheVariants.{Load, WriteCopy, SyncCopy, RenameCopy, SyncFolder}
 use Rattle.rw_kept_folder.specs.Noted.{Noted, UnderWay, Nothing, Loaded, FolderState, seen_in, LeftIn, step, after_calls, no_segments, state_of, seen_of, MayLeave}
-use Rattle.rw_kept_folder.specs.inner.Noted.{AreUnread, loads_of}
+use Rattle.rw_kept_folder.specs.inner.Noted.{loads_of}
+use Rattle.rw_kept_folder.specs.inner.Loaded.{IsHeld, IsLastRead, IsLoaded}
 use Rattle.rw_kept_folder.proofs.NotedLemmas.{Pushed, same_step}
 
 append-assoc-one : (xs : Segments) (x : List ℕ) (ys : Segments) → (xs ++ x ∷ []) ++ ys ≡ xs ++ x ∷ ys
@@ -18,30 +19,25 @@ append-none [] = refl
 append-none (x ∷ xs) = ap (λ (l : Segments). x ∷ l) (append-none xs)
 
 -- what was loaded is seen
-loaded_seen_from : (s : FolderState) (texts : List (Vec ℕ Global)) → seen_in (after_calls s (loads_of texts)) ≡ seen_in s ++ map (λ v. v.items) texts
+loaded_seen_from : (s : FolderState) (texts : Segments) → seen_in (after_calls s (loads_of texts)) ≡ seen_in s ++ texts
 loaded_seen_from s [] = sym (append-none (seen_in s))
 loaded_seen_from s (t ∷ texts) =
-    loaded_seen_from (record { on_disk = seen_in s; under_way = Loaded t.items }) texts
-    ∙ append-assoc-one (seen_in s) t.items (map (λ v. v.items) texts)
+    loaded_seen_from (record { on_disk = seen_in s; under_way = Loaded t }) texts
+    ∙ append-assoc-one (seen_in s) t texts
 
 -- and the last segment is under way
-last_loaded_from : (s : FolderState) (texts : List (Vec ℕ Global)) (n : ℕ) (text : Vec ℕ Global) → suc n ≡ length texts → text ≡ get_or texts n text
-    → (after_calls s (loads_of texts)).under_way ≡ Loaded text.items
-last_loaded_from s [] n text e is = absurd (omega (arith, e))
-last_loaded_from s (t ∷ []) zero text e is = ap (λ (v : Vec ℕ Global). Loaded v.items) (sym is)
-last_loaded_from s (t ∷ []) (suc n) text e is = absurd (omega (arith, e))
-last_loaded_from s (t ∷ u ∷ texts) zero text e is = absurd (omega (arith, e))
-last_loaded_from s (t ∷ u ∷ texts) (suc n) text e is =
-    last_loaded_from (record { on_disk = seen_in s; under_way = Loaded t.items }) (u ∷ texts) n text (omega (arith, e)) is
+last_loaded_from : (s : FolderState) (front : Segments) (text : List ℕ) → (after_calls s (loads_of (front ++ text ∷ []))).under_way ≡ Loaded text
+last_loaded_from s [] text = refl
+last_loaded_from s (t ∷ front) text = last_loaded_from (record { on_disk = seen_in s; under_way = Loaded t }) front text
 
-module _ (noted : Noted) (texts : List (Vec ℕ Global)) (calls : noted.calls ≡ loads_of texts) where
-  pub loaded_seen : seen_of noted ≡ map (λ v. v.items) texts
+module _ (noted : Noted) (texts : Segments) (calls : noted.calls ≡ loads_of texts) where
+  loaded_seen : seen_of noted ≡ texts
   loaded_seen = ap (λ (cs : List FileCall). seen_in (after_calls no_segments cs)) calls ∙ loaded_seen_from no_segments texts
 
-  pub last_loaded : (len : ℕ) → len ≡ length texts → 0 < len → (text : Vec ℕ Global) → text ≡ get_or texts (len - 1) text → (state_of noted).under_way ≡ Loaded text.items
-  last_loaded len is some text last =
-      ap (λ (cs : List FileCall). (after_calls no_segments cs).under_way) calls
-      ∙ last_loaded_from no_segments texts (len - 1) text (omega (arith, is, some)) last
+  last_loaded : (front : Segments) (text : List ℕ) → texts ≡ front ++ text ∷ [] → (state_of noted).under_way ≡ Loaded text
+  last_loaded front text is =
+      ap (λ (cs : List FileCall). (after_calls no_segments cs).under_way) (calls ∙ ap loads_of is)
+      ∙ last_loaded_from no_segments front text
 
 -- the four steps, from a state in which the last segment was loaded
 anew_state : (d : Segments) (u : UnderWay) (text : List ℕ) → u ≡ Loaded text
@@ -62,15 +58,53 @@ module _ (loaded copied synced renamed done : Noted) (text : List ℕ) (last : (
         ∙ ap (step SyncCopy) (same_step loaded copied (WriteCopy text) copy.calls)))
         ∙ anew_state (state_of loaded).on_disk (state_of loaded).under_way text last
 
-    pub anew_seen : seen_of done ≡ seen_of loaded
+    anew_seen : seen_of done ≡ seen_of loaded
     anew_seen = ap seen_in done_state
 
-    pub anew_only : Only (seen_of done) (MayLeave done)
+    anew_only : Only (seen_of done) (MayLeave done)
     anew_only = subst (λ (s : FolderState). Only (seen_in s) (LeftIn s)) (sym done_state) (λ c left. left)
 
--- the files of a folder begin with what is seen
-pub fresh_unread : (noted : Noted) (texts : List (Vec ℕ Global)) → map (λ v. v.items) texts ≡ seen_of noted → AreUnread noted 0 texts
-fresh_unread noted texts seen = inr seen
+-- no segment was read yet
+pub loaded_none : (before : Segments) (calls : List FileCall) (last : Option (Vec ℕ Global)) → calls ≡ [] → last ≡ None → IsLoaded before before calls last 0
+loaded_none before calls last none is = record {
+  segments = [];
+  noted = none;
+  taken = sym (append-none before);
+  last_is = subst (IsLastRead []) (sym is) refl;
+  counted = refl;
+}
 
-pub fresh_count : (noted : Noted) (texts : List (Vec ℕ Global)) → map (λ v. v.items) texts ≡ seen_of noted → length texts ≡ length (seen_of noted)
-fresh_count noted texts seen = sym (length-map texts (λ (v : Vec ℕ Global). v.items)) ∙ ap length seen
+-- one more was read, noted and taken
+pub loaded_more : (before now after : Segments) (calls more : List FileCall) (last : Option (Vec ℕ Global)) (text : Vec ℕ Global) (n : ℕ) → IsLoaded before now calls last n
+    → more ≡ calls ++ Load text.items ∷ [] → after ≡ now ++ text.items ∷ [] → IsLoaded before after more (Some text) (n + 1)
+loaded_more before now after calls more last text n h noted taken = record {
+  segments = h.segments ++ text.items ∷ [];
+  noted = noted ∙ ap (λ (cs : List FileCall). cs ++ Load text.items ∷ []) h.noted ∙ sym (map-append Load h.segments (text.items ∷ []));
+  taken = taken ∙ ap (λ (ss : Segments). ss ++ text.items ∷ []) h.taken ∙ append_assoc before h.segments (text.items ∷ []);
+  last_is = (h.segments, refl);
+  counted = omega (arith, h.counted, length-append h.segments (text.items ∷ []));
+}
+
+-- a folder of no segments
+pub held_none : (before after : Segments) (noted : Noted) (count : ℕ) → IsLoaded before after noted.calls None count → IsHeld before after noted count
+held_none before after noted count h =
+    let seen : seen_of noted ≡ [] = loaded_seen noted h.segments h.noted ∙ h.last_is in
+    let state : state_of noted ≡ no_segments = ap (after_calls no_segments) (h.noted ∙ ap loads_of h.last_is) in
+    record {
+      taken = h.taken ∙ ap (λ (ss : Segments). before ++ ss) (sym (loaded_seen noted h.segments h.noted));
+      synced = subst (λ (s : FolderState). Only (seen_in s) (LeftIn s)) (sym state) (λ c left. left);
+      counted = h.counted ∙ ap length (sym (loaded_seen noted h.segments h.noted));
+    }
+
+-- a folder whose last segment was written anew
+pub held_anew : (before after : Segments) (loaded copied synced renamed done : Noted) (last : Vec ℕ Global) (copy : List ℕ) (count : ℕ) → copy ≡ last.items
+    → Pushed loaded copied (WriteCopy copy) → Pushed copied synced SyncCopy → Pushed synced renamed RenameCopy → Pushed renamed done SyncFolder
+    → IsLoaded before after loaded.calls (Some last) count → IsHeld before after done count
+held_anew before after loaded copied synced renamed done last copy count is write sync rename folder h =
+    let way : (state_of loaded).under_way ≡ Loaded copy = last_loaded loaded h.segments h.noted h.last_is.0 last.items h.last_is.1 ∙ ap Loaded (sym is) in
+    let seen : seen_of done ≡ h.segments = anew_seen loaded copied synced renamed done copy way write sync rename folder ∙ loaded_seen loaded h.segments h.noted in
+    record {
+      taken = h.taken ∙ ap (λ (ss : Segments). before ++ ss) (sym seen);
+      synced = anew_only loaded copied synced renamed done copy way write sync rename folder;
+      counted = h.counted ∙ ap length (sym seen);
+    }

@@ -1,13 +1,12 @@
 -- How the state of the files of a folder changes with one more call.
-use Rattle.std.proofs.Common.{◌≡◌, ◌⊎◌, inl, inr, ⊎_elim, ℕ, zero, suc, ◌+◌, ◌≤◌, List, [], ◌∷◌, ◌++◌, length, take, drop, map, get_or, Vec, refl, sym, ap, ◌∙◌, subst, arith, length-append}
-use Rattle.std.specs.declared.alloc.Global.{Global}
+use Rattle.std.proofs.Common.{◌≡◌, ◌⊎◌, inl, inr, ⊎_elim, ℕ, zero, suc, ◌+◌, ◌≤◌, List, [], ◌∷◌, ◌++◌, length, take, refl, sym, ap, ◌∙◌, subst, arith, length-append}
 use Rattle.rw_journal.specs.Journal.{Segments, on_last, with_more, Only, NoMore, IsTornEnd, IsCutEnd, IsBegun, Elapses}
 use Rattle.rw_kept_folder.specs.declared.file_call.FileCall.{FileCall}
 use Rattle.rw_kept_folder.specs.declared.file_call.FileCall.TheVariants.{Append, SetLen, CreateNext, SyncData, SyncFolder}
 use Rattle.rw_kept_folder.specs.Files.{HasAll, IsSureIfAll}
 use Rattle.rw_kept_folder.proofs.LengthLemmas.{length_on_last}
 use Rattle.rw_kept_folder.specs.Noted.{Noted, UnderWay, Nothing, Appending, Cutting, Creating, Loaded, Copied, CopySynced, Replaced, FolderState, changed_by, Tears, HasOneMore, Leaves, seen_in, LeftIn, data_synced, folder_synced, step, after_calls, LeftFrom, no_segments, state_of, seen_of, MayLeave, LeftSinceNoted}
-use Rattle.rw_kept_folder.specs.inner.Noted.{AreUnread, IsOwn, HasOwn, all_written}
+use Rattle.rw_kept_folder.specs.inner.Noted.{IsOwn, HasOwn, all_written}
 
 pub after_push : (s : FolderState) (calls : List FileCall) (call : FileCall) → after_calls s (calls ++ call ∷ []) ≡ step call (after_calls s calls)
 after_push s [] call = refl
@@ -272,23 +271,3 @@ module _ (old new : Noted) where
 
   pub folder_synced_own : HasOwn old → Pushed old new SyncFolder → HasOwn new
   folder_synced_own own p = own_after old new SyncFolder p.calls (folder_own (state_of old).under_way (state_of old).on_disk own)
-
--- the segments that were not read stay those of the folder while what is seen stays
-pub still_unread : (old new : Noted) (read : ℕ) (unread : List (Vec ℕ Global)) → seen_of new ≡ seen_of old → AreUnread old read unread → AreUnread new read unread
-still_unread old new read unread same (inl none) = inl none
-still_unread old new read unread same (inr some) = inr (some ∙ ap (drop read) (sym same))
-
-first_of : (n : ℕ) (ss : Segments) (s : List ℕ) (rest : Segments) → s ∷ rest ≡ drop n ss → (s ≡ get_or ss n []) × (rest ≡ drop (suc n) ss)
-first_of zero [] s rest e = absurd (omega (arith, ap length e))
-first_of zero (x ∷ ss) s rest e = (cc, cc)
-first_of (suc n) [] s rest e = absurd (omega (arith, ap length e))
-first_of (suc n) (x ∷ ss) s rest e = first_of n ss s rest e
-
--- the next segment is taken
-pub taken : (noted : Noted) (read : ℕ) (text : Vec ℕ Global) (rest : List (Vec ℕ Global)) → AreUnread noted read (text ∷ rest)
-    → (text.items ≡ get_or (seen_of noted) read []) × AreUnread noted (read + 1) rest
-taken noted read text rest (inl none) = absurd (omega (arith, ap length none))
-taken noted read text rest (inr some) =
-    let first = first_of read (seen_of noted) text.items (map (λ v. v.items) rest) some in
-    let next : suc read ≡ read + 1 = omega arith in
-    (first.0, inr (first.1 ∙ ap (λ (k : ℕ). drop k (seen_of noted)) next))

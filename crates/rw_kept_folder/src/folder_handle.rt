@@ -111,15 +111,6 @@ impl<R: Files + Clock + AllocGlobal + Copy> FolderHandle<R> {
         self.fault
     }
 
-    /// Returns the fault of a segment that was to be read once more.
-    pub(crate) fn cannot_read(&self, segment: u64) -> FolderFault {
-        FolderFault {
-            call: FolderCall::Read,
-            segment,
-            cause: FaultCause::Other,
-        }
-    }
-
     /// Returns the fault of a segment that has no number.
     pub(crate) fn cannot_create(&self) -> FolderFault {
         FolderFault {

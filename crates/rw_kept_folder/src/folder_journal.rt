@@ -4,13 +4,9 @@ ghost use Rattle.std.specs.Prelude.{◌≡◌};
 
 use crate::segment_files::SegmentFiles;
 use rw_journal::{Journal, JournalError};
-use std::alloc::Global;
 use std::marker::Model;
 
 /// A journal in the files of a folder. Contracts see the files.
-///
-/// Each segment can be read once, in order, before anything is changed: its bytes are then no
-/// longer held. A further read fails.
 #[derive(Drop)]
 pub struct FolderJournal<F: SegmentFiles> {
     files: F,
@@ -69,11 +65,6 @@ impl<F: SegmentFiles> Journal for FolderJournal<F> {
 
     fn count(&self) -> usize {
         self.files.count()
-    }
-
-    fn read(&mut self, _alloc: Global, segment: usize) -> Result<Vec<u8>, JournalError> {
-        self.has_all = false;
-        self.files.take_loaded(segment)
     }
 
     fn append(&mut self, bytes: &[u8]) -> Result<(), JournalError> {

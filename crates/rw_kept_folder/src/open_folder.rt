@@ -1,6 +1,6 @@
 //! The files of a folder of a runtime, with a record of what was asked of them.
 
-ghost use Rattle.std.specs.Prelude.{◌≡◌, ◌+◌, length, map};
+ghost use Rattle.std.specs.Prelude.{◌≡◌, ◌+◌, length};
 ghost use Rattle.rw_journal.specs.Journal.{Only};
 ghost use Rattle.rw_kept_folder.specs.Noted.{seen_of, MayLeave, LeftSinceNoted, Tears};
 ghost use Rattle.rw_kept_folder.specs.inner.Noted.{counts_now, only_now, leaves_seen};
@@ -12,7 +12,6 @@ use crate::record::Record;
 use crate::segment_files::SegmentFiles;
 use rw_history::History;
 use rw_journal::JournalError;
-use std::collections::VecDeque;
 use std::marker::Model;
 use std::rt::Files;
 use std::time::Clock;
@@ -24,10 +23,6 @@ pub struct OpenFolder<R: Files> {
     handle: FolderHandle<R>,
     /// The number of the first segment.
     first: u64,
-    /// The segments that were loaded and not yet taken.
-    unread: VecDeque<Vec<u8>>,
-    /// How many were taken.
-    read: usize,
     count: usize,
     record: Record,
 }
@@ -35,14 +30,13 @@ pub struct OpenFolder<R: Files> {
 impl<R: Files> Model for OpenFolder<R> {
     ghost use Rattle.std.specs.Prelude.{◌≡◌, length};
     ghost use Rattle.rw_kept_folder.specs.Noted.{Noted, seen_of};
-    ghost use Rattle.rw_kept_folder.specs.inner.Noted.{AreUnread, HasOwn};
+    ghost use Rattle.rw_kept_folder.specs.inner.Noted.{HasOwn};
 
     ghost Value = { Noted };
 
     ghost view = { λ f. f.record };
 
-    ghost invariant = { λ f. (f.count ≡ length (seen_of f.record))
-        × AreUnread f.record f.read f.unread.items × HasOwn f.record };
+    ghost invariant = { λ f. (f.count ≡ length (seen_of f.record)) × HasOwn f.record };
 }
 
 /// Returns the error of a call that failed, and adds the fault to the record.
@@ -57,24 +51,22 @@ fn fail(noted: &mut Record, fault: FolderFault) -> JournalError
 }
 
 impl<R: Files + Clock + AllocGlobal + Copy> OpenFolder<R> {
-    /// Returns the files of a folder whose segments have these texts by the record, by which they
-    /// are also on the disk, and whose first segment has this number.
+    /// Returns the files of a folder that has so many segments by the record, by which they are also
+    /// on the disk, and whose first segment has this number.
     pub(crate) fn new(
         handle: FolderHandle<R>,
         first: u64,
-        texts: VecDeque<Vec<u8>>,
+        count: usize,
         noted: Record,
     ) -> OpenFolder<R>
-        requires seen { map (λ v. v.items) texts.items ≡ seen_of noted }
+        requires count { count ≡ length (seen_of noted) }
         requires synced { Only (seen_of noted) (MayLeave noted) }
         ensures noted { result ≡ noted }
     {
         OpenFolder {
             handle,
             first,
-            count: texts.len(),
-            unread: texts,
-            read: 0,
+            count,
             record: noted,
         }
     }
@@ -113,19 +105,7 @@ impl<R: Files + Clock + AllocGlobal + Copy> SegmentFiles for OpenFolder<R> {
         self.count
     }
 
-    fn take_loaded(&mut self, segment: usize) -> Result<Vec<u8>, JournalError> {
-        if segment == self.read {
-            if let Some(bytes) = self.unread.pop_front() {
-                self.read += 1;
-                return Ok(bytes);
-            }
-        }
-        let fault = self.handle.cannot_read(segment as u64);
-        Err(fail(&mut self.record, fault))
-    }
-
     fn append(&mut self, bytes: &[u8]) -> Result<(), JournalError> {
-        self.unread.clear();
         self.record.note(&FileCall::Append(History::of(bytes)));
         match self.handle.append(bytes) {
             Ok(()) => Ok(()),
@@ -141,7 +121,6 @@ impl<R: Files + Clock + AllocGlobal + Copy> SegmentFiles for OpenFolder<R> {
     }
 
     fn set_len(&mut self, len: usize) -> Result<(), JournalError> {
-        self.unread.clear();
         self.record.note(&FileCall::SetLen(len));
         match self.handle.set_len(len as u64) {
             Ok(()) => Ok(()),
@@ -164,7 +143,6 @@ impl<R: Files + Clock + AllocGlobal + Copy> SegmentFiles for OpenFolder<R> {
             let fault = self.handle.cannot_create();
             return Err(fail(&mut self.record, fault));
         }
-        self.unread.clear();
         self.record.note(&FileCall::CreateNext);
         self.count += 1;
         match self.handle.create_next() {

@@ -1,9 +1,9 @@
 //! Opens the journal in a folder.
 
-ghost use Rattle.std.specs.Prelude.{◌≡◌, map, OnOk, IfOk};
-ghost use Rattle.rw_journal.specs.Journal.{Only};
+ghost use Rattle.std.specs.Prelude.{◌≡◌, ◌++◌, [], ℕ, length, None, OnOk, IfOk};
+ghost use Rattle.rw_journal.specs.Journal.{Segments, Only};
 ghost use Rattle.rw_kept_folder.specs.Noted.{seen_of, MayLeave};
-ghost use Rattle.rw_kept_folder.specs.inner.Noted.{loads_of};
+ghost use Rattle.rw_kept_folder.specs.inner.Loaded.{IsHeld, IsLoaded};
 
 use crate::fault::{FolderCall, FolderFault, cause_of};
 use crate::file_call::FileCall;
@@ -15,9 +15,9 @@ use crate::open_folder::OpenFolder;
 use crate::ownership::{FolderRules, claim_folder};
 use crate::record::Record;
 use rw_history::History;
+use rw_journal::SegmentTaker;
 use rw_log_folder::{SegmentName, segment_names};
 use std::alloc::Global;
-use std::collections::VecDeque;
 use std::fs::OpenFile;
 use std::io::{ErrorKind, Read};
 use std::path::Path;
@@ -89,22 +89,29 @@ fn read_file<R: Files + AllocGlobal + Copy>(rt: &R, dir: &str, name: &str) -> io
     Ok(bytes)
 }
 
-/// Reads the segments into memory, and notes them in a record.
-fn load_all<R: Files + AllocGlobal + Copy>(
+/// Reads the segments, one after the other, and lets them be taken. Each is noted in a record as it
+/// is read, and freed before the next one is; `last` has the last one at the end.
+fn load_all<R: Files + AllocGlobal + Copy, T: SegmentTaker>(
     rt: &R,
     dir: &str,
     names: &[SegmentName],
-    texts: &mut VecDeque<Vec<u8>>,
+    taker: &mut T,
+    last: &mut Option<Vec<u8>>,
     noted: &mut Record,
 ) -> Result<(), FolderError>
-    requires { noted.old.calls ≡ loads_of texts.old.items }
-    ensures loaded { OnOk result (noted.new.calls ≡ loads_of texts.new.items) }
+    requires nothing { noted.old.calls ≡ [] }
+    requires none { last.old ≡ None }
+    ensures loaded { OnOk result (IsLoaded (T.taken taker.old) (T.taken taker.new)
+        noted.new.calls last.new (length names.now)) }
+    ensures fixed { OnOk result (T.fixed taker.new ≡ T.fixed taker.old) }
 {
     for name in names {
+        *last = None;
         match read_file(rt, dir, name.name.as_str()) {
             Ok(text) => {
                 noted.note(&FileCall::Load(History::of(&text)));
-                texts.push_back(text)?;
+                taker.take(&text)?;
+                *last = Some(text);
             }
             Err(error) => return Err(error_of(FolderCall::Read, name.number, &error)),
         }
@@ -116,14 +123,14 @@ fn load_all<R: Files + AllocGlobal + Copy>(
 /// copy is written, synced, renamed over it, and the folder synced.
 fn write_last_anew<R: Files + Clock + AllocGlobal + Copy>(
     handle: &mut FolderHandle<R>,
-    texts: &VecDeque<Vec<u8>>,
+    last: &Option<Vec<u8>>,
     noted: &mut Record,
 ) -> Result<(), FolderFault>
-    requires loaded { noted.old.calls ≡ loads_of texts.now.items }
-    ensures seen { OnOk result (map (λ v. v.items) texts.now.items ≡ seen_of noted.new) }
-    ensures synced { OnOk result (Only (seen_of noted.new) (MayLeave noted.new)) }
+    ensures anew { OnOk result ((before after : Segments) (count : ℕ)
+        → IsLoaded before after noted.old.calls last.now count
+        → IsHeld before after noted.new count) }
 {
-    let Some(text) = texts.back() else {
+    let Some(text) = last else {
         return Ok(());
     };
     handle.write_copy(text)?;
@@ -153,33 +160,39 @@ fn last_name(names: &[SegmentName]) -> Option<(u64, &str)> {
     }
 }
 
-/// Opens the journal in a folder, which has to exist: reads its segments into memory, and writes
-/// the last one anew, so that all of them are on the disk. Segments are the files whose names are
-/// one to eight digits; other files are skipped.
+/// Opens the journal in a folder, which has to exist: reads its segments, one after the other, and
+/// lets them be taken, and writes the last one anew, so that all of them are on the disk. Segments
+/// are the files whose names are one to eight digits; other files are skipped. No more than one of
+/// them is in memory at a time.
 ///
 /// A folder in which a number is missing or is there twice, or which has a checkpoint, is refused,
 /// and so is one that the rules do not let a receiver have. A folder that is taken gets a mark, the
 /// file `rwship-receive`, which is synced before a segment is begun. The monitor counts the syncs
 /// that are made here, and the calls that the journal makes from then on.
-pub fn open_journal<R: Files + Clock + AllocGlobal + Copy>(
+pub fn open_journal<R: Files + Clock + AllocGlobal + Copy, T: SegmentTaker>(
     rt: &R,
     dir: &str,
     rules: FolderRules,
     monitor: FolderMonitor,
+    taker: &mut T,
 ) -> Result<FolderJournal<OpenFolder<R>>, FolderError>
-    ensures { IfOk result (λ j. Only (seen_of j) (MayLeave j)) }
+    ensures synced { IfOk result (λ j. Only (seen_of j) (MayLeave j)) }
+
+    // The journal has the segments that were taken, and no others.
+    ensures taken { IfOk result (λ j. T.taken taker.new ≡ T.taken taker.old ++ seen_of j) }
+    ensures fixed { OnOk result (T.fixed taker.new ≡ T.fixed taker.old) }
 {
     let alloc = rt.alloc();
     let names = list(rt, dir)?;
     claim_folder(rt, dir, &names, rules)?;
-    let mut texts = VecDeque::new(alloc);
+    let mut last = None;
     let mut noted = Record::new();
-    load_all(rt, dir, &names, &mut texts, &mut noted)?;
+    load_all(rt, dir, &names, taker, &mut last, &mut noted)?;
     let first = first_number(&names);
     let dir = String::from_str(alloc, dir)?;
     let mut handle = FolderHandle::new(*rt, dir, last_name(&names), monitor)?;
-    match write_last_anew(&mut handle, &texts, &mut noted) {
-        Ok(()) => Ok(FolderJournal::new(OpenFolder::new(handle, first, texts, noted))),
+    match write_last_anew(&mut handle, &last, &mut noted) {
+        Ok(()) => Ok(FolderJournal::new(OpenFolder::new(handle, first, names.len(), noted))),
         Err(fault) => Err(FolderError::Fault(fault)),
     }
 }

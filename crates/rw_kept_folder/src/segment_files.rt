@@ -1,16 +1,15 @@
 //! What is asked of the files of a folder of segments, and what the operating system promises.
 
-ghost use Rattle.std.specs.Prelude.{◌≡◌, ◌<◌, ◌≤◌, ◌++◌, [], ◌∷◌, ℕ, List, length, take, get_or, IfOk, OnOk, OnErr};
+ghost use Rattle.std.specs.Prelude.{◌≡◌, ◌<◌, ◌≤◌, ◌++◌, [], ◌∷◌, ℕ, List, length, take, OnOk, OnErr};
 ghost use Rattle.rw_journal.specs.Journal.{Segments, on_last, with_more, Only, NoMore, IsTornEnd, IsCutEnd, IsBegun, Elapses, HasCause};
 ghost use Rattle.rw_kept_folder.specs.Files.{HasAll, IsSureIfAll};
 
 use rw_journal::JournalError;
-use std::alloc::Global;
 
 /// The files of a folder of segments. Each call is a step whose order matters for what a crash
 /// leaves. After an `Err` each later call fails.
 pub trait SegmentFiles {
-    /// The segments, in order, as a read returns them.
+    /// The segments, in order, with the bytes that they hold.
     ghost seen: { Self → Segments };
 
     /// What a crash at this moment may leave. Of a segment that was loaded and that this process
@@ -33,17 +32,6 @@ pub trait SegmentFiles {
     /// Returns the number of segments.
     fn count(&self) -> usize
         ensures { result ≡ length (seen self.now) };
-
-    /// Returns the bytes of a segment that was there when the folder was opened, and forgets them.
-    /// Each segment can be taken once, in order, before anything is changed.
-    fn take_loaded(&mut self, segment: usize) -> Result<Vec<u8>, JournalError>
-        requires { segment < length (seen self.old) }
-        ensures bytes { IfOk result (λ v. v.items ≡ get_or (seen self.old) segment []) }
-        ensures seen { seen self.new ≡ seen self.old }
-        ensures crash { NoMore (may_leave self.old) (may_leave self.new) }
-        ensures time { Elapses (moment self.old) (moment self.new) (left_since self.old)
-            (left_since self.new) (may_leave self.new) }
-        ensures cause { HasCause (faults self.old) (faults self.new) result };
 
     /// Appends bytes to the last segment. Everything must be on the disk.
     fn append(&mut self, bytes: &[u8]) -> Result<(), JournalError>

@@ -2,5 +2,6 @@ mod AdmittedLemmas
 mod CapacityLemmas
 mod KeptLemmas
 mod NotingLemmas
+mod OpeningLemmas
 mod RestoringLemmas
 mod WrittenLemmas

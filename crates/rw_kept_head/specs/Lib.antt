@@ -3,4 +3,5 @@ pub mod Answered
 pub mod Kept
 pub mod Lives
 pub mod Opening
+pub mod Reading
 pub mod inner

@@ -1,3 +1,4 @@
 pub mod Inner
 pub mod Noting
+pub mod Opening
 pub mod Restoring

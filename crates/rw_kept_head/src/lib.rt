@@ -17,4 +17,4 @@ mod spelling;
 pub use kept_head::KeptHead;
 pub use oddities::Oddities;
 pub use open_error::OpenError;
-pub use opening::Opened;
+pub use opening::{HeadReading, Opened};

@@ -21,37 +21,36 @@ use crate::oddities::Oddities;
 use crate::open_error::OpenError;
 use crate::restoring::{RestoredParts, Restoring};
 use rw_head::{Head, Limits};
-use rw_journal::{Journal, close_torn};
-use rw_reopen::{LogEnd as ReadEnd, ReopenError, read_log};
+use rw_journal::{Journal, SegmentTaker, close_torn};
+use rw_reopen::{LogEnd as ReadEnd, LogReading, ReopenError};
 use rw_types::RequestPath;
 use rw_wal_append::laws::an_empty_segment_ends_at_0;
 use rw_wal_append::{LogEnd, References};
 use std::alloc::{AllocError, Global};
+use std::marker::Model;
 
 /// The first reference that is not given: a log that has it is refused.
 const MAX_REFERENCE: u64 = 1 << 63;
 
-/// A log that was read: the head that it says, the references that it defines, how it ended, and
-/// what is odd of it.
+/// A log that was read: the head that it says and its limits, the references that it defines, how
+/// it ended, and what is odd of it.
 #[derive(Drop)]
 struct ReadLog {
     head: Head,
+    limits: Limits,
     references: References,
     end: ReadEnd,
     oddities: Oddities,
 }
 
-/// Reads a log, closes what a crash left of a write, and begins a next segment.
-fn open_log<J: Journal>(
-    alloc: Global,
-    limits: &Limits,
-    journal: &mut J,
-) -> Result<ReadLog, OpenError>
+/// Ends the reading of a log, closes what a crash left of a write, and begins a next segment.
+fn open_log<J: Journal>(reading: HeadReading, journal: &mut J) -> Result<ReadLog, OpenError>
     requires synced { Only (J.seen journal.old) (J.may_leave journal.old) }
+    requires read { reading.segments ≡ J.seen journal.old }
     ensures says { IfOk result (λ r. SaysWhat (J.seen journal.old) r.head.store) }
     ensures says_still { IfOk result (λ r. SaysWhat (J.seen journal.new) r.head.store) }
-    ensures limits { IfOk result (λ r. r.head.limits ≡ label_limits limits.now) }
-    ensures busy { IfOk result (λ r. r.head.busy ≡ limits.now.busy_first) }
+    ensures limits { IfOk result (λ r. r.head.limits ≡ reading.setup.limits) }
+    ensures busy { IfOk result (λ r. r.head.busy ≡ reading.setup.busy) }
     ensures holds { IfOk result (λ r. MayHold r.head.limits (list_of r.head.store)) }
     ensures noted { IfOk result (λ r. IsNoted (entries_of page_size (J.seen journal.new))
         r.references) }
@@ -65,13 +64,13 @@ fn open_log<J: Journal>(
     ensures any_moment { LeavesOnly J.moment J.left_since journal.old journal.new
         (HasSameEntries (J.seen journal.old)) }
     ensures refused { IfErr result (IsRefusedRightly (J.seen journal.old) (J.seen journal.new)) }
-    ensures cause { IfErr result (HasOpeningCause (label_limits limits.now) (J.seen journal.old)) }
-    ensures place { IfErr result (HasForeignPlace (label_limits limits.now) (J.seen journal.old)) }
+    ensures cause { IfErr result (HasOpeningCause reading.setup.limits (J.seen journal.old)) }
+    ensures place { IfErr result (HasForeignPlace reading.setup.limits (J.seen journal.old)) }
     ensures failed { IsErrOf result (Log Failed) → J.faults journal.old < J.faults journal.new }
 {
     an_empty_segment_ends_at_0();
-    let mut restoring = Restoring::new(alloc, limits);
-    let end = read_log(journal, alloc, &mut restoring)?;
+    let HeadReading { alloc, limits, log } = reading;
+    let (restoring, end) = log.finish()?;
     let accepted = restoring.accepted();
     let Some(parts) = restoring.into_parts() else {
         return Err(OpenError::Foreign(accepted));
@@ -90,6 +89,7 @@ fn open_log<J: Journal>(
     close_torn(journal, end.whole)?;
     Ok(ReadLog {
         head,
+        limits,
         references,
         end,
         oddities,
@@ -97,7 +97,10 @@ fn open_log<J: Journal>(
 }
 
 /// Returns limits that make the same heads as these.
-fn limits_of(alloc: Global, limits: &Limits) -> Result<Limits, AllocError> {
+fn limits_of(alloc: Global, limits: &Limits) -> Result<Limits, AllocError>
+    ensures limits { IfOk result (λ l. label_limits l ≡ label_limits limits.now) }
+    ensures busy { IfOk result (λ l. l.busy_first ≡ limits.now.busy_first) }
+{
     Ok(Limits {
         path: RequestPath::api_v1_write(alloc)?,
         max_body_bytes: limits.max_body_bytes,
@@ -120,21 +123,78 @@ pub struct Opened<J: Journal> {
     pub oddities: Oddities,
 }
 
+/// Reads the log of a head as its segments are loaded, one after the other, and makes the head that
+/// it says. It keeps no segment. Contracts see the segments, and the limits of the head.
+#[derive(Drop)]
+pub struct HeadReading {
+    alloc: Global,
+    limits: Limits,
+    log: LogReading<Restoring>,
+}
+
+impl Model for HeadReading {
+    ghost use Rattle.std.specs.Prelude.{◌≡◌, false};
+    ghost use Rattle.std.specs.Coded.{codes};
+    ghost use Rattle.std.specs.FinMap as map;
+    ghost use Rattle.rw_kept_head.specs.Admitted.{label_limits};
+    ghost use Rattle.rw_kept_head.specs.Reading.{HeadTaken};
+    ghost use Rattle.rw_kept_head.specs.inner.Opening.{IsMadeWith};
+
+    ghost Value = { HeadTaken };
+
+    ghost coded = { Prim.hlevel (codes, map.code) };
+
+    ghost view = { λ r. record {
+      segments = r.log.segments;
+      setup = record { limits = label_limits r.limits; busy = r.limits.busy_first };
+    } };
+
+    ghost invariant = { λ r. r.log.failed ≡ false
+        → IsMadeWith r.log.sink (label_limits r.limits) r.limits.busy_first };
+}
+
+impl HeadReading {
+    /// Begins with no segment, for a head with these limits.
+    pub fn new(alloc: Global, limits: &Limits) -> Result<HeadReading, AllocError>
+        ensures segments { IfOk result (λ r. r.segments ≡ []) }
+        ensures limits { IfOk result (λ r. r.setup.limits ≡ label_limits limits.now) }
+        ensures busy { IfOk result (λ r. r.setup.busy ≡ limits.now.busy_first) }
+    {
+        let own = limits_of(alloc, limits)?;
+        let restoring = Restoring::new(alloc, &own);
+        Ok(HeadReading {
+            alloc,
+            limits: own,
+            log: LogReading::new(alloc, restoring),
+        })
+    }
+}
+
+impl SegmentTaker for HeadReading {
+    ghost use Rattle.rw_kept_head.specs.Reading.{HeadSetup};
+
+    ghost taken = { λ r. r.segments };
+
+    ghost Fixed = { HeadSetup };
+
+    ghost fixed = { λ r. r.setup };
+
+    fn take(&mut self, text: &[u8]) -> Result<(), AllocError> {
+        self.log.take(text)
+    }
+}
+
 impl<J: Journal> KeptHead<J> {
-    /// Opens a journal with the log of a head: reads the log, makes the head that it says, cuts off
-    /// what a crash left of a write, and begins a next segment. A segment has at most `pages` pages
-    /// of 32 KiB; 4096 are 128 MiB.
+    /// Opens a journal with the log of a head, whose segments were read as they were loaded: makes
+    /// the head that it says, cuts off what a crash left of a write, and begins a next segment. A
+    /// segment has at most `pages` pages of 32 KiB; 4096 are 128 MiB.
     ///
     /// A log that is damaged, or that no head with these limits has written, is refused, and
     /// nothing is changed.
-    pub fn open(
-        alloc: Global,
-        limits: &Limits,
-        journal: J,
-        pages: usize,
-    ) -> Result<Opened<J>, (OpenError, J)>
+    pub fn open(reading: HeadReading, journal: J, pages: usize) -> Result<Opened<J>, (OpenError, J)>
         // After a restart, what is read is what is on the disk.
         requires synced { Only (J.seen journal) (J.may_leave journal) }
+        requires read { reading.segments ≡ J.seen journal }
         requires some { 1 ≤ pages }
         requires most { pages ≤ 4096 }
 
@@ -146,8 +206,8 @@ impl<J: Journal> KeptHead<J> {
         ensures pages { IfOk result (λ o. o.kept.pages ≡ pages) }
 
         // The head has the limits that it was given, and holds what a head with them may hold.
-        ensures limits { IfOk result (λ o. o.kept.head.limits ≡ label_limits limits.now) }
-        ensures busy { IfOk result (λ o. o.kept.head.busy ≡ limits.now.busy_first) }
+        ensures limits { IfOk result (λ o. o.kept.head.limits ≡ reading.setup.limits) }
+        ensures busy { IfOk result (λ o. o.kept.head.busy ≡ reading.setup.busy) }
         ensures holds { IfOk result (λ o. MayHold o.kept.head.limits (list_of o.kept.head.store)) }
 
         // What is reported: how many segments there were, and what was cut off.
@@ -170,22 +230,20 @@ impl<J: Journal> KeptHead<J> {
         ensures refused { IfErr result
             (λ e. IsRefusedRightly (J.seen journal) (J.seen e.1) e.0) }
         ensures cause { IfErr result
-            (λ e. HasOpeningCause (label_limits limits.now) (J.seen journal) e.0) }
+            (λ e. HasOpeningCause reading.setup.limits (J.seen journal) e.0) }
         ensures place { IfErr result
-            (λ e. HasForeignPlace (label_limits limits.now) (J.seen journal) e.0) }
+            (λ e. HasForeignPlace reading.setup.limits (J.seen journal) e.0) }
         ensures failed { IfErr result
             (λ e. e.0 ≡ Log Failed → J.faults journal < J.faults e.1) }
     {
         let mut journal = journal;
         let segments = journal.count();
-        let own = match limits_of(alloc, limits) {
-            Ok(own) => own,
-            Err(_) => return Err((OpenError::Log(ReopenError::OutOfMemory), journal)),
-        };
-        match open_log(alloc, limits, &mut journal) {
+        let alloc = reading.alloc;
+        match open_log(reading, &mut journal) {
             Ok(read) => {
                 let ReadLog {
                     head,
+                    limits,
                     references,
                     end,
                     oddities,
@@ -200,7 +258,7 @@ impl<J: Journal> KeptHead<J> {
                 };
                 let kept = KeptHead {
                     alloc,
-                    limits: own,
+                    limits,
                     head,
                     log,
                 };

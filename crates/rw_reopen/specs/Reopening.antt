@@ -1,6 +1,6 @@
 -- How a log is opened after a crash.
 use Rattle.std.specs.Prelude.{◌≡◌, ℕ, ◌+◌, ◌<◌, ◌≤◌, List, [], length, drop, get_or}
-use Rattle.rw_journal.specs.Journal.{Segments, Only, LeavesOnly}
+use Rattle.rw_journal.specs.Journal.{Segments}
 use Rattle.rw_journal.specs.Torn.{end_of_page}
 use Rattle.rw_wal_format.specs.Pieces.{page_size}
 use Rattle.rw_wal_tail.specs.Places.{stop_offset}
@@ -32,11 +32,6 @@ HasDamage segments OutOfMemory = Unit {0}
 HasDamage segments Failed = Unit {0}
 HasDamage segments (Damaged d) = IsDamage segments d
 
-abbrev pub IsDamaged : ReopenError → Type 0
-IsDamaged OutOfMemory = ⊥
-IsDamaged Failed = ⊥
-IsDamaged (Damaged d) = Unit {0}
-
 -- how a log ends: where its last segment is cut, what is cut off, whether a whole record follows
 -- the fault at which reading stops, and its greatest reference
 pub record IsEnd (segments : Segments) (end : LogEnd) : Type 0 where
@@ -44,11 +39,3 @@ pub record IsEnd (segments : Segments) (end : LogEnd) : Type 0 where
   pub torn : end.torn.items ≡ drop end.whole (last_of segments)
   pub follows : FollowsFault (last_of segments) end.follows
   pub greatest : end.greatest ≡ greatest_after 0 (entries_of page_size segments)
-
--- A journal was read, and not changed: all of it is synced, and a crash at any moment leaves it as
--- it was.
-pub record IsOnlyRead {D : Type 0} (seen : D → Segments) (may_leave : D → Segments → Type 0) (moment : D → ℕ) (left_since : D → ℕ → Segments → Type 0) (faults : D → ℕ) (old new : D) : Type 0 where
-  pub same : seen new ≡ seen old
-  pub synced : Only (seen new) (may_leave new)
-  pub any_moment : LeavesOnly moment left_since old new (λ c. c ≡ seen old)
-  pub later : faults old ≤ faults new

@@ -6,9 +6,8 @@ ghost use Rattle.rw_wal_format.specs.Pieces.{page_size};
 ghost use Rattle.rw_reopen.specs.inner.Reading.{IsReadOf};
 ghost use Rattle.rw_reopen.specs.Reopening.{IsSegmentCut};
 ghost use Rattle.rw_reopen.specs.inner.Reopening.{IsRefusal};
-ghost use Rattle.rw_reopen.specs.declared.error.ReopenError.TheVariants.{Damaged};
 
-use crate::error::{Damage, ReopenError};
+use crate::error::Damage;
 use crate::reading::{SegmentFault, SegmentRead};
 use crate::walking::whole_len;
 use rw_wal_format::PAGE_BYTES;
@@ -23,29 +22,25 @@ fn ends_in_page(len: usize, offset: u64) -> bool
     (len as u64).saturating_sub(offset) <= page - offset % page
 }
 
-/// Returns the error of a damaged segment.
-pub(crate) fn damage_error(segment: usize, fault: SegmentFault) -> ReopenError
-    ensures { result ≡ Damaged (record {
+/// Returns the damage of a segment with this number and this fault.
+pub(crate) fn damage_of(segment: usize, fault: SegmentFault) -> Damage
+    ensures { result ≡ record {
       fault = fault.fault;
       place = record { segment = segment; offset = fault.offset };
-    }) }
+    } }
 {
-    ReopenError::Damaged(Damage {
+    Damage {
         fault: fault.fault,
         place: FaultPlace {
             segment: segment as u64,
             offset: fault.offset,
         },
-    })
+    }
 }
 
 /// Returns where the last segment is cut: at its end, or after its last whole record if a crash
-/// tore it. `Damaged` is returned only if text follows the page in which reading stops.
-pub(crate) fn find_cut(
-    text: &[u8],
-    read: &SegmentRead,
-    segment: usize,
-) -> Result<usize, ReopenError>
+/// tore it. An error is returned only if text follows the page in which reading stops.
+pub(crate) fn find_cut(text: &[u8], read: &SegmentRead, segment: usize) -> Result<usize, Damage>
     requires { IsReadOf text.now read.now }
     ensures cut { IfOk result (IsSegmentCut text.now) }
     ensures damaged { IfErr result (IsRefusal text.now segment) }
@@ -54,7 +49,7 @@ pub(crate) fn find_cut(
         return Ok(text.len());
     };
     if !ends_in_page(text.len(), fault.offset) {
-        return Err(damage_error(segment, fault));
+        return Err(damage_of(segment, fault));
     }
     Ok(whole_len(text, fault.offset as usize))
 }

@@ -5,6 +5,7 @@
 mod cutting;
 mod entry_sink;
 mod error;
+mod last_segment;
 mod opening;
 mod reading;
 mod records;
@@ -12,5 +13,5 @@ mod walking;
 
 pub use entry_sink::EntrySink;
 pub use error::{Damage, ReopenError};
-pub use opening::{LogEnd, read_log, reopen};
+pub use opening::{LogEnd, LogReading};
 pub use walking::whole_len;

@@ -1,22 +1,21 @@
 //! Opens a log after a crash.
 
-ghost use Rattle.std.specs.Prelude.{◌≡◌, ◌<◌, ◌≤◌, ◌++◌, [], ◌∷◌, length, take, drop, get_or, IfOk, OnOk, IfErr, IsErrOf};
-ghost use Rattle.std.specs.List.{AllByRecursion};
-ghost use Rattle.rw_journal.specs.Journal.{on_last, Only, LeavesOnly};
+ghost use Rattle.std.specs.Prelude.{◌≡◌, ◌++◌, [], ◌∷◌, ℕ, List, length, true, false, IfOk, OnOk, OnErr, IfErr, IsErrOf};
+ghost use Rattle.rw_types.specs.declared.entry.Entry.{Entry};
+ghost use Rattle.rw_journal.specs.Journal.{Segments};
 ghost use Rattle.rw_wal_format.specs.Pieces.{page_size};
 ghost use Rattle.rw_journal.specs.Logs.{entries_of, IsWholeText};
-ghost use Rattle.rw_journal.specs.TornLogs.{last_of, AllBefore};
-ghost use Rattle.rw_reopen.specs.Reading.{greatest_after};
-ghost use Rattle.rw_reopen.specs.Reopening.{HasDamage, IsDamaged, IsEnd, IsOnlyRead};
-ghost use Rattle.rw_reopen.specs.inner.Reopening.{IsLast};
+ghost use Rattle.rw_journal.specs.TornLogs.{AllBefore};
+ghost use Rattle.rw_reopen.specs.Reopening.{HasDamage, IsEnd};
+ghost use Rattle.rw_reopen.specs.inner.Reopening.{EndsLog, IsFound, IsReadBefore};
 
-use crate::cutting::{damage_error, find_cut};
 use crate::entry_sink::EntrySink;
-use crate::error::ReopenError;
-use crate::reading::read_segment;
-use crate::records::find_after_fault;
-use rw_journal::{Journal, close_torn};
-use std::alloc::Global;
+use crate::error::{Damage, ReopenError};
+use crate::last_segment::{LastSegment, read_last};
+use rw_history::History;
+use rw_journal::SegmentTaker;
+use std::alloc::{AllocError, Global};
+use std::marker::Model;
 
 /// The end of a log that was read again.
 #[derive(Debug, Drop)]
@@ -32,164 +31,203 @@ pub struct LogEnd {
     pub greatest: u64,
 }
 
-/// Returns the bytes of a segment.
-fn load<J: Journal>(journal: &mut J, alloc: Global, segment: usize) -> Result<Vec<u8>, ReopenError>
-    requires synced { Only (J.seen journal.old) (J.may_leave journal.old) }
-    requires within { segment < length (J.seen journal.old) }
-    ensures bytes { IfOk result (λ v. v.items ≡ get_or (J.seen journal.old) segment []) }
-    ensures journal { IsOnlyRead J.seen J.may_leave J.moment J.left_since J.faults journal.old
-        journal.new }
-    ensures failed { IsErrOf result ReopenError.Failed
-        → J.faults journal.old < J.faults journal.new }
-    ensures damaged { IfErr result (HasDamage (J.seen journal.old)) }
-{
-    Ok(journal.read(alloc, segment)?)
+/// What was found of the segments so far.
+#[derive(Debug, Drop)]
+pub(crate) enum Found {
+    /// There is no segment yet.
+    Nothing,
+    /// All segments are whole but the last one, of which this was found.
+    Last(LastSegment),
+    /// A segment before the last one is not whole. No further one is read.
+    Broken(Damage),
 }
 
-/// Reads the segments before the last one, each of which has to end between two records.
-fn read_earlier<J: Journal, S: EntrySink>(
-    journal: &mut J,
-    alloc: Global,
-    sink: &mut S,
-    greatest: &mut u64,
-    count: usize,
-) -> Result<(), ReopenError>
-    requires synced { Only (J.seen journal.old) (J.may_leave journal.old) }
-    requires within { count < length (J.seen journal.old) }
-    ensures entries { OnOk result (S.taken sink.new
-        ≡ S.taken sink.old ++ entries_of page_size (take count (J.seen journal.old))) }
-    ensures greatest { OnOk result (greatest.new
-        ≡ greatest_after greatest.old (entries_of page_size (take count (J.seen journal.old)))) }
-    ensures whole { OnOk result
-        (AllByRecursion (IsWholeText page_size) (take count (J.seen journal.old))) }
-    ensures fixed { OnOk result (S.fixed sink.new ≡ S.fixed sink.old) }
-    ensures journal { IsOnlyRead J.seen J.may_leave J.moment J.left_since J.faults journal.old
-        journal.new }
-    ensures failed { IsErrOf result ReopenError.Failed
-        → J.faults journal.old < J.faults journal.new }
-    ensures damaged { IfErr result (HasDamage (J.seen journal.old)) }
+/// Returns why no further segment is read, if a next one comes.
+fn damage_before(found: &Found) -> Option<Damage>
+    ensures { (ss : Segments) (taken : List Entry) (greatest : ℕ)
+        → IsFound ss taken greatest found.now → IsReadBefore ss taken greatest result }
 {
-    for segment in 0..count {
-        let text = load(journal, alloc, segment)?;
-        let read = read_segment(alloc, &text, sink, greatest)?;
-        if let Some(fault) = read.fault {
-            return Err(damage_error(segment, fault));
-        }
+    match found {
+        Found::Nothing => None,
+        Found::Last(last) => last.fault,
+        Found::Broken(damage) => Some(*damage),
     }
-    Ok(())
 }
 
-/// Reads the last segment. Returns where it is to be cut, the bytes after that place, and where a
-/// whole record after its fault begins.
-fn read_last<J: Journal, S: EntrySink>(
-    journal: &mut J,
+/// Reads the next segment, unless one before it is not whole, and returns what was found.
+fn read_next<S: EntrySink>(
     alloc: Global,
+    found: &Found,
+    text: &[u8],
     sink: &mut S,
     greatest: &mut u64,
     segment: usize,
-) -> Result<(usize, Vec<u8>, Option<usize>), ReopenError>
-    requires synced { Only (J.seen journal.old) (J.may_leave journal.old) }
-    requires within { segment < length (J.seen journal.old) }
-    ensures read { IfOk result (λ r. IsLast (get_or (J.seen journal.old) segment []) r.0
-        r.1.items r.2 (S.taken sink.old) (S.taken sink.new) greatest.old greatest.new) }
+) -> Result<Found, AllocError>
+    ensures found { IfOk result (λ next. (ss : Segments) → segment ≡ length ss
+        → IsFound ss (S.taken sink.old) greatest.old found.now
+        → IsFound (ss ++ text.now ∷ []) (S.taken sink.new) greatest.new next) }
     ensures fixed { OnOk result (S.fixed sink.new ≡ S.fixed sink.old) }
-    ensures journal { IsOnlyRead J.seen J.may_leave J.moment J.left_since J.faults journal.old
-        journal.new }
-    ensures failed { IsErrOf result ReopenError.Failed
-        → J.faults journal.old < J.faults journal.new }
-    ensures damaged { IfErr result (HasDamage (J.seen journal.old)) }
 {
-    let text = load(journal, alloc, segment)?;
-    let read = read_segment(alloc, &text, sink, greatest)?;
-    let at = find_cut(&text, &read, segment)?;
-    let follows = find_after_fault(&text, &read);
-    let torn = text[at..].to_vec(alloc)?;
-    Ok((at, torn, follows))
+    match damage_before(found) {
+        Some(damage) => Ok(Found::Broken(damage)),
+        None => Ok(Found::Last(read_last(alloc, text, sink, greatest, segment)?)),
+    }
 }
 
-/// Reads a log again after a crash, and lets its entries be taken. Nothing is changed.
-///
-/// The log then has to be closed by `close_torn` at `whole`. Before that the caller may keep a copy
-/// of the bytes that it cuts, which are `torn`.
-///
-/// `Damaged` is returned if a segment before the last one is not whole, or if the last one goes on
-/// after the page in which reading stops, and only then: no crash leaves such a log.
-pub fn read_log<J: Journal, S: EntrySink>(
-    journal: &mut J,
-    alloc: Global,
-    sink: &mut S,
-) -> Result<LogEnd, ReopenError>
-    // After a restart, what is read is what is on the disk.
-    requires synced { Only (J.seen journal.old) (J.may_leave journal.old) }
-
-    ensures entries { OnOk result (S.taken sink.new
-        ≡ S.taken sink.old ++ entries_of page_size (J.seen journal.old)) }
-    ensures end { IfOk result (IsEnd (J.seen journal.old)) }
-    ensures whole { OnOk result (AllBefore (IsWholeText page_size) (J.seen journal.old)) }
-    ensures fixed { OnOk result (S.fixed sink.new ≡ S.fixed sink.old) }
-
-    // Nothing is changed, at any moment.
-    ensures journal { IsOnlyRead J.seen J.may_leave J.moment J.left_since J.faults journal.old
-        journal.new }
-
-    // An error comes only from memory, the device or the log.
-    ensures failed { IsErrOf result ReopenError.Failed
-        → J.faults journal.old < J.faults journal.new }
-    ensures damaged { IfErr result (HasDamage (J.seen journal.old)) }
+/// Returns the end of a log of which this was found.
+fn end_log(alloc: Global, found: Found, greatest: u64) -> Result<LogEnd, ReopenError>
+    ensures end { IfOk result (λ end. (ss : Segments) (taken : List Entry)
+        → IsFound ss taken greatest found → EndsLog ss taken end) }
+    ensures damaged { IfErr result (λ e. (ss : Segments) (taken : List Entry)
+        → IsFound ss taken greatest found → HasDamage ss e) }
+    ensures found { IsErrOf result ReopenError.Failed → ⊥ }
 {
-    let count = journal.count();
-    if count == 0 {
-        return Ok(LogEnd {
+    match found {
+        Found::Nothing => Ok(LogEnd {
             whole: 0,
             torn: Vec::new(alloc),
             follows: None,
-            greatest: 0,
-        });
+            greatest,
+        }),
+        Found::Last(last) => {
+            let LastSegment {
+                fault: _,
+                cut,
+                torn,
+                follows,
+            } = last;
+            match cut {
+                Ok(whole) => Ok(LogEnd {
+                    whole,
+                    torn,
+                    follows,
+                    greatest,
+                }),
+                Err(damage) => Err(ReopenError::Damaged(damage)),
+            }
+        }
+        Found::Broken(damage) => Err(ReopenError::Damaged(damage)),
     }
-    let mut greatest = 0;
-    read_earlier(journal, alloc, sink, &mut greatest, count - 1)?;
-    let (whole, torn, follows) = read_last(journal, alloc, sink, &mut greatest, count - 1)?;
-    Ok(LogEnd {
-        whole,
-        torn,
-        follows,
-        greatest,
-    })
 }
 
-/// Opens a log after a crash: reads it, lets its entries be taken, cuts what a crash left of a
-/// write, and begins a next segment. A crash at any moment leaves a log with the same entries.
-pub fn reopen<J: Journal, S: EntrySink>(
-    journal: &mut J,
+/// Reads a log again after a crash, as its segments are loaded one after the other, and lets a sink
+/// take its entries. It keeps no segment. Contracts see the segments, the sink, and whether memory
+/// ran out, after which there is no end.
+///
+/// The log then has to be closed by `close_torn` at `whole`. Before that the caller may keep a copy
+/// of the bytes that it cuts, which are `torn`.
+#[derive(Drop)]
+pub struct LogReading<S: EntrySink> {
     alloc: Global,
-    sink: &mut S,
-) -> Result<LogEnd, ReopenError>
-    // After a restart, what is read is what is on the disk.
-    requires synced { Only (J.seen journal.old) (J.may_leave journal.old) }
+    segments: History<History<u8>>,
+    count: usize,
+    sink: S,
+    greatest: u64,
+    found: Found,
+    /// Whether memory ran out while a segment was taken.
+    failed: bool,
+}
 
-    ensures taken { OnOk result (S.taken sink.new
-        ≡ S.taken sink.old ++ entries_of page_size (J.seen journal.old)) }
-    ensures fixed { OnOk result (S.fixed sink.new ≡ S.fixed sink.old) }
-    ensures end { IfOk result (IsEnd (J.seen journal.old)) }
-    ensures segments { IfOk result (λ end. J.seen journal.new
-        ≡ on_last (take end.whole) (J.seen journal.old) ++ [] ∷ []) }
-    ensures entries { OnOk result
-        (entries_of page_size (J.seen journal.new) ≡ entries_of page_size (J.seen journal.old)) }
-    ensures whole { OnOk result (AllBefore (IsWholeText page_size) (J.seen journal.new)) }
-    ensures synced { OnOk result (Only (J.seen journal.new) (J.may_leave journal.new)) }
+impl<S: EntrySink> Model for LogReading<S> {
+    ghost use Rattle.std.specs.Prelude.{◌≡◌, length, false};
+    ghost use Rattle.std.specs.Coded.{codes};
+    ghost use Rattle.std.specs.FinMap as map;
+    ghost use Rattle.rw_reopen.specs.Taken.{LogTaken};
+    ghost use Rattle.rw_reopen.specs.inner.Reopening.{IsFound};
 
-    // A crash at any moment leaves a log with the same entries.
-    ensures any_moment { LeavesOnly J.moment J.left_since journal.old journal.new
-        (λ c. entries_of page_size c ≡ entries_of page_size (J.seen journal.old)) }
+    ghost Value = { LogTaken S };
 
-    // An error comes only from memory, the device or the log, and a log that it refuses is as it
-    // was.
-    ensures failed { IsErrOf result ReopenError.Failed
-        → J.faults journal.old < J.faults journal.new }
-    ensures damaged { IfErr result (HasDamage (J.seen journal.old)) }
-    ensures refused { IfErr result (λ e. IsDamaged e → J.seen journal.new ≡ J.seen journal.old) }
-{
-    let end = read_log(journal, alloc, sink)?;
-    close_torn(journal, end.whole)?;
-    Ok(end)
+    ghost coded = { Prim.hlevel (codes, map.code) };
+
+    ghost view = { λ l. record { segments = l.segments; sink = l.sink; failed = l.failed } };
+
+    ghost invariant = { λ l. l.failed ≡ false → (l.count ≡ length l.segments)
+        × IsFound l.segments (S.taken l.sink) l.greatest l.found };
+}
+
+impl<S: EntrySink + Drop> LogReading<S> {
+    /// Begins with no segment, and a sink that has taken nothing.
+    pub fn new(alloc: Global, sink: S) -> LogReading<S>
+        requires nothing { S.taken sink ≡ [] }
+        ensures segments { result.segments ≡ [] }
+        ensures sink { result.sink ≡ sink }
+        ensures ready { result.failed ≡ false }
+    {
+        LogReading {
+            alloc,
+            segments: History::new(),
+            count: 0,
+            sink,
+            greatest: 0,
+            found: Found::Nothing,
+            failed: false,
+        }
+    }
+
+    /// Returns the sink, which has taken the entries of the log, and how the log ends.
+    ///
+    /// `Damaged` is returned if a segment before the last one is not whole, or if the last one goes
+    /// on after the page in which reading stops, and only then: no crash leaves such a log.
+    pub fn finish(self) -> Result<(S, LogEnd), ReopenError>
+        ensures sink { IfOk result (λ r. r.0 ≡ self.sink) }
+        ensures entries { IfOk result
+            (λ r. S.taken r.0 ≡ entries_of page_size self.segments) }
+        ensures end { IfOk result (λ r. IsEnd self.segments r.1) }
+        ensures whole { OnOk result (AllBefore (IsWholeText page_size) self.segments) }
+        ensures ready { OnOk result (self.failed ≡ false) }
+
+        // An error comes only from memory or the log.
+        ensures damaged { IfErr result (HasDamage self.segments) }
+        ensures found { IsErrOf result ReopenError.Failed → ⊥ }
+    {
+        let LogReading {
+            alloc,
+            segments: _,
+            count: _,
+            sink,
+            greatest,
+            found,
+            failed,
+        } = self;
+        if failed {
+            return Err(ReopenError::OutOfMemory);
+        }
+        match end_log(alloc, found, greatest) {
+            Ok(end) => Ok((sink, end)),
+            Err(error) => Err(error),
+        }
+    }
+}
+
+impl<S: EntrySink> SegmentTaker for LogReading<S> {
+    ghost taken = { λ l. l.segments };
+
+    ghost Fixed = { S.Fixed };
+
+    ghost fixed = { λ l. S.fixed l.sink };
+
+    fn take(&mut self, text: &[u8]) -> Result<(), AllocError>
+        ensures taken { OnOk result (self.new.segments ≡ self.old.segments ++ text.now ∷ []) }
+        ensures fixed { OnOk result (S.fixed self.new.sink ≡ S.fixed self.old.sink) }
+        ensures failed { OnErr result (self.new.failed ≡ true) }
+        ensures ready { OnOk result ((self.old.failed ≡ false) × (self.new.failed ≡ false)) }
+    {
+        let had_failed = self.failed;
+        self.failed = true;
+        if had_failed || self.count == usize::MAX {
+            return Err(AllocError);
+        }
+        self.found = read_next(
+            self.alloc,
+            &self.found,
+            text,
+            &mut self.sink,
+            &mut self.greatest,
+            self.count,
+        )?;
+        self.segments.push(&History::of(text));
+        self.count += 1;
+        self.failed = false;
+        Ok(())
+    }
 }

@@ -10,7 +10,7 @@ use rw_kept_folder::{
     FaultCause, FolderError, FolderFault, FolderJournal, FolderMonitor, FolderRules, OpenFolder,
     open_journal, refuse_running_server,
 };
-use rw_kept_head::{KeptHead, Oddities, OpenError, Opened};
+use rw_kept_head::{HeadReading, KeptHead, Oddities, OpenError, Opened};
 use rw_metrics::ReceiveCounters;
 use rw_receive::{FinalHead, serve_connections, serve_until_stop};
 use rw_reopen::{Damage, ReopenError, whole_len};
@@ -93,11 +93,15 @@ pub fn open_head(
     if let Err(error) = refuse_running_server(rt, dir) {
         return Err(KeepError::Folder(error));
     }
-    let journal = match open_journal(rt, dir, rules, FolderMonitor::new(counters)) {
+    let Ok(mut reading) = HeadReading::new(rt.alloc(), limits) else {
+        return Err(KeepError::Folder(FolderError::OutOfMemory));
+    };
+    let monitor = FolderMonitor::new(counters);
+    let journal = match open_journal(rt, dir, rules, monitor, &mut reading) {
         Ok(journal) => journal,
         Err(error) => return Err(KeepError::Folder(error)),
     };
-    match KeptHead::open(rt.alloc(), limits, journal, PAGES) {
+    match KeptHead::open(reading, journal, PAGES) {
         Ok(opened) => Ok(opened),
         Err((error, journal)) => Err(open_error(error, journal.files())),
     }

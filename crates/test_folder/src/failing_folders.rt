@@ -6,9 +6,9 @@ ghost use Rattle.rw_journal.specs.Journal.{Only};
 
 use crate::failing_files::{Countdown, FailingFiles};
 use crate::folder_journals::{STRICT, make_folder};
+use crate::texts::{open_folder, read_folder};
 use rw_journal::{Journal, JournalError};
-use rw_kept_folder::{FolderMonitor, open_journal};
-use std::alloc::Global;
+use rw_kept_folder::FolderMonitor;
 use std::fs;
 use std::path::Path;
 use std::rt::Files;
@@ -37,18 +37,21 @@ fn write_segment<J: Journal>(journal: &mut J, text: &str) -> Result<(), JournalE
     journal.begin()
 }
 
-/// Reads both segments, cuts the second one to a byte, and writes a third one.
-fn go_on<J: Journal>(journal: &mut J, alloc: Global) -> Result<bool, JournalError>
+/// Returns whether these are the texts of two segments, as they were written.
+fn are_whole(texts: &[Vec<u8>]) -> bool {
+    texts.len() == 2
+        && texts[0].as_slice() == b"abc".as_slice()
+        && texts[1].as_slice() == b"de".as_slice()
+}
+
+/// Cuts the second segment to a byte, and writes a third one.
+fn go_on<J: Journal>(journal: &mut J) -> Result<(), JournalError>
     requires { Only (J.seen journal.old) (J.may_leave journal.old) }
 {
-    let is_whole = journal.count() == 2
-        && journal.read(alloc, 0)?.as_slice() == b"abc".as_slice()
-        && journal.read(alloc, 1)?.as_slice() == b"de".as_slice();
     journal.cut(1)?;
     journal.sync()?;
     journal.begin()?;
-    write_segment(journal, "fgh")?;
-    Ok(is_whole)
+    write_segment(journal, "fgh")
 }
 
 /// How it ends to open a folder and to go on.
@@ -63,12 +66,15 @@ enum End {
 
 /// Opens the folder and goes on.
 fn open_and_go_on<R: Files + Clock + AllocGlobal + Copy>(rt: &R, dir: &str) -> End {
-    let Ok(journal) = open_journal(rt, dir, STRICT, FolderMonitor::none()) else {
+    let Ok((journal, texts)) = read_folder(rt, dir, STRICT, FolderMonitor::none()) else {
         return End::Failed;
     };
+    if journal.count() != 2 || !are_whole(&texts) {
+        return End::Wrong;
+    }
     let mut journal = journal;
-    match go_on(&mut journal, rt.alloc()) {
-        Ok(true) => End::Done,
+    match go_on(&mut journal) {
+        Ok(()) => End::Done,
         Err(JournalError::Failed) if journal.sync() == Err(JournalError::Failed) => End::Failed,
         _ => End::Wrong,
     }
@@ -81,7 +87,7 @@ fn a_folder_is_written_cut_and_read_again(rt: HostRuntime) -> Result<(), Fail> {
         "rwship-a-journal",
         &[("lock", "x"), ("torn-00000007", "y")],
     )?;
-    let mut journal = open_journal(&rt, dir.as_path().as_str(), STRICT, FolderMonitor::none())?;
+    let mut journal = open_folder(&rt, dir.as_path().as_str(), STRICT, FolderMonitor::none())?;
     assert_eq!(rt; journal.count(), 0);
     journal.begin()?;
     write_segment(&mut journal, "abc")?;
@@ -116,23 +122,17 @@ fn is_kept(rt: &HostRuntime, dir: Path<'_>) -> bool {
 /// Whether a folder can be opened again, has the first two segments as they were or the second one
 /// cut, and no copy of a segment.
 fn is_opened_again(rt: &HostRuntime, dir: Path<'_>) -> bool {
-    let alloc = rt.alloc();
-    let Ok(mut journal) = open_journal(rt, dir.as_str(), STRICT, FolderMonitor::none()) else {
+    let opened = read_folder(rt, dir.as_str(), STRICT, FolderMonitor::none());
+    let Ok((journal, texts)) = opened else {
         return false;
     };
-    if journal.count() < 2 {
+    if journal.count() < 2 || texts.len() < 2 {
         return false;
     }
-    match (journal.read(alloc, 0), journal.read(alloc, 1)) {
-        (Ok(first), Ok(second)) => {
-            let is_second = second.as_slice() == b"d".as_slice()
-                || second.as_slice() == b"de".as_slice();
-            first.as_slice() == b"abc".as_slice()
-                && is_second
-                && has_text(rt, dir, "00000001.tmp", None)
-        }
-        _ => false,
-    }
+    let second = texts[1].as_slice();
+    texts[0].as_slice() == b"abc".as_slice()
+        && (second == b"d".as_slice() || second == b"de".as_slice())
+        && has_text(rt, dir, "00000001.tmp", None)
 }
 
 /// Has each call of the device fail in turn. Returns how many there are, or `None` if one of them
@@ -192,7 +192,7 @@ fn lose_memory(rt: &HostRuntime, dir: Path<'_>, aside: Path<'_>) -> Result<(), F
     let file = dir.join(alloc, "00000000")?;
     let other = aside.join(alloc, "00000000")?;
     fs::hard_link(rt, file.as_path(), other.as_path())?;
-    let journal = open_journal(rt, dir.as_str(), STRICT, FolderMonitor::none())?;
+    let journal = open_folder(rt, dir.as_str(), STRICT, FolderMonitor::none())?;
     fs::write(rt, other.as_path(), "a")?;
     drop(journal);
     Ok(())
@@ -227,7 +227,7 @@ fn fail_each_write(rt: &HostRuntime) -> Result<bool, Fail> {
             rt: *rt,
             countdown: &countdown,
         };
-        let mut journal = open_journal(
+        let mut journal = open_folder(
             &failing,
             dir.as_path().as_str(),
             STRICT,

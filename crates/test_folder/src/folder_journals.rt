@@ -1,9 +1,8 @@
 //! Journals in the files of a folder: which folders are refused, and why, and what is counted.
 
+use crate::texts::{open_folder, read_folder};
 use rw_journal::{Journal, JournalError};
-use rw_kept_folder::{
-    FaultCause, FolderError, FolderMonitor, FolderRules, open_journal, refuse_running_server,
-};
+use rw_kept_folder::{FaultCause, FolderError, FolderMonitor, FolderRules, refuse_running_server};
 use rw_metrics::{KeptNumbers, ReceiveCounters};
 use std::alloc::{AllocError, Global};
 use std::path::{Path, PathBuf};
@@ -73,7 +72,7 @@ static REFUSED: [Refused; 4] = [
 fn first_not_refused(rt: &HostRuntime) -> Result<Option<&'static str>, Fail> {
     for row in &REFUSED {
         let dir = make_folder(rt, "rwship-a-refused-journal", row.files)?;
-        let error = open_journal(rt, dir.as_path().as_str(), STRICT, FolderMonitor::none()).err();
+        let error = open_folder(rt, dir.as_path().as_str(), STRICT, FolderMonitor::none()).err();
         fs::remove_dir_all(rt, dir.as_path())?;
         if error != Some(row.error) {
             return Ok(Some(row.name));
@@ -93,8 +92,8 @@ fn a_folder_that_cannot_be_listed_says_why(rt: HostRuntime) -> Result<(), Fail> 
     let dir = make_folder(&rt, "rwship-an-unlisted-journal", &[("00000000", "a")])?;
     let file = dir.as_path().join(rt.alloc(), "00000000")?;
     let none = dir.as_path().join(rt.alloc(), "none")?;
-    let of_file = open_journal(&rt, file.as_path().as_str(), STRICT, FolderMonitor::none()).err();
-    let of_none = open_journal(&rt, none.as_path().as_str(), STRICT, FolderMonitor::none()).err();
+    let of_file = open_folder(&rt, file.as_path().as_str(), STRICT, FolderMonitor::none()).err();
+    let of_none = open_folder(&rt, none.as_path().as_str(), STRICT, FolderMonitor::none()).err();
     fs::remove_dir_all(&rt, dir.as_path())?;
     assert_eq!(rt;
         of_file,
@@ -135,7 +134,7 @@ fn the_log_of_a_running_server_is_refused(rt: HostRuntime) -> Result<(), Fail> {
 fn a_segment_has_the_number_of_its_name(rt: HostRuntime) -> Result<(), Fail> {
     let files = [("00000007", "a"), ("00000008", "b")];
     let dir = make_folder(&rt, "rwship-a-late-journal", &files)?;
-    let journal = open_journal(&rt, dir.as_path().as_str(), LENIENT, FolderMonitor::none())?;
+    let journal = open_folder(&rt, dir.as_path().as_str(), LENIENT, FolderMonitor::none())?;
     let number = journal.files().number_of(1);
     fs::remove_dir_all(&rt, dir.as_path())?;
     assert_eq!(rt; number, 8);
@@ -154,7 +153,7 @@ fn long_bytes(alloc: Global) -> Result<Vec<u8>, AllocError> {
 /// Writes a segment of three bytes, and a last one that gets these bytes by two appends.
 fn write_long(rt: &HostRuntime, dir: Path<'_>, bytes: &[u8]) -> Result<(), Fail> {
     let (front, rest) = bytes.split_at(bytes.len() / 2);
-    let mut journal = open_journal(rt, dir.as_str(), STRICT, FolderMonitor::none())?;
+    let mut journal = open_folder(rt, dir.as_str(), STRICT, FolderMonitor::none())?;
     journal.begin()?;
     journal.append(b"abc")?;
     journal.sync()?;
@@ -169,11 +168,12 @@ fn write_long(rt: &HostRuntime, dir: Path<'_>, bytes: &[u8]) -> Result<(), Fail>
 /// Opens the folder, and returns whether it has two segments, which are read as `abc` and as these
 /// bytes.
 fn has_last(rt: &HostRuntime, dir: Path<'_>, bytes: &[u8]) -> Result<bool, Fail> {
-    let mut journal = open_journal(rt, dir.as_str(), STRICT, FolderMonitor::none())?;
+    let (journal, texts) = read_folder(rt, dir.as_str(), STRICT, FolderMonitor::none())?;
     Ok(
         journal.count() == 2
-            && journal.read(rt.alloc(), 0)?.as_slice() == b"abc".as_slice()
-            && journal.read(rt.alloc(), 1)?.as_slice() == bytes,
+            && texts.len() == 2
+            && texts[0].as_slice() == b"abc".as_slice()
+            && texts[1].as_slice() == bytes,
     )
 }
 
@@ -196,7 +196,7 @@ fn write_until_a_fault(
     dir: Path<'_>,
     monitor: FolderMonitor,
 ) -> Result<bool, Fail> {
-    let mut journal = open_journal(rt, dir.as_str(), STRICT, monitor)?;
+    let mut journal = open_folder(rt, dir.as_str(), STRICT, monitor)?;
     journal.begin()?;
     journal.append(b"abc")?;
     journal.sync()?;
@@ -236,7 +236,7 @@ fn cause_after(
     dir: Path<'_>,
     change: Change,
 ) -> Result<Option<FaultCause>, Fail> {
-    let mut journal = open_journal(rt, dir.as_str(), STRICT, FolderMonitor::none())?;
+    let mut journal = open_folder(rt, dir.as_str(), STRICT, FolderMonitor::none())?;
     journal.begin()?;
     journal.append(b"abc")?;
     journal.sync()?;

@@ -61,7 +61,7 @@ fn left_of(alloc: Global, row: &Row) -> Result<Vec<u8>, JournalError> {
     write_in_pages(&mut journal, 4, 0, row.written)?;
     journal.append(row.unsynced)?;
     journal.crash(row.torn)?;
-    journal.read(alloc, 1)
+    Ok(journal.read(alloc, 1)?)
 }
 
 /// Returns the first row that does not hold.

@@ -18,3 +18,5 @@ mod order;
 mod owners;
 #[cfg(test)]
 mod pages;
+#[cfg(test)]
+mod texts;

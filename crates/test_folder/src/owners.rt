@@ -2,8 +2,9 @@
 
 use crate::failing_files::{Countdown, FailingFiles};
 use crate::folder_journals::{LENIENT, STRICT, make_folder};
+use crate::texts::open_folder;
 use rw_journal::Journal;
-use rw_kept_folder::{FaultCause, FolderError, FolderMonitor, FolderRules, open_journal};
+use rw_kept_folder::{FaultCause, FolderError, FolderMonitor, FolderRules};
 use std::fs;
 use std::path::{Path, PathBuf};
 use std::rt::Files;
@@ -167,7 +168,7 @@ fn does(rt: &HostRuntime, row: &Row) -> Result<bool, Fail> {
     let wal = dir.as_path().join(rt.alloc(), "wal")?;
     let had_mark = is_marked(rt, wal.as_path())?;
     let name = wal.as_path().as_str();
-    let error = open_journal(rt, name, row.rules, FolderMonitor::none()).err();
+    let error = open_folder(rt, name, row.rules, FolderMonitor::none()).err();
     let has_mark = is_marked(rt, wal.as_path())?;
     fs::remove_dir_all(rt, dir.as_path())?;
     Ok(error == row.error && has_mark == (had_mark || error.is_none()))
@@ -244,7 +245,7 @@ fn open_and_begin<R: Files + Clock + AllocGlobal + Copy>(
     rt: &R,
     dir: &str,
 ) -> Result<bool, FolderError> {
-    let mut journal = open_journal(rt, dir, STRICT, FolderMonitor::none())?;
+    let mut journal = open_folder(rt, dir, STRICT, FolderMonitor::none())?;
     Ok(journal.begin().is_ok())
 }
 

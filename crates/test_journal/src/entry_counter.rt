@@ -1,9 +1,12 @@
 //! Logs of two records in journals in memory.
 
 ghost use Rattle.std.specs.Prelude.{◌≡◌, ◌++◌, ◌∷◌, [], OnOk};
+ghost use Rattle.rw_journal.specs.Journal.{Only};
+ghost use Rattle.rw_journal.specs.Memory.{image_segments, IsLeftOf};
 
 use rw_history::History;
-use rw_reopen::EntrySink;
+use rw_journal::{MemoryJournal, close_torn};
+use rw_reopen::{EntrySink, LogEnd, LogReading, ReopenError};
 use rw_types::Entry;
 use std::alloc::{AllocError, Global};
 
@@ -23,7 +26,9 @@ pub(crate) struct Counter {
 }
 
 impl Counter {
-    pub(crate) fn new() -> Counter {
+    pub(crate) fn new() -> Counter
+        ensures { result.past ≡ [] }
+    {
         Counter {
             count: 0,
             past: History::new(),
@@ -43,4 +48,20 @@ impl EntrySink for Counter {
         self.count = self.count.wrapping_add(1);
         Ok(())
     }
+}
+
+/// Opens the log in a journal: reads it, cuts what a crash left of a write, and begins a next
+/// segment. Returns how many entries it has, and how it ended.
+pub(crate) fn reopen(
+    alloc: Global,
+    journal: &mut MemoryJournal,
+) -> Result<(u64, LogEnd), ReopenError>
+    requires { Only (image_segments journal.old.image) (IsLeftOf journal.old.image) }
+    ensures { OnOk result (Only (image_segments journal.new.image) (IsLeftOf journal.new.image)) }
+{
+    let mut reading = LogReading::new(alloc, Counter::new());
+    journal.give_all(&mut reading)?;
+    let (counter, end) = reading.finish()?;
+    close_torn(journal, end.whole)?;
+    Ok((counter.count, end))
 }

@@ -2,7 +2,7 @@
 //! again.
 
 use crate::failing_journal::FailingJournal;
-use crate::life::{Life, Wrong, live};
+use crate::life::{Life, Wrong, live, live_after, read_head};
 use crate::plan::{Plan, Row};
 use rw_head::Admission;
 use rw_journal::{Journal, MemoryJournal};
@@ -19,9 +19,9 @@ static ROWS: [Row; 4] = [
     (5, Admission::Answered(204)),
 ];
 
-/// The calls from the second opening on: a sync, two reads, a cut, a sync and a begun segment, an
-/// append and a sync for each page, and a begun segment before the last request.
-const CALLS: u64 = 6 + 2 + 4 + 1 + 4;
+/// The calls from the second opening on: a sync, a cut, a sync and a begun segment, an append and a
+/// sync for each page, and a begun segment before the last request.
+const CALLS: u64 = 4 + 2 + 4 + 1 + 4;
 
 /// A torn record.
 const TORN: [u8; 5] = [1, 0, 22, 0x39, 0x19];
@@ -109,8 +109,10 @@ fn crash(
 /// answered.
 fn fail(alloc: Global, plan: &Plan, call: u64, way: &Way) -> Result<(), Wrong> {
     let end = plan.requests.len();
-    let journal = FailingJournal::new(torn_journal(alloc, plan)?, call, way.is_made);
-    let (journal, answered) = live(alloc, plan, journal, Life::whole(1, end));
+    let journal = torn_journal(alloc, plan)?;
+    let reading = read_head(alloc, &plan.limits, &journal)?;
+    let journal = FailingJournal::new(journal, call, way.is_made);
+    let (journal, answered) = live_after(alloc, plan, reading, journal, Life::whole(1, end));
     let answered = match answered {
         Err(Wrong::Failed) => 1,
         answered => answered?,

@@ -5,7 +5,6 @@ ghost use Rattle.rw_journal.specs.Journal.{HasCause};
 
 use rw_history::History;
 use rw_journal::{Journal, JournalError};
-use std::alloc::Global;
 
 /// A journal of which one call fails: the one of this number, counted from 1. A failing call has
 /// appended or cut nevertheless; whether it has synced or begun a segment is chosen.
@@ -20,7 +19,9 @@ pub(crate) struct FailingJournal<J: Journal> {
 
 impl<J: Journal> FailingJournal<J> {
     /// Returns a journal of which the call of this number fails.
-    pub(crate) fn new(inner: J, failing: u64, is_made: bool) -> FailingJournal<J> {
+    pub(crate) fn new(inner: J, failing: u64, is_made: bool) -> FailingJournal<J>
+        ensures { result.inner ≡ inner }
+    {
         FailingJournal {
             inner,
             calls: 0,
@@ -82,11 +83,6 @@ impl<J: Journal> Journal for FailingJournal<J> {
 
     fn count(&self) -> usize {
         self.inner.count()
-    }
-
-    fn read(&mut self, alloc: Global, segment: usize) -> Result<Vec<u8>, JournalError> {
-        self.count_call()?;
-        self.inner.read(alloc, segment)
     }
 
     fn append(&mut self, bytes: &[u8]) -> Result<(), JournalError> {

@@ -1,6 +1,7 @@
 //! Logs whose samples no head holds, and logs after whose references there may be none left.
 
 use crate::appends::{definitions_of, samples_at};
+use crate::life::read_head;
 use Outcome::{Foreign, NoReferenceLeft, Opened};
 use rw_head::Limits;
 use rw_journal::{Journal, MemoryJournal};
@@ -108,7 +109,10 @@ fn outcome_of(alloc: Global, row: &Row) -> Result<Outcome, AppendError> {
     let Ok(()) = journal.sync() else {
         return Ok(Outcome::Failed);
     };
-    match KeptHead::open(alloc, &limits, journal, 1) {
+    let Ok(reading) = read_head(alloc, &limits, &journal) else {
+        return Ok(Outcome::Failed);
+    };
+    match KeptHead::open(reading, journal, 1) {
         Ok(opened) => Ok(Opened(opened.kept.head().total())),
         Err((error, _journal)) => Ok(refusal_of(&error)),
     }

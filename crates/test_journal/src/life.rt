@@ -1,9 +1,12 @@
 //! A life of a head: a journal is opened, and requests are asked.
 
+ghost use Rattle.std.specs.Prelude.{◌≡◌, IfOk};
+ghost use Rattle.rw_journal.specs.Memory.{image_segments};
+
 use crate::plan::{Plan, Request};
-use rw_head::Admission;
-use rw_journal::{Journal, JournalError};
-use rw_kept_head::{KeptHead, OpenError};
+use rw_head::{Admission, Limits};
+use rw_journal::{Journal, JournalError, MemoryJournal};
+use rw_kept_head::{HeadReading, KeptHead, OpenError};
 use rw_recv_head::Admit;
 use rw_reopen::ReopenError;
 use std::alloc::{AllocError, Global};
@@ -144,24 +147,53 @@ fn not_opened(error: OpenError) -> Wrong {
     }
 }
 
-/// Opens a journal, asks requests, and looks at what is held before and after them. Returns the
-/// journal, and how many requests of the plan are answered then as it says: all up to the end of
-/// the life, if no call of the journal failed.
-pub(crate) fn live<J: Journal>(
+/// Reads the log in a journal, for a head with these limits.
+pub(crate) fn read_head(
+    alloc: Global,
+    limits: &Limits,
+    journal: &MemoryJournal,
+) -> Result<HeadReading, AllocError>
+    ensures { IfOk result (λ r. r.segments ≡ image_segments journal.now.image) }
+{
+    let mut reading = HeadReading::new(alloc, limits)?;
+    journal.give_all(&mut reading)?;
+    Ok(reading)
+}
+
+/// Opens a journal whose segments were read, asks requests, and looks at what is held before and
+/// after them. Returns the journal, and how many requests of the plan are answered then as it says:
+/// all up to the end of the life, if no call of the journal failed.
+pub(crate) fn live_after<J: Journal>(
     alloc: Global,
     plan: &Plan,
+    reading: HeadReading,
     mut journal: J,
     life: Life,
-) -> (J, Result<usize, Wrong>) {
+) -> (J, Result<usize, Wrong>)
+    requires { reading.segments ≡ J.seen journal }
+{
     if let Err(error) = journal.sync() {
         return (journal, Err(Wrong::from(error)));
     }
-    match KeptHead::open(alloc, &plan.limits, journal, plan.pages.max(1).min(4096)) {
+    match KeptHead::open(reading, journal, plan.pages.max(1).min(4096)) {
         Ok(opened) => {
             let mut kept = opened.kept;
             let answered = ask_each(alloc, plan, &mut kept, life);
             (kept.into_journal(), answered)
         }
         Err((error, journal)) => (journal, Err(not_opened(error))),
+    }
+}
+
+/// Does the same with a journal in memory, whose segments it reads.
+pub(crate) fn live(
+    alloc: Global,
+    plan: &Plan,
+    journal: MemoryJournal,
+    life: Life,
+) -> (MemoryJournal, Result<usize, Wrong>) {
+    match read_head(alloc, &plan.limits, &journal) {
+        Ok(reading) => live_after(alloc, plan, reading, journal, life),
+        Err(_) => (journal, Err(Wrong::OutOfMemory)),
     }
 }

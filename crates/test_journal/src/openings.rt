@@ -1,11 +1,12 @@
 //! Logs that are opened, and logs that are refused.
 
 ghost use Rattle.rw_journal.specs.Journal.{Only};
+ghost use Rattle.rw_journal.specs.Memory.{image_segments, IsLeftOf};
 
-use crate::entry_counter::{Counter, UP};
+use crate::entry_counter::{UP, reopen};
 use Outcome::{Opened, Refused};
 use rw_journal::{Journal, JournalError, MemoryJournal};
-use rw_reopen::{Damage, ReopenError, reopen};
+use rw_reopen::{Damage, ReopenError};
 use rw_wal_tail::{FaultPlace, TailFault};
 use std::alloc::{AllocError, Global};
 use std::test::Fail;
@@ -191,12 +192,11 @@ fn text_of(alloc: Global, text: &Text) -> Result<Vec<u8>, AllocError> {
 }
 
 /// Opens the log in a journal.
-fn outcome_of<J: Journal>(alloc: Global, journal: &mut J) -> Outcome
-    requires { Only (J.seen journal.old) (J.may_leave journal.old) }
+fn outcome_of(alloc: Global, journal: &mut MemoryJournal) -> Outcome
+    requires { Only (image_segments journal.old.image) (IsLeftOf journal.old.image) }
 {
-    let mut counter = Counter::new();
-    match reopen(journal, alloc, &mut counter) {
-        Ok(end) => Opened(counter.count, end.whole, end.torn.len(), end.greatest),
+    match reopen(alloc, journal) {
+        Ok((count, end)) => Opened(count, end.whole, end.torn.len(), end.greatest),
         Err(
             ReopenError::Damaged(
                 Damage {
@@ -260,8 +260,8 @@ fn record_after_damage(alloc: Global) -> Result<Option<usize>, ReopenError> {
     text[20] ^= 0xff;
     journal.append(&text)?;
     journal.sync()?;
-    let mut counter = Counter::new();
-    Ok(reopen(&mut journal, alloc, &mut counter)?.follows)
+    let (_, end) = reopen(alloc, &mut journal)?;
+    Ok(end.follows)
 }
 
 #[test]

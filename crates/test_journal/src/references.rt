@@ -1,14 +1,13 @@
 //! The references of a log over the lives of a head, and logs that define a label set again.
 
 use crate::appends::{definitions_of, samples_at};
-use crate::entry_counter::{Counter, UP};
-use crate::life::{Life, Wrong, live};
+use crate::entry_counter::{UP, reopen};
+use crate::life::{Life, Wrong, live, read_head};
 use crate::plain::{Sample, body_of};
 use crate::plan::{Plan, Row};
 use rw_head::{Admission, Capacity, Limits};
 use rw_journal::{Journal, MemoryJournal};
 use rw_kept_head::{KeptHead, Oddities};
-use rw_reopen::reopen;
 use rw_wal_append::LogEnd;
 use std::alloc::{AllocError, Global};
 use std::test::Fail;
@@ -24,9 +23,8 @@ static ROWS: [Row; 3] = [
 /// Returns how many entries a log has, and its greatest reference.
 fn read_again(alloc: Global, mut journal: MemoryJournal) -> Result<(u64, u64), Wrong> {
     journal.sync()?;
-    let mut counter = Counter::new();
-    match reopen(&mut journal, alloc, &mut counter) {
-        Ok(end) => Ok((counter.count, end.greatest)),
+    match reopen(alloc, &mut journal) {
+        Ok((count, end)) => Ok((count, end.greatest)),
         Err(_) => Err(Wrong::NotOpened),
     }
 }
@@ -73,7 +71,8 @@ fn ask_for_up(
     journal.sync()?;
     let limits = Limits::standard(alloc)?;
     let body = up_at_2000(alloc)?;
-    match KeptHead::open(alloc, &limits, journal, 1) {
+    let reading = read_head(alloc, &limits, &journal)?;
+    match KeptHead::open(reading, journal, 1) {
         Ok(opened) => {
             let oddities = opened.oddities;
             let mut kept = opened.kept;

@@ -161,7 +161,7 @@ fn play(alloc: Global, seed: u64, place: &mut Place) -> Result<(), Wrong> {
         let (left, answered) = live(alloc, &plan, journal, life);
         answered?;
         journal = left;
-        let texts = texts_of(alloc, &mut journal)?;
+        let texts = texts_of(alloc, &journal)?;
         crash_each(alloc, &plan, &texts, number, &mut place.1)?;
     }
     Ok(())

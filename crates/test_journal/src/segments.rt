@@ -9,7 +9,7 @@ pub(crate) const PAGE: usize = 32 * 1024;
 /// The segments of a journal.
 pub(crate) fn texts_of(
     alloc: Global,
-    journal: &mut MemoryJournal,
+    journal: &MemoryJournal,
 ) -> Result<Vec<Vec<u8>>, JournalError> {
     let mut texts = Vec::new(alloc);
     for segment in 0..u64::MAX {

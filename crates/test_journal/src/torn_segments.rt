@@ -1,8 +1,8 @@
 //! Crashes while records are being written, each of which is opened.
 
-use crate::entry_counter::{Counter, UP};
+use crate::entry_counter::{UP, reopen};
 use rw_journal::{Journal, JournalError, MemoryJournal};
-use rw_reopen::{ReopenError, reopen};
+use rw_reopen::ReopenError;
 use std::alloc::Global;
 use std::test::Fail;
 
@@ -56,12 +56,10 @@ fn entries_after(alloc: Global, crash: &Crash) -> Result<u64, ReopenError> {
     let mut torn = UP[synced..left].to_vec(alloc)?;
     torn.extend_from_slice(crash.junk)?;
     journal.crash(&torn)?;
-    let mut counter = Counter::new();
-    reopen(&mut journal, alloc, &mut counter)?;
-    let mut again = Counter::new();
-    reopen(&mut journal, alloc, &mut again)?;
-    if again.count == counter.count {
-        Ok(counter.count.saturating_sub(2))
+    let (count, _) = reopen(alloc, &mut journal)?;
+    let (again, _) = reopen(alloc, &mut journal)?;
+    if again == count {
+        Ok(count.saturating_sub(2))
     } else {
         Ok(u64::MAX)
     }

@@ -3,7 +3,7 @@
 use rw_follow::StopSignal;
 use rw_head::{Capacity, Limits};
 use rw_kept_folder::{FolderJournal, FolderMonitor, FolderRules, OpenFolder, open_journal};
-use rw_kept_head::KeptHead;
+use rw_kept_head::{HeadReading, KeptHead};
 use rw_metrics::ReceiveCounters;
 use rw_receive::{Service, serve_until_stop};
 use rw_state_text::push_store;
@@ -29,10 +29,14 @@ const RULES: FolderRules = FolderRules {
 
 /// Opens the log in a folder, or returns `None` if it is refused.
 pub(crate) fn open_head(rt: &HostRuntime, limits: &Limits, dir: &str) -> Option<FolderHead> {
-    let Ok(journal) = open_journal(rt, dir, RULES, FolderMonitor::none()) else {
+    let Ok(mut reading) = HeadReading::new(rt.alloc(), limits) else {
         return None;
     };
-    match KeptHead::open(rt.alloc(), limits, journal, PAGES) {
+    let monitor = FolderMonitor::none();
+    let Ok(journal) = open_journal(rt, dir, RULES, monitor, &mut reading) else {
+        return None;
+    };
+    match KeptHead::open(reading, journal, PAGES) {
         Ok(opened) => Some(opened.kept),
         Err(_) => None,
     }

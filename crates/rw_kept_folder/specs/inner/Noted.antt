@@ -1,7 +1,6 @@
 -- Inner definitions beside those of Noted.antt: only invariants, private functions and
 -- proofs use them.
-use Rattle.std.specs.Prelude.{◌≡◌, ◌⊎◌, ℕ, zero, suc, List, [], ◌∷◌, length, drop, map, Vec}
-use Rattle.std.specs.declared.alloc.Global.{Global}
+use Rattle.std.specs.Prelude.{◌≡◌, ◌⊎◌, ℕ, zero, suc, List, [], ◌∷◌, length, map}
 use Rattle.std.proofs.Common.{inr, refl}
 use Rattle.std.proofs.Math.Nat.{le_refl}
 use Rattle.rw_journal.specs.Journal.{Segments}
@@ -9,14 +8,9 @@ use Rattle.rw_kept_folder.specs.declared.file_call.FileCall.{FileCall}
 use Rattle.rw_kept_folder.specs.declared.file_call.FileCall.TheVariants.{Load}
 use Rattle.rw_kept_folder.specs.Noted.{Noted, UnderWay, Nothing, Appending, Cutting, Creating, Loaded, Copied, CopySynced, Replaced, FolderState, changed_by, Leaves, LeftIn, step, after_calls, LeftFrom, no_segments, state_of, seen_of, MayLeave, LeftSinceNoted}
 
--- the bytes that were loaded and not yet returned, if there are any, are those of the segments
--- from this number on
-abbrev pub AreUnread : Noted → ℕ → List (Vec ℕ Global) → Type 0
-AreUnread noted read unread = (unread ≡ []) ⊎ (map (λ v. v.items) unread ≡ drop read (seen_of noted))
-
 -- the calls that load segments of these texts
-abbrev pub loads_of : List (Vec ℕ Global) → List FileCall
-loads_of texts = map (λ v. Load v.items) texts
+abbrev pub loads_of : Segments → List FileCall
+loads_of texts = map Load texts
 
 -- what is under way was asked by this process: no segment that was loaded is
 abbrev pub IsOwn : UnderWay → Type 0

@@ -1,9 +1,9 @@
 -- The segments of a log, read one after the other.
-use Rattle.std.proofs.Common.{◌≡◌, ℕ, ◌+◌, ◌<◌, List, [], ◌∷◌, ◌++◌, length, take, drop, get_or, Option, None, refl, sym, ap, ◌∙◌, subst, append_assoc, append-nil, add-one, arith}
+use Rattle.std.proofs.Common.{◌≡◌, ℕ, ◌+◌, ◌<◌, List, [], ◌∷◌, ◌++◌, length, drop, get_or, Option, Some, None, Result, Ok, Err, IfOk, IfErr, refl, sym, ap, ◌∙◌, subst, append_assoc, arith}
 use Rattle.std.specs.List.{AllByRecursion}
-use Rattle.std.proofs.lemmas.List.{take_all}
+use Rattle.std.proofs.lemmas.List.{get_or_append_left, length-append}
 use Rattle.std.proofs.lemmas.List.Sums.{fold-append}
-use Rattle.std.proofs.Math.Seq.{take-suc, take-length, drop-nil}
+use Rattle.std.proofs.Math.Seq.{take-length, drop-nil, get_or-append_seam}
 use Rattle.rw_types.proofs.shared.AllLemmas.{AllByRecursion-append}
 use Rattle.rw_types.specs.declared.entry.Entry.{Entry}
 use Rattle.rw_journal.specs.Journal.{Segments}
@@ -14,14 +14,15 @@ use Rattle.rw_journal.specs.TornLogs.{last_of, AllBefore}
 use Rattle.rw_journal.proofs.shared.ClosingLemmas.{front_of, nothing_read}
 use Rattle.rw_journal.proofs.shared.CutLemmas.{no_fault}
 use Rattle.rw_journal.proofs.shared.OpeningLemmas.{before_of}
-use Rattle.rw_reopen.specs.Reading.{greater, greatest_after, ended}
-use Rattle.rw_reopen.specs.inner.Reading.{IsFaultOf, ReadsSegment}
+use Rattle.rw_journal.specs.Torn.{end_of_page}
+use Rattle.rw_reopen.specs.Reading.{HasFault, greater, greatest_after, ended}
 use Rattle.rw_reopen.specs.Records.{FollowsFault}
 use Rattle.rw_reopen.proofs.RecordAtLemmas.{nothing_follows}
-use Rattle.rw_reopen.specs.Reopening.{IsSegmentCut, IsEnd}
-use Rattle.rw_reopen.specs.inner.Reopening.{IsLast}
+use Rattle.rw_reopen.specs.Reopening.{IsDamage, IsSegmentCut, IsEnd}
+use Rattle.rw_reopen.specs.inner.Reopening.{EndsLog, IsFaultAt, IsFaultBefore, IsFaultIn, IsFoundOf, IsLast, IsReadBefore, IsReadTo, IsRefusal, IsTornOf, IsWholeSoFar}
+use Rattle.rw_reopen.specs.declared.error.Damage.{Damage}
+use Rattle.rw_reopen.specs.declared.last_segment.LastSegment.{LastSegment}
 use Rattle.rw_reopen.specs.declared.opening.LogEnd.{LogEnd}
-use Rattle.rw_reopen.specs.declared.reading.SegmentRead.{SegmentRead}
 
 -- a segment that ends without a fault is whole
 pub is_whole : (text : List ℕ) → fault (ended text) ≡ None → IsWholeText page_size text
@@ -74,75 +75,106 @@ last_is [] t = refl
 last_is (d ∷ []) t = refl
 last_is (d ∷ e ∷ ds) t = last_is (e ∷ ds) t
 
-next_of : (ss : Segments) (n : ℕ) → n < length ss → take (n + 1) ss ≡ take n ss ++ get_or ss n [] ∷ []
-next_of ss n lt = ap (λ (k : ℕ). take k ss) (add-one n) ∙ take-suc ss n [] lt
+-- before the first segment
+pub nothing_before : (ss : Segments) (now : List Entry) (high : ℕ) → (ss ≡ []) × (now ≡ []) × (high ≡ 0) → IsWholeSoFar ss now high
+nothing_before ss now high none = record {
+  taken = none.1 ∙ sym (none_of ss none.0);
+  greatest = none.2 ∙ sym (ap (greatest_after 0) (none_of ss none.0));
+  whole = subst (AllByRecursion (IsWholeText page_size)) (sym none.0) tt;
+}
 
--- the segments before one were read
-pub record Going (ss : Segments) (n : ℕ) (before now : List Entry) (low high : ℕ) : Type 0 where
-  pub taken : now ≡ before ++ entries_of page_size (take n ss)
-  pub greatest : high ≡ greatest_after low (entries_of page_size (take n ss))
-  pub whole : AllByRecursion (IsWholeText page_size) (take n ss)
+-- the last one is whole, so a next one may follow
+whole_before : (ss : Segments) (now : List Entry) (high : ℕ) (l : LastSegment) → IsReadTo ss now high l → l.fault ≡ None → IsWholeSoFar ss now high
+whole_before ss now high l h sound = record {
+  taken = h.taken;
+  greatest = h.greatest;
+  whole = subst (AllByRecursion (IsWholeText page_size)) (sym h.all)
+      (AllByRecursion-append (IsWholeText page_size) h.done (h.text ∷ []) h.whole (is_whole h.text (subst (IsFaultAt h.text (length h.done)) sound h.found.fault_is), tt));
+}
 
-take_none : (ss : Segments) → take 0 ss ≡ []
-take_none [] = refl
-take_none (s ∷ ss) = refl
+-- the last one is this segment
+here : (ss done : Segments) (text : List ℕ) (n : ℕ) → ss ≡ done ++ text ∷ [] → n ≡ length done → get_or ss n [] ≡ text
+here ss done text n all is = ap (λ (s : Segments). get_or s n []) all ∙ ap (λ (k : ℕ). get_or (done ++ text ∷ []) k []) is ∙ get_or-append_seam done text [] []
 
-pub going_none : (ss : Segments) (before : List Entry) (low : ℕ) → Going ss 0 before before low low
-going_none ss before low =
-    let none : entries_of page_size (take 0 ss) ≡ [] = ap (entries_of page_size) (take_none ss) ∙ no_entries page_size in
+count_of : (ss done : Segments) (text : List ℕ) → ss ≡ done ++ text ∷ [] → length ss ≡ length done + 1
+count_of ss done text all = ap length all ∙ length-append done (text ∷ [])
+
+-- the last one is not whole
+fault_in : (ss : Segments) (now : List Entry) (high : ℕ) (l : LastSegment) (d : Damage) → IsReadTo ss now high l → l.fault ≡ Some d → IsFaultIn ss d
+fault_in ss now high l d h is =
+    let at : IsFaultAt h.text (length h.done) (Some d) = subst (IsFaultAt h.text (length h.done)) is h.found.fault_is in
     record {
-      taken = sym (ap (λ (es : List Entry). before ++ es) none ∙ append-nil before);
-      greatest = sym (ap (greatest_after low) none);
-      whole = subst (AllByRecursion (IsWholeText page_size)) (sym (take_none ss)) tt;
+      within = omega (arith, at.0, count_of ss h.done h.text h.all);
+      has = subst (λ (t : List ℕ). HasFault t d.fault d.place.offset) (sym (here ss h.done h.text d.place.segment h.all at.0)) at.1;
     }
 
--- the segment after them was read, and it adds its entries
-adds : (ss : Segments) (n : ℕ) (text : List ℕ) (before now after : List Entry) (low high higher : ℕ) → Going ss n before now low high → n < length ss → text ≡ get_or ss n []
-    → after ≡ now ++ (segment page_size text).entries → higher ≡ greatest_after high (segment page_size text).entries
-    → (after ≡ before ++ entries_of page_size (take (n + 1) ss)) × (higher ≡ greatest_after low (entries_of page_size (take (n + 1) ss)))
-adds ss n text before now after low high higher h lt is taken greatest =
-    let all : entries_of page_size (take (n + 1) ss) ≡ entries_of page_size (take n ss) ++ (segment page_size text).entries =
-    ap (entries_of page_size) (next_of ss n lt) ∙ one_more page_size (take n ss) (get_or ss n []) h.whole ∙ ap (λ (t : List ℕ). entries_of page_size (take n ss) ++ (segment page_size t).entries) (sym is) in (
-      taken ∙ ap (λ (es : List Entry). es ++ (segment page_size text).entries) h.taken ∙ append_assoc before (entries_of page_size (take n ss)) (segment page_size text).entries
-          ∙ ap (λ (es : List Entry). before ++ es) (sym all),
-      greatest ∙ ap (λ (k : ℕ). greatest_after k (segment page_size text).entries) h.greatest
-          ∙ sym (ap (greatest_after low) all ∙ fold-append greater low (entries_of page_size (take n ss)) (segment page_size text).entries),
-    )
+last_before : (ss : Segments) (now : List Entry) (high : ℕ) (l : LastSegment) (found : Option Damage) → l.fault ≡ found → IsReadTo ss now high l → IsReadBefore ss now high found
+last_before ss now high l None is h = whole_before ss now high l h is
+last_before ss now high l (Some d) is h = fault_in ss now high l d h is
 
-pub going_more : (ss : Segments) (n : ℕ) (text : List ℕ) (read : SegmentRead) (before now after : List Entry) (low high higher : ℕ) → Going ss n before now low high → n < length ss → text ≡ get_or ss n []
-    → ReadsSegment text read now after high higher → read.fault ≡ None → Going ss (n + 1) before after low higher
-going_more ss n text read before now after low high higher h lt is reads sound =
-    let both = adds ss n text before now after low high higher h lt is reads.taken reads.greatest in
-    let whole : IsWholeText page_size text = is_whole text (subst (IsFaultOf text) sound reads.is_read.fault_is) in
+-- what was found says whether a next one may follow
+pub before_next : (ss : Segments) (now : List Entry) (high : ℕ) (l : LastSegment) → IsReadTo ss now high l → IsReadBefore ss now high l.fault
+before_next ss now high l h = last_before ss now high l l.fault refl h
+
+pub broken_before : (ss : Segments) (d : Damage) → IsFaultBefore ss d → IsFaultIn ss d
+broken_before ss d h = record { within = omega (arith, h.within); has = h.has }
+
+-- a next segment comes after one that is not whole
+pub stays_broken : (ss : Segments) (text : List ℕ) (d : Damage) → IsFaultIn ss d → IsFaultBefore (ss ++ text ∷ []) d
+stays_broken ss text d h = record {
+  within = omega (arith, h.within, length-append ss (text ∷ []));
+  has = subst (λ (t : List ℕ). HasFault t d.fault d.place.offset) (sym (get_or_append_left ss (text ∷ []) [] d.place.segment h.within)) h.has;
+}
+
+-- a next segment is read after whole ones
+pub read_on : (ss : Segments) (text : List ℕ) (n : ℕ) (l : LastSegment) (now after : List Entry) (high higher : ℕ) → n ≡ length ss → IsWholeSoFar ss now high → IsLast text n l now after high higher → IsReadTo (ss ++ text ∷ []) after higher l
+read_on ss text n l now after high higher is h last =
+    let all : entries_of page_size (ss ++ text ∷ []) ≡ entries_of page_size ss ++ (segment page_size text).entries = one_more page_size ss text h.whole in
     record {
-      taken = both.0;
-      greatest = both.1;
-      whole = subst (AllByRecursion (IsWholeText page_size)) (sym (next_of ss n lt))
-          (AllByRecursion-append (IsWholeText page_size) (take n ss) (get_or ss n [] ∷ []) h.whole (subst (IsWholeText page_size) is whole, tt));
+      done = ss;
+      text = text;
+      all = refl;
+      whole = h.whole;
+      found = subst (λ (k : ℕ). IsFoundOf text k l) is last.found;
+      taken = last.taken ∙ ap (λ (es : List Entry). es ++ (segment page_size text).entries) h.taken ∙ sym all;
+      greatest = last.greatest ∙ ap (λ (k : ℕ). greatest_after k (segment page_size text).entries) h.greatest
+          ∙ sym (ap (greatest_after 0) all ∙ fold-append greater 0 (entries_of page_size ss) (segment page_size text).entries);
     }
 
--- all segments were read
-pub record AllRead (ss : Segments) (at : ℕ) (torn : List ℕ) (found : Option ℕ) (before after : List Entry) (low high : ℕ) : Type 0 where
-  pub cut : IsSegmentCut (last_of ss) at
-  pub torn_is : torn ≡ drop at (last_of ss)
-  pub follows : FollowsFault (last_of ss) found
-  pub taken : after ≡ before ++ entries_of page_size ss
-  pub greatest : high ≡ greatest_after low (entries_of page_size ss)
-  pub whole : AllBefore (IsWholeText page_size) ss
+-- the end of a log of no segments
+pub ends_empty : (ss : Segments) (now : List Entry) (high : ℕ) (end : LogEnd) → (ss ≡ []) × (now ≡ []) × (high ≡ 0) → end.whole ≡ 0 → end.torn.items ≡ [] → end.follows ≡ None → end.greatest ≡ high → EndsLog ss now end
+ends_empty ss now high end none at torn follows greatest = record {
+  taken = none.1 ∙ sym (none_of ss none.0);
+  end_is = ends_nowhere ss end none.0 at torn follows (greatest ∙ none.2);
+  whole = subst (AllBefore (IsWholeText page_size)) (sym none.0) tt;
+}
 
-pub all_read : (ss : Segments) (n at : ℕ) (torn : List ℕ) (found : Option ℕ) (before now after : List Entry) (low high higher : ℕ) → Going ss n before now low high → n + 1 ≡ length ss
-    → IsLast (get_or ss n []) at torn found now after high higher → AllRead ss at torn found before after low higher
-all_read ss n at torn found before now after low high higher h len is =
-    let lt : n < length ss = omega (arith, len) in
-    let all : ss ≡ take n ss ++ get_or ss n [] ∷ [] = sym (take_all (n + 1) ss (omega (arith, len))) ∙ next_of ss n lt in
-    let last : last_of ss ≡ get_or ss n [] = ap last_of all ∙ last_is (take n ss) (get_or ss n []) in
-    let both = adds ss n (get_or ss n []) before now after low high higher h lt refl is.taken is.greatest in
-    let full : take (n + 1) ss ≡ ss = take_all (n + 1) ss (omega (arith, len)) in
+-- the end of a log whose last segment is cut
+pub ends_cut : (ss : Segments) (now : List Entry) (high : ℕ) (l : LastSegment) (end : LogEnd) → IsReadTo ss now high l → l.cut ≡ Ok end.whole → end.torn.items ≡ l.torn.items → end.follows ≡ l.follows → end.greatest ≡ high → EndsLog ss now end
+ends_cut ss now high l end h cut torn follows greatest =
+    let last : last_of ss ≡ h.text = ap last_of h.all ∙ last_is h.done h.text in
     record {
-      cut = subst (λ (t : List ℕ). IsSegmentCut t at) (sym last) is.cut;
-      torn_is = is.torn_is ∙ ap (drop at) (sym last);
-      follows = subst (λ (t : List ℕ). FollowsFault t found) (sym last) is.follows;
-      taken = both.0 ∙ ap (λ (s : Segments). before ++ entries_of page_size s) full;
-      greatest = both.1 ∙ ap (λ (s : Segments). greatest_after low (entries_of page_size s)) full;
-      whole = subst (AllBefore (IsWholeText page_size)) (sym all) (before_of (IsWholeText page_size) (take n ss) (get_or ss n []) h.whole);
+      taken = h.taken;
+      end_is = record {
+        cut = subst (λ (t : List ℕ). IsSegmentCut t end.whole) (sym last) (subst (λ (r : Result ℕ Damage). IfOk r (IsSegmentCut h.text)) cut h.found.cut);
+        torn = torn ∙ subst (λ (r : Result ℕ Damage). IsTornOf h.text r l.torn.items) cut h.found.torn_is ∙ ap (drop end.whole) (sym last);
+        follows = subst (λ (t : List ℕ). FollowsFault t end.follows) (sym last) (subst (FollowsFault h.text) (sym follows) h.found.follows);
+        greatest = greatest ∙ h.greatest;
+      };
+      whole = subst (AllBefore (IsWholeText page_size)) (sym h.all) (before_of (IsWholeText page_size) h.done h.text h.whole);
     }
+
+-- the last segment is damaged
+pub last_damaged : (ss : Segments) (now : List Entry) (high : ℕ) (l : LastSegment) (d : Damage) → IsReadTo ss now high l → l.cut ≡ Err d → IsDamage ss d
+last_damaged ss now high l d h cut =
+    let refusal : IsRefusal h.text (length h.done) d = subst (λ (r : Result ℕ Damage). IfErr r (IsRefusal h.text (length h.done))) cut h.found.refusal in
+    let is : get_or ss d.place.segment [] ≡ h.text = here ss h.done h.text d.place.segment h.all refusal.0 in
+    record {
+      within = omega (arith, refusal.0, count_of ss h.done h.text h.all);
+      has = subst (λ (t : List ℕ). HasFault t d.fault d.place.offset) (sym is) refusal.1;
+      goes_on = λ _. subst (λ (t : List ℕ). end_of_page page_size d.place.offset < length t) (sym is) refusal.2;
+    }
+
+-- an earlier segment is damaged
+pub broken_damaged : (ss : Segments) (d : Damage) → IsFaultBefore ss d → IsDamage ss d
+broken_damaged ss d h = record { within = omega (arith, h.within); has = h.has; goes_on = λ is. absurd (omega (arith, is, h.within)) }

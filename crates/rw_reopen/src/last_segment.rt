@@ -1,0 +1,71 @@
+//! What is found of a segment that may be the last one of its log.
+
+ghost use Rattle.std.specs.Prelude.{◌≡◌, ℕ, List, length, IfOk, OnOk, ◌≤◌};
+ghost use Rattle.rw_reopen.specs.inner.Reading.{IsFaultOf};
+ghost use Rattle.rw_reopen.specs.inner.Reopening.{IsFaultAt, IsLast, IsTornOf};
+
+use crate::cutting::{damage_of, find_cut};
+use crate::entry_sink::EntrySink;
+use crate::error::Damage;
+use crate::reading::{SegmentFault, read_segment};
+use crate::records::find_after_fault;
+use std::alloc::{AllocError, Global};
+
+/// What was found of a segment. It may be the last one of its log, or another one follows: then it
+/// has to be whole.
+#[derive(Debug, Drop)]
+pub(crate) struct LastSegment {
+    /// Why no other segment may follow; `None` if it ends between two records.
+    pub(crate) fault: Option<Damage>,
+    /// Where it is cut if it is the last one, or why it is not.
+    pub(crate) cut: Result<usize, Damage>,
+    /// The bytes after that place.
+    pub(crate) torn: Vec<u8>,
+    /// Where the first whole record after its fault begins.
+    pub(crate) follows: Option<usize>,
+}
+
+/// Returns the bytes that are cut off.
+fn torn_of(alloc: Global, text: &[u8], cut: Result<usize, Damage>) -> Result<Vec<u8>, AllocError>
+    requires { IfOk cut (λ at. at ≤ length text.now) }
+    ensures { IfOk result (λ v. IsTornOf text.now cut v.items) }
+{
+    match cut {
+        Ok(at) => Ok(text[at..].to_vec(alloc)?),
+        Err(_) => Ok(Vec::new(alloc)),
+    }
+}
+
+/// Returns the damage of a segment of this number, if it has a fault.
+fn damage_in(segment: usize, fault: Option<SegmentFault>) -> Option<Damage>
+    ensures { (text : List ℕ) → IsFaultOf text fault → IsFaultAt text segment result }
+{
+    match fault {
+        Some(fault) => Some(damage_of(segment, fault)),
+        None => None,
+    }
+}
+
+/// Reads a segment to its end, and lets its entries be taken.
+pub(crate) fn read_last<S: EntrySink>(
+    alloc: Global,
+    text: &[u8],
+    sink: &mut S,
+    greatest: &mut u64,
+    segment: usize,
+) -> Result<LastSegment, AllocError>
+    ensures read { IfOk result (λ last. IsLast text.now segment last (S.taken sink.old)
+        (S.taken sink.new) greatest.old greatest.new) }
+    ensures fixed { OnOk result (S.fixed sink.new ≡ S.fixed sink.old) }
+{
+    let read = read_segment(alloc, text, sink, greatest)?;
+    let cut = find_cut(text, &read, segment);
+    let follows = find_after_fault(text, &read);
+    let torn = torn_of(alloc, text, cut)?;
+    Ok(LastSegment {
+        fault: damage_in(segment, read.fault),
+        cut,
+        torn,
+        follows,
+    })
+}
