@@ -51,8 +51,8 @@ fn fail(noted: &mut Record, fault: FolderFault) -> JournalError
 }
 
 impl<R: Files + Clock + AllocGlobal + Copy> OpenFolder<R> {
-    /// Returns the files of a folder that has so many segments by the record, by which they are also
-    /// on the disk, and whose first segment has this number.
+    /// Returns the files of a folder that has so many segments by the record, by which they are
+    /// also on the disk, and whose first segment has this number.
     pub(crate) fn new(
         handle: FolderHandle<R>,
         first: u64,

@@ -1,12 +1,12 @@
 //! A head, opened from the log in a journal.
 
-ghost use Rattle.std.specs.Prelude.{◌≡◌, ◌<◌, ◌≤◌, ◌^◌, ◌++◌, [], ◌∷◌, length, take, None, IfOk, OnOk, IfErr, IsErrOf};
+ghost use Rattle.std.specs.Prelude.{◌≡◌, ◌<◌, ◌≤◌, ◌^◌, ◌++◌, [], ◌∷◌, length, take, None, IfOk, OnOk, IfErr, IsErrOf, IfSome};
 ghost use Rattle.rw_journal.specs.Journal.{on_last, Only, LeavesOnly};
 ghost use Rattle.rw_journal.specs.Logs.{entries_of};
 ghost use Rattle.rw_wal_append.specs.Ends.{EndsAt};
 ghost use Rattle.rw_wal_append.specs.References.{IsNoted};
 ghost use Rattle.rw_wal_format.specs.Pieces.{page_size};
-ghost use Rattle.rw_reopen.specs.Reopening.{IsEnd};
+ghost use Rattle.rw_reopen.specs.Reopening.{HasRecordAfter, IsEnd};
 ghost use Rattle.rw_reopen.specs.declared.error.ReopenError.TheVariants.{Failed};
 ghost use Rattle.rw_kept_head.specs.Kept.{SaysWhat, KeepsStore, StaysDefinedOnce};
 ghost use Rattle.rw_head.specs.Store.{list_of};
@@ -22,7 +22,7 @@ use crate::open_error::OpenError;
 use crate::restoring::{RestoredParts, Restoring};
 use rw_head::{Head, Limits};
 use rw_journal::{Journal, SegmentTaker, close_torn};
-use rw_reopen::{LogEnd as ReadEnd, LogReading, ReopenError};
+use rw_reopen::{Damage, LogEnd as ReadEnd, LogReading, ReopenError};
 use rw_types::RequestPath;
 use rw_wal_append::laws::an_empty_segment_ends_at_0;
 use rw_wal_append::{LogEnd, References};
@@ -167,6 +167,15 @@ impl HeadReading {
             limits: own,
             log: LogReading::new(alloc, restoring),
         })
+    }
+
+    /// Returns the fault at which reading stops in the last segment, and where a whole record
+    /// begins after it, if there are both. The fault may then be damage, and what follows it may
+    /// have been acknowledged: `KeptHead::open` cuts it off as the end of a torn write.
+    pub fn record_after_fault(&self) -> Option<(Damage, usize)>
+        ensures { IfSome result (λ r. HasRecordAfter self.now.segments r.0 r.1) }
+    {
+        self.log.record_after_fault()
     }
 }
 

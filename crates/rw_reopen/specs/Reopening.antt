@@ -7,7 +7,7 @@ use Rattle.rw_wal_tail.specs.Places.{stop_offset}
 use Rattle.rw_journal.specs.Logs.{entries_of, IsCleanCut}
 use Rattle.rw_journal.specs.TornLogs.{last_of}
 use Rattle.rw_reopen.specs.Reading.{HasFault, greatest_after}
-use Rattle.rw_reopen.specs.Records.{FollowsFault}
+use Rattle.rw_reopen.specs.Records.{IsRecordAt, FollowsFault}
 use Rattle.rw_reopen.specs.declared.error.Damage.{Damage}
 use Rattle.rw_reopen.specs.declared.error.ReopenError.{ReopenError}
 use Rattle.rw_reopen.specs.declared.error.ReopenError.TheVariants.{OutOfMemory, Failed, Damaged}
@@ -31,6 +31,13 @@ abbrev pub HasDamage : Segments → ReopenError → Type 0
 HasDamage segments OutOfMemory = Unit {0}
 HasDamage segments Failed = Unit {0}
 HasDamage segments (Damaged d) = IsDamage segments d
+
+-- The last segment has this fault, there, and a whole record begins after it.
+pub record HasRecordAfter (segments : Segments) (d : Damage) (at : ℕ) : Type 0 where
+  pub last : d.place.segment + 1 ≡ length segments
+  pub has : HasFault (last_of segments) d.fault d.place.offset
+  pub after : d.place.offset < at
+  pub record_at : IsRecordAt (last_of segments) at
 
 -- how a log ends: where its last segment is cut, what is cut off, whether a whole record follows
 -- the fault at which reading stops, and its greatest reference

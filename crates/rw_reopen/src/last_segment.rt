@@ -1,6 +1,6 @@
 //! What is found of a segment that may be the last one of its log.
 
-ghost use Rattle.std.specs.Prelude.{◌≡◌, ℕ, List, length, IfOk, OnOk, ◌≤◌};
+ghost use Rattle.std.specs.Prelude.{◌≡◌, ℕ, List, length, IfOk, OnOk, IfSome, Some, ◌≤◌};
 ghost use Rattle.rw_reopen.specs.inner.Reading.{IsFaultOf};
 ghost use Rattle.rw_reopen.specs.inner.Reopening.{IsFaultAt, IsLast, IsTornOf};
 
@@ -23,6 +23,23 @@ pub(crate) struct LastSegment {
     pub(crate) torn: Vec<u8>,
     /// Where the first whole record after its fault begins.
     pub(crate) follows: Option<usize>,
+}
+
+impl LastSegment {
+    /// Returns its fault, and where a whole record begins after it, if there are both and the
+    /// segment can be cut.
+    pub(crate) fn record_after_fault(&self) -> Option<(Damage, usize)>
+        ensures { IfSome result
+            (λ r. (self.now.fault ≡ Some r.0) × (self.now.follows ≡ Some r.1)) }
+    {
+        if self.cut.is_err() {
+            return None;
+        }
+        match (self.fault, self.follows) {
+            (Some(damage), Some(at)) => Some((damage, at)),
+            _ => None,
+        }
+    }
 }
 
 /// Returns the bytes that are cut off.

@@ -1,12 +1,12 @@
 //! Opens a log after a crash.
 
-ghost use Rattle.std.specs.Prelude.{◌≡◌, ◌++◌, [], ◌∷◌, ℕ, List, length, true, false, IfOk, OnOk, OnErr, IfErr, IsErrOf};
+ghost use Rattle.std.specs.Prelude.{◌≡◌, ◌++◌, [], ◌∷◌, ℕ, List, length, true, false, IfOk, OnOk, OnErr, IfErr, IfSome, IsErrOf};
 ghost use Rattle.rw_types.specs.declared.entry.Entry.{Entry};
 ghost use Rattle.rw_journal.specs.Journal.{Segments};
 ghost use Rattle.rw_wal_format.specs.Pieces.{page_size};
 ghost use Rattle.rw_journal.specs.Logs.{entries_of, IsWholeText};
 ghost use Rattle.rw_journal.specs.TornLogs.{AllBefore};
-ghost use Rattle.rw_reopen.specs.Reopening.{HasDamage, IsEnd};
+ghost use Rattle.rw_reopen.specs.Reopening.{HasDamage, HasRecordAfter, IsEnd};
 ghost use Rattle.rw_reopen.specs.inner.Reopening.{EndsLog, IsFound, IsReadBefore};
 
 use crate::entry_sink::EntrySink;
@@ -71,6 +71,18 @@ fn read_next<S: EntrySink>(
     match damage_before(found) {
         Some(damage) => Ok(Found::Broken(damage)),
         None => Ok(Found::Last(read_last(alloc, text, sink, greatest, segment)?)),
+    }
+}
+
+/// Returns the fault of the last segment, and where a whole record begins after it, if there are
+/// both.
+fn record_after(found: &Found) -> Option<(Damage, usize)>
+    ensures { IfSome result (λ r. (ss : Segments) (taken : List Entry) (greatest : ℕ)
+        → IsFound ss taken greatest found.now → HasRecordAfter ss r.0 r.1) }
+{
+    match found {
+        Found::Last(last) => last.record_after_fault(),
+        _ => None,
     }
 }
 
@@ -162,6 +174,18 @@ impl<S: EntrySink + Drop> LogReading<S> {
             found: Found::Nothing,
             failed: false,
         }
+    }
+
+    /// Returns the fault of the last segment, and where a whole record begins after it, if there
+    /// are both. The fault may then be damage, and what follows it may have been acknowledged;
+    /// `finish` takes it for the end of a torn write.
+    pub fn record_after_fault(&self) -> Option<(Damage, usize)>
+        ensures { IfSome result (λ r. HasRecordAfter self.now.segments r.0 r.1) }
+    {
+        if self.failed {
+            return None;
+        }
+        record_after(&self.found)
     }
 
     /// Returns the sink, which has taken the entries of the log, and how the log ends.

@@ -127,11 +127,12 @@ With --dir each request is written to the log in DIR and synced before it is
 acknowledged, and at its start the receiver holds what DIR has. DIR must exist,
 and may be empty. The receiver marks it by a file 'rwship-receive'; a folder
 that has segments and not this file, or that is in the folder of a Prometheus,
-is refused without --adopt, and one whose first segments are missing without
---allow-missing-start. Without --dir what it holds is in memory only. After a write
-to DIR that failed each request is answered with 503 until the receiver is
-stopped; with --end-on-write-error it stops at once. docs/OPERATING.md explains
-more, and docs/SETTINGS.md the settings.
+is refused without --adopt, one whose first segments are missing without
+--allow-missing-start, and one whose last segment has a whole record after a
+fault without --cut-at-fault. Without --dir what it holds is in memory only.
+After a write to DIR that failed each request is answered with 503 until the
+receiver is stopped; with --end-on-write-error it stops at once.
+docs/OPERATING.md explains more, and docs/SETTINGS.md the settings.
 
 Exit status: 0; 1 if the log in DIR has a fault; 2 for bad options or settings;
 3 out of memory; 4 if a file, the folder DIR, the network or standard output

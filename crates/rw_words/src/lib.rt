@@ -117,6 +117,8 @@ pub struct Receiving<'a> {
     pub adopts: bool,
     /// Whether it goes on in a folder whose first segments are missing.
     pub allows_missing_start: bool,
+    /// Whether it cuts the last segment of a folder at a fault that a whole record follows.
+    pub cuts_at_fault: bool,
     pub reporting: Reporting<'a>,
 }
 

@@ -43,6 +43,7 @@ pub(crate) fn receive_task<'a>(
             ends_on_write_error: options.get_flag("end-on-write-error"),
             adopts: options.get_flag("adopt"),
             allows_missing_start: options.get_flag("allow-missing-start"),
+            cuts_at_fault: options.get_flag("cut-at-fault"),
             reporting,
         },
     })

@@ -397,6 +397,12 @@ static RECEIVE: Words = Words {
             bonds: &[Bond::Needs("dir")],
             help: "With --dir: go on in DIR though its first segments\nare missing",
         },
+        Opt {
+            name: "cut-at-fault",
+            takes: Takes::Nothing,
+            bonds: &[Bond::Needs("dir")],
+            help: "With --dir: cut the last segment at its fault though\na whole record follows",
+        },
         PROGRESS,
         METRICS,
     ],

@@ -45,7 +45,17 @@ pub enum KeepError {
     Folder(FolderError),
     /// The log is damaged, in the segment of this number.
     Damaged(Damage, u64),
+    /// The last segment, of this number, has a fault, and a whole record after it begins at this
+    /// byte.
+    RecordFollows(Damage, u64, usize),
     Log(OpenError, Option<FolderFault>),
+}
+
+/// Returns why the last segment is not cut at its fault, if a whole record follows that.
+fn doubt_of(reading: &HeadReading, journal: &Log) -> Option<KeepError> {
+    let (damage, at) = reading.record_after_fault()?;
+    let number = journal.files().number_of(damage.place.segment);
+    Some(KeepError::RecordFollows(damage, number, at))
 }
 
 /// Locks a folder until the file is dropped, so that no second receiver writes there.
@@ -72,7 +82,7 @@ fn open_error(error: OpenError, files: &OpenFolder<HostRuntime>) -> KeepError {
 }
 
 /// Returns which folders the arguments let a receiver go on in.
-pub fn rules_of(receiving: &Receiving<'_>) -> FolderRules {
+fn rules_of(receiving: &Receiving<'_>) -> FolderRules {
     FolderRules {
         adopts: receiving.adopts,
         allows_missing_start: receiving.allows_missing_start,
@@ -84,7 +94,7 @@ pub fn open_head(
     rt: &HostRuntime,
     limits: &Limits,
     dir: &str,
-    rules: FolderRules,
+    receiving: &Receiving<'_>,
     counters: &Arc<ReceiveCounters, Global>,
 ) -> Result<Opened<Log>, KeepError> {
     let Ok(counters) = Arc::try_clone(counters) else {
@@ -97,10 +107,15 @@ pub fn open_head(
         return Err(KeepError::Folder(FolderError::OutOfMemory));
     };
     let monitor = FolderMonitor::new(counters);
-    let journal = match open_journal(rt, dir, rules, monitor, &mut reading) {
+    let journal = match open_journal(rt, dir, rules_of(receiving), monitor, &mut reading) {
         Ok(journal) => journal,
         Err(error) => return Err(KeepError::Folder(error)),
     };
+    if !receiving.cuts_at_fault {
+        if let Some(error) = doubt_of(&reading, &journal) {
+            return Err(error);
+        }
+    }
     match KeptHead::open(reading, journal, PAGES) {
         Ok(opened) => Ok(opened),
         Err((error, journal)) => Err(open_error(error, journal.files())),
@@ -112,7 +127,9 @@ fn fault_of(error: &KeepError) -> ToolFault {
     match error {
         KeepError::Folder(FolderError::OutOfMemory)
         | KeepError::Log(OpenError::Log(ReopenError::OutOfMemory), _) => ToolFault::OutOfMemory,
-        KeepError::Damaged(damage, _) => ToolFault::from(damage.fault),
+        KeepError::Damaged(damage, _) | KeepError::RecordFollows(damage, ..) => {
+            ToolFault::from(damage.fault)
+        }
         _ => ToolFault::Device,
     }
 }
@@ -199,6 +216,9 @@ fn next_step(error: &KeepError) -> Option<&'static str> {
         }
         KeepError::Log(OpenError::NoReferenceLeft, None) => Some("choose another folder"),
         KeepError::Log(_, Some(fault)) => Some(step_after_cause(fault.cause, SEE_THE_DISK)),
+        KeepError::RecordFollows(..) => Some(
+            "after a power failure this may be the end of a write, and otherwise it is damage, which acknowledged samples follow: copy that segment, then give --cut-at-fault to cut it there, and start the sender again at once, so that it ships once more what its log still has",
+        ),
         KeepError::Damaged(..) | KeepError::Log(..) => None,
     }
 }
@@ -219,6 +239,10 @@ pub fn report_keep_error(rt: &HostRuntime, dir: &str, error: KeepError) -> ExitC
             print_damage(rt, dir, &damage, number);
             Ok(())
         }
+        KeepError::RecordFollows(damage, number, at) => eprintln!(rt;
+            "  cannot keep samples in {dir}: {} in segment {number} at byte {}, and a whole record follows at byte {at}",
+            damage.fault, damage.place.offset
+        ),
         KeepError::Log(error, None) => eprintln!(rt; "  cannot keep samples in {dir}: {error}"),
     };
     if let Some(next) = next {
@@ -248,7 +272,7 @@ fn report_cut(rt: &HostRuntime, dir: &str, opened: &Opened<Log>) {
     );
     if let Some(at) = opened.end.follows {
         let _ = eprintln!(rt;
-            "  a whole record follows the fault, at byte {at} of segment {number}: unless the machine lost its power, this is damage"
+            "  a whole record follows the fault, at byte {at} of segment {number}"
         );
     }
     let _ = eprintln!(rt;

@@ -6,7 +6,7 @@ use crate::ending::{
 };
 use crate::inspecting::has_output_failed;
 use crate::keeping::{
-    lock_folder, open_head, report_keep_error, report_kept, report_opened, rules_of, serve_kept,
+    lock_folder, open_head, report_keep_error, report_kept, report_opened, serve_kept,
 };
 use crate::reporting::{begin_reporting, end_reporting, print_listen_error};
 use crate::settings::settings_in;
@@ -164,7 +164,7 @@ fn receive_into<R: Threads + Wait + Clock + Sync>(
         Ok(begun) => begun,
         Err(fault) => return report_result(rt, Err(fault)),
     };
-    let status = match open_head(rt, &settings.limits, dir, rules_of(receiving), &counters) {
+    let status = match open_head(rt, &settings.limits, dir, receiving, &counters) {
         Ok(opened) => {
             report_opened(rt, dir, &opened, receiving);
             let head = opened.kept;

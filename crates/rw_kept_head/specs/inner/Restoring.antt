@@ -65,8 +65,8 @@ AddsOne limits old new m false =
     (l : Labels) (w : ℕ) (t : ℤ) → m ≡ record { labels = l; samples = (w, t) ∷ [] } ∷ []
     → CannotFollow limits old l (t, w)
 
--- A sample of what is noted of a reference was appended, or the head cannot hold it. The series that
--- is noted then has that sample.
+-- A sample of what is noted of a reference was appended, or the head cannot hold it. The series
+-- that is noted then has that sample.
 abbrev pub AddsTo : LabelLimits → Store → Store → Option TimeSeries → Option TimeSeries → ℤ × ℕ → Bool → Type 0
 AddsTo limits old new None later sample done = (later ≡ None) × (done ≡ false)
 AddsTo limits old new (Some s) later sample done =

@@ -16,9 +16,9 @@ use Rattle.rw_journal.proofs.shared.CutLemmas.{no_fault}
 use Rattle.rw_journal.proofs.shared.OpeningLemmas.{before_of}
 use Rattle.rw_journal.specs.Torn.{end_of_page}
 use Rattle.rw_reopen.specs.Reading.{HasFault, greater, greatest_after, ended}
-use Rattle.rw_reopen.specs.Records.{FollowsFault}
+use Rattle.rw_reopen.specs.Records.{IsRecordAt, IsRecordAfter, FollowsFault}
 use Rattle.rw_reopen.proofs.RecordAtLemmas.{nothing_follows}
-use Rattle.rw_reopen.specs.Reopening.{IsDamage, IsSegmentCut, IsEnd}
+use Rattle.rw_reopen.specs.Reopening.{HasRecordAfter, IsDamage, IsSegmentCut, IsEnd}
 use Rattle.rw_reopen.specs.inner.Reopening.{EndsLog, IsFaultAt, IsFaultBefore, IsFaultIn, IsFoundOf, IsLast, IsReadBefore, IsReadTo, IsRefusal, IsTornOf, IsWholeSoFar}
 use Rattle.rw_reopen.specs.declared.error.Damage.{Damage}
 use Rattle.rw_reopen.specs.declared.last_segment.LastSegment.{LastSegment}
@@ -178,3 +178,16 @@ last_damaged ss now high l d h cut =
 -- an earlier segment is damaged
 pub broken_damaged : (ss : Segments) (d : Damage) → IsFaultBefore ss d → IsDamage ss d
 broken_damaged ss d h = record { within = omega (arith, h.within); has = h.has; goes_on = λ is. absurd (omega (arith, is, h.within)) }
+
+-- a whole record follows the fault of the last segment
+pub record_follows : (ss : Segments) (now : List Entry) (high : ℕ) (l : LastSegment) (d : Damage) (at : ℕ) → IsReadTo ss now high l → l.fault ≡ Some d → l.follows ≡ Some at → HasRecordAfter ss d at
+record_follows ss now high l d at h is follows =
+    let fault_is : IsFaultAt h.text (length h.done) (Some d) = subst (IsFaultAt h.text (length h.done)) is h.found.fault_is in
+    let found : IsRecordAfter h.text d.place.offset (Some at) = subst (IsRecordAfter h.text d.place.offset) follows (h.found.follows d.fault d.place.offset fault_is.1) in
+    let last : last_of ss ≡ h.text = ap last_of h.all ∙ last_is h.done h.text in
+    record {
+      last = omega (arith, fault_is.0, count_of ss h.done h.text h.all);
+      has = subst (λ (t : List ℕ). HasFault t d.fault d.place.offset) (sym last) fault_is.1;
+      after = found.0;
+      record_at = subst (λ (t : List ℕ). IsRecordAt t at) (sym last) found.1;
+    }
