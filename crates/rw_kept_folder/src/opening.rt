@@ -95,6 +95,7 @@ fn load_all<R: Files + AllocGlobal + Copy, T: SegmentTaker>(
     rt: &R,
     dir: &str,
     names: &[SegmentName],
+    monitor: &FolderMonitor,
     taker: &mut T,
     last: &mut Option<Vec<u8>>,
     noted: &mut Record,
@@ -105,12 +106,14 @@ fn load_all<R: Files + AllocGlobal + Copy, T: SegmentTaker>(
         noted.new.calls last.new (length names.now)) }
     ensures fixed { OnOk result (T.fixed taker.new ≡ T.fixed taker.old) }
 {
+    monitor.count_found(names.len());
     for name in names {
         *last = None;
         match read_file(rt, dir, name.name.as_str()) {
             Ok(text) => {
                 noted.note(&FileCall::Load(History::of(&text)));
                 taker.take(&text)?;
+                monitor.count_read();
                 *last = Some(text);
             }
             Err(error) => return Err(error_of(FolderCall::Read, name.number, &error)),
@@ -167,8 +170,9 @@ fn last_name(names: &[SegmentName]) -> Option<(u64, &str)> {
 ///
 /// A folder in which a number is missing or is there twice, or which has a checkpoint, is refused,
 /// and so is one that the rules do not let a receiver have. A folder that is taken gets a mark, the
-/// file `rwship-receive`, which is synced before a segment is begun. The monitor counts the syncs
-/// that are made here, and the calls that the journal makes from then on.
+/// file `rwship-receive`, which is synced before a segment is begun. The monitor counts the
+/// segments that are read, the syncs that are made here, and the calls that the journal makes from
+/// then on.
 pub fn open_journal<R: Files + Clock + AllocGlobal + Copy, T: SegmentTaker>(
     rt: &R,
     dir: &str,
@@ -187,7 +191,7 @@ pub fn open_journal<R: Files + Clock + AllocGlobal + Copy, T: SegmentTaker>(
     claim_folder(rt, dir, &names, rules)?;
     let mut last = None;
     let mut noted = Record::new();
-    load_all(rt, dir, &names, taker, &mut last, &mut noted)?;
+    load_all(rt, dir, &names, &monitor, taker, &mut last, &mut noted)?;
     let first = first_number(&names);
     let dir = String::from_str(alloc, dir)?;
     let mut handle = FolderHandle::new(*rt, dir, last_name(&names), monitor)?;
