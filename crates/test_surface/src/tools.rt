@@ -66,6 +66,8 @@ pub fn of_receive_counters() {
     let _ = (
         ReceiveCounters::begin_log_segment,
         ReceiveCounters::fail_log,
+        ReceiveCounters::find_log_segments,
+        ReceiveCounters::read_log_segment,
     );
 }
 
