@@ -2,10 +2,12 @@ mod AdditionLemmas
 mod AnswerLemmas
 mod BatchLemmas
 mod ExampleLemmas
+mod KeptExampleLemmas
 mod KeptReceiverLemmas
 mod KeptWireLemmas
 mod ListedLemmas
 mod LogLemmas
+mod OpenExampleLemmas
 mod PartLemmas
 mod PlaceLemmas
 mod ReceivedLemmas

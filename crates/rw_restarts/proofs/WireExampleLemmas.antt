@@ -32,7 +32,7 @@ use Rattle.rw_worker.specs.Steps.{Working, Takes, Freezes, AreSteps, after, exch
 use Rattle.rw_worker.specs.Transcript.{Exchange, batch_request, reply_of_status}
 use Rattle.rw_fleet.specs.ShardHistories.{ShardHistory}
 use Rattle.rw_head.specs.Head.{answer_to, answered}
-use Rattle.rw_head.specs.Order.{holds}
+use Rattle.rw_head.specs.Order.{Point, holds}
 use Rattle.rw_head.specs.Store.{list_of}
 use Rattle.rw_head.specs.Verdicts.{judged}
 use Rattle.rw_head.proofs.shared.StoreLemmas.{list_of-empty}
@@ -41,7 +41,7 @@ use Rattle.rw_simulation.specs.Arrivals.{Receives}
 use Rattle.rw_restarts.specs.Runs.{SentMessage, SenderRun, IsSentBy}
 use Rattle.rw_restarts.specs.Parts.{AreWithinLimits}
 use Rattle.rw_restarts.specs.Workers.{AreMessagesOfWorker, IsSettledSample}
-use Rattle.rw_restarts.specs.WireReceivers.{RunOfWorkers, run_of, IsRunOfWorkers, ExchangePlace, IsExchangeAt, IsEarlierExchange, WireEvent, Comes, Reopens, HasShortBody, HappensOnWire, BringsExchange, IsAnsweredOnWire, IsWireReceiver}
+use Rattle.rw_restarts.specs.WireReceivers.{RunOfWorkers, run_of, IsRunOfWorkers, ExchangePlace, IsExchangeAt, IsEarlierExchange, WireEvent, Comes, Reopens, HasShortBody, HappensOnWire, BringsExchange, IsAnsweredOnWire, AreRunsTo, IsWireReceiver}
 use Rattle.rw_restarts.specs.Examples.{example_series, first, message_of, sent_with, limits, with_first}
 use Rattle.rw_restarts.specs.WireExamples as wire
 use Rattle.rw_restarts.proofs.ExampleLemmas.{itself, taken_series, takes, points-of-first}
@@ -84,41 +84,51 @@ digits-of : (n : ℕ) → n < 2 ^ 64 → AreDigits (decimal n)
 digits-of n lt = (decimal_is_IsNumeral n lt).0.1
 
 -- ---- the message
-short_message : length (canon (message_of first)) ≡ 15
+pub short_message : length (canon (message_of first)) ≡ 15
 unfolding series_field series sample_field sample fixed64_field int64_field groups
 short_message = refl
 
 front_length : length front ≡ 190
 front_length = refl
 
-is_message : IsMessage (message_of first)
+pub is_message : IsMessage (message_of first)
 is_message = record {
   series = (record { labels = tt; samples = ((omega arith, record { sfits = let small : 10 < 2 ^ 63 = omega arith in small }), tt) }, tt);
   short = let few = short_message in omega (arith, few);
 }
 
-only-one : {X : Type 0} (y x : X) (n : ℕ) → slice_get (y ∷ []) n ≡ Some x → (n ≡ 0) × (y ≡ x)
+pub only-one : {X : Type 0} (y x : X) (n : ℕ) → slice_get (y ∷ []) n ≡ Some x → (n ≡ 0) × (y ≡ x)
 only-one y x zero e = (refl, same_Some y x e)
 only-one y x (suc n) e = absurd (none-some x e)
 
-same_reply : (a b : Reply) → (let no : Result Reply Lost = Ok a in no ≡ Ok b) → a ≡ b
+pub same_reply : (a b : Reply) → (let no : Result Reply Lost = Ok a in no ≡ Ok b) → a ≡ b
 same_reply a b e = cc e
 
 same_message : (a b : WriteRequest) → (let no : Result WriteRequest WireFault = Ok a in no ≡ Ok b) → a ≡ b
 same_message a b e = cc e
 
+-- no exchange was over before the only one began
+pub none-earlier : (p q : ExchangePlace) → wire.the_place ≡ q → IsEarlierExchange p q → ⊥
+none-earlier p q is earlier =
+    let epoch : 0 ≡ q.epoch = ap (λ (v : ExchangePlace). v.epoch) is in
+    let number : 0 ≡ q.number = ap (λ (v : ExchangePlace). v.number) is in
+    elim earlier.1 [
+      | inl less ↦ omega (arith, epoch, less)
+      | inr later ↦ (let less = later.2 in omega (arith, number, less))
+    ]
+
 module _ (reads : (m : WriteRequest) → IsMessage m → read (canon m) ≡ Ok m) (worker : WorkerSetup) (shared : Arc Labels Global) where
-  abbrev batch : List Placed
+  abbrev pub batch : List Placed
   batch = wire.sample worker shared ∷ []
 
-  abbrev runs : List RunOfWorkers
+  abbrev pub runs : List RunOfWorkers
   runs = wire.run worker shared ∷ []
 
   message_is : message (map labelled batch) ≡ message_of first
   unfolding message distinct samples_of
   message_is = ap (λ b. record { labels = example_series; samples = map (λ (x : LabelledSample). x.sample) (cond b (labelled (wire.sample worker shared) ∷ []) []) } ∷ []) itself
 
-  body_is : body_of batch ≡ canon (message_of first)
+  pub body_is : body_of batch ≡ canon (message_of first)
   unfolding body_of
   body_is = ap canon message_is
 
@@ -196,14 +206,14 @@ module _ (reads : (m : WriteRequest) → IsMessage m → read (canon m) ≡ Ok m
   place_is p x one = let run = sym one.run in let epoch = sym one.epoch in let shard = sym one.shard in let number = sym one.number in
       λ i. record { run = run i; epoch = epoch i; shard = shard i; number = number i }
 
-  here : IsExchangeAt runs wire.the_place (wire.run worker shared) (wire.exchange worker shared)
+  pub here : IsExchangeAt runs wire.the_place (wire.run worker shared) (wire.exchange worker shared)
   here = record { exists = refl; shards = wire.shard worker shared ∷ []; shard = wire.shard worker shared; epoch = refl; at = refl; is = refl }
 
   -- ---- the receiver
-  taken : answer_to (wire.states 0).head (Ok (message_of first)) ≡ record { status = 204; head = (wire.states 1).head }
+  pub taken : answer_to (wire.states 0).head (Ok (message_of first)) ≡ record { status = 204; head = (wire.states 1).head }
   taken = ap (λ r. answered (wire.states 0).head (judged empty r)) (takes first empty [] (first ∷ []) (list_of-empty example_series) refl)
 
-  received : Receives wire.receiver Plain (wire.exchange worker shared).request (wire.states 0).head 204 (wire.states 1).head
+  pub received : Receives wire.receiver Plain (wire.exchange worker shared).request (wire.states 0).head 204 (wire.states 1).head
   received other again same =
       let few : length (body_of other) ≡ 15 = ap length (same_body other same) ∙ short_message in
       let own : message (map labelled other) ≡ message_of first = same_message (message (map labelled other)) (message_of first) (sym again ∙ ap read (same_body other same) ∙ reads (message_of first) is_message) in
@@ -220,21 +230,16 @@ module _ (reads : (m : WriteRequest) → IsMessage m → read (canon m) ≡ Ok m
   happens (suc (suc n)) event e = absurd (none-some event e)
 
   -- ---- the network
-  first_comes : (p : ExchangePlace) (w : RunOfWorkers) (x : Exchange) (r : Reply) → IsExchangeAt runs p w x → x.answer ≡ Ok r → IsAnsweredOnWire wire.events 2 p r.status
-  first_comes p w x r is answer =
+  -- if a request comes among the first n events, the status that was read is given there
+  pub comes-among : (events : List WireEvent) (n at : ℕ) → at < n → slice_get events at ≡ Some (Comes wire.the_place Plain 204)
+      → (p : ExchangePlace) (w : RunOfWorkers) (x : Exchange) (r : Reply) → IsExchangeAt runs p w x → x.answer ≡ Ok r → IsAnsweredOnWire events n p r.status
+  comes-among events n at early is-at p w x r is answer =
       let one = the_one p w x is in
       let status : 204 ≡ r.status = ap (λ (y : Reply). y.status) (same_reply (record { status = 204 }) r (ap (λ (y : Exchange). y.answer) one.exchange ∙ answer)) in
-      record { at = 0; early = omega arith; how = Plain; is = ap (λ (q : ExchangePlace). Some (Comes q Plain 204)) (place_is p x one) ∙ ap (λ (s : ℕ). Some (Comes p Plain s)) status }
+      record { at = at; early = early; how = Plain; is = is-at ∙ ap (λ (q : ExchangePlace). Some (Comes q Plain 204)) (place_is p x one) ∙ ap (λ (s : ℕ). Some (Comes p Plain s)) status }
 
   none_before : (at : ℕ) (event : WireEvent) (p q : ExchangePlace) → slice_get wire.events at ≡ Some event → BringsExchange event q → IsEarlierExchange p q → ⊥
-  none_before zero event p q e b earlier =
-      let is : wire.the_place ≡ q = subst (λ (v : WireEvent). BringsExchange v q) (sym (same_Some (Comes wire.the_place Plain 204) event e)) b in
-      let epoch : 0 ≡ q.epoch = ap (λ (v : ExchangePlace). v.epoch) is in
-      let number : 0 ≡ q.number = ap (λ (v : ExchangePlace). v.number) is in
-      elim earlier.1 [
-        | inl less ↦ omega (arith, epoch, less)
-        | inr later ↦ (let less = later.2 in omega (arith, number, less))
-      ]
+  none_before zero event p q e b earlier = none-earlier p q (subst (λ (v : WireEvent). BringsExchange v q) (sym (same_Some (Comes wire.the_place Plain 204) event e)) b) earlier
   none_before (suc zero) event p q e b earlier = subst (λ (v : WireEvent). BringsExchange v q) (sym (same_Some Reopens event e)) b
   none_before (suc (suc n)) event p q e b earlier = absurd (none-some event e)
 
@@ -248,19 +253,26 @@ module _ (reads : (m : WriteRequest) → IsMessage m → read (canon m) ≡ Ok m
   limits-stay zero = refl
   limits-stay (suc n) = refl
 
+  pub runs-are : AreRunsTo wire.receiver runs
+  runs-are = record {
+    workers = λ i w at. subst (IsRunOfWorkers wire.target) (only-one (wire.run worker shared) w i at).1 of_run;
+    within = within;
+    short = λ p w x is. subst (λ (y : Exchange). HasShortBody wire.receiver y.request) (the_one p w x is).exchange short;
+  }
+
+  -- the log of the run has nothing before its first entry
+  pub nothing-before : (p : ExchangePlace) (w : RunOfWorkers) (l : Labels) (ys : List Point) → slice_get runs p.run ≡ Some w → Begins (w.run.earlier l) ys
+  nothing-before p w l ys exists = subst (λ (v : RunOfWorkers). Begins (v.run.earlier l) ys) (only-one (wire.run worker shared) w p.run exists).1 (ys, refl)
+
   pub wire-receiver-is : IsWireReceiver wire.receiver runs wire.events wire.states
   wire-receiver-is = record {
-    runs_are = record {
-      workers = λ i w at. subst (IsRunOfWorkers wire.target) (only-one (wire.run worker shared) w i at).1 of_run;
-      within = within;
-      short = λ p w x is. subst (λ (y : Exchange). HasShortBody wire.receiver y.request) (the_one p w x is).exchange short;
-    };
+    runs_are = runs-are;
     begins = λ l. (list_of-empty l, list_of-empty l);
     limits = λ at le. limits-stay at;
     happens = happens;
     answers = record {
-      all = first_comes;
+      all = comes-among wire.events 2 0 (omega arith) refl;
       later = λ at event p q w x r e b earlier is answer. absurd (none_before at event p q e b earlier);
     };
-    covered = λ at event p w l e b exists. subst (λ (v : RunOfWorkers). Begins (v.run.earlier l) (list_of (wire.states at).acknowledged l)) (only-one (wire.run worker shared) w p.run exists).1 (list_of (wire.states at).acknowledged l, refl);
+    covered = λ at event p w l e b exists. nothing-before p w l (list_of (wire.states at).acknowledged l) exists;
   }

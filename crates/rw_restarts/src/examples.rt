@@ -14,11 +14,15 @@ ghost use Rattle.rw_checkpoint.specs.Owed.{rising};
 ghost use Rattle.rw_restarts.specs.Parts.{points_in};
 ghost use Rattle.rw_restarts.specs.Runs.{AreRunsOver, acknowledged_in};
 ghost use Rattle.rw_restarts.specs.Receivers.{IsReceiverOf};
-ghost use Rattle.rw_restarts.specs.Stopped.{first_of_epoch};
+ghost use Rattle.rw_restarts.specs.Stopped.{first_of_epoch, IsOpenReceiver};
 ghost use Rattle.rw_restarts.specs.WireReceivers.{IsWireReceiver};
+ghost use Rattle.rw_restarts.specs.KeptWireReceivers.{IsKeptReceiver};
 ghost use Rattle.rw_restarts.specs.Examples as examples;
 ghost use Rattle.rw_restarts.specs.WireExamples as wire;
+ghost use Rattle.rw_restarts.specs.KeptExamples as kept;
+ghost use Rattle.rw_restarts.specs.OpenExamples as sent;
 
+use rw_roundtrip::requests_are_read;
 use rw_write_request::canonical_is_read;
 
 /// Law: of samples at the times 10, 5 and 20 the first and the last rise. A message that is
@@ -49,6 +53,34 @@ pub fn a_small_history_over_the_wire_is_allowed()
         → IsWireReceiver wire.receiver (wire.run worker shared ∷ []) wire.events wire.states }
     ensures held { list_of (wire.states 2).head.store examples.example_series
         ≡ examples.first ∷ [] }
+{
+    canonical_is_read();
+}
+
+/// Law: so can the premises on a receiver with a journal be met (`receiver`). It is opened over an
+/// empty log. A crash comes before it answers the request of that worker, and leaves a torn part of
+/// what it was writing: the definition of the label set, and three bytes of the sample. A second
+/// crash comes while it is opened again, after these three bytes were cut off. Then it answers the
+/// request with 204, and is started again. It then holds the sample (`held`).
+pub fn a_small_history_over_a_folder_is_allowed()
+    ensures receiver { (worker : WorkerSetup) (shared : Arc Labels Global)
+        → IsKeptReceiver kept.seen kept.may_leave kept.moment kept.left_since kept.tears
+        wire.receiver (wire.run worker shared ∷ []) kept.events kept.states }
+    ensures held { list_of (kept.states 3).kept.head.store examples.example_series
+        ≡ examples.first ∷ [] }
+{
+    canonical_is_read();
+    requests_are_read();
+}
+
+/// Law: so can the premises on a receiver that may be sent anything else in between be met
+/// (`receiver`). The request of that worker comes to it once, and is answered 204. It then holds
+/// the sample (`held`).
+pub fn a_small_open_receiver_is_allowed()
+    ensures receiver { (worker : WorkerSetup) (shared : Arc Labels Global)
+        → IsOpenReceiver wire.receiver (sent.exchanges worker shared) sent.arrivals sent.heads
+        sent.answered }
+    ensures held { list_of (sent.heads 1).store examples.example_series ≡ examples.first ∷ [] }
 {
     canonical_is_read();
 }

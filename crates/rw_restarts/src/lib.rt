@@ -12,7 +12,10 @@ mod stopped;
 mod wire;
 mod workers;
 
-pub use examples::{a_small_history_is_allowed, a_small_history_over_the_wire_is_allowed};
+pub use examples::{
+    a_small_history_is_allowed, a_small_history_over_a_folder_is_allowed,
+    a_small_history_over_the_wire_is_allowed, a_small_open_receiver_is_allowed,
+};
 pub use logs::{
     a_run_from_a_checkpoint_is_a_run_over_the_log, a_run_over_a_part_is_a_run_over_the_log,
     many_runs_hold_one_log,
