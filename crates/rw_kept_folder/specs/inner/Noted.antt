@@ -1,6 +1,6 @@
 -- Inner definitions beside those of Noted.antt: only invariants, private functions and
 -- proofs use them.
-use Rattle.std.specs.Prelude.{◌≡◌, ◌⊎◌, ℕ, zero, suc, List, [], ◌∷◌, length, map}
+use Rattle.std.specs.Prelude.{ℕ, zero, suc, List, [], ◌∷◌, length, map}
 use Rattle.std.proofs.Common.{inr, refl}
 use Rattle.std.proofs.Math.Nat.{le_refl}
 use Rattle.rw_journal.specs.Journal.{Segments}
