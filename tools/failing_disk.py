@@ -127,7 +127,7 @@ class Round:
         return self.started[-1]
 
     def receiver(self, *more, starts=1):
-        """Starts a receiver, and waits until it listens. Returns None if it does not, in so many starts."""
+        """Starts a receiver, and waits until it listens. Returns None if it does not, in this number of starts."""
         words = ["receive", "--listen", f"127.0.0.1:{self.port}", "--until-eof", "--stop-file", f"{self.room}/stop", "--quiet"]
         for _ in range(starts):
             with open(self.errors, "wb") as errors:
@@ -145,7 +145,7 @@ class Round:
             return it.read()
 
     def restarted(self, *more):
-        """Starts a receiver while there is room; its first start may find what the kernel has not yet told."""
+        """Starts a receiver while there is room; its first start may meet an error that the kernel has not reported yet."""
         it = self.receiver(*more, starts=3)
         if not it:
             raise Different(f"a receiver does not start though there is room again: {self.said()!r}")
