@@ -1,12 +1,11 @@
 -- Shards that have ended.
-use Rattle.std.proofs.Common.{◌≡◌, ℕ, ◌+◌, List, [], ◌∷◌, ◌++◌, length, map, sym, ap, ◌∙◌, subst, arith}
-use Rattle.std.proofs.lemmas.List.{length-map, map-append}
+use Rattle.std.proofs.Common.{◌≡◌, ℕ, List, [], ◌∷◌, ◌++◌, map, sym, ap, ◌∙◌, subst}
+use Rattle.std.proofs.lemmas.List.{map-append}
 use Rattle.rw_shard_core.specs.declared.config.ConfigFields.{ConfigFields}
 use Rattle.rw_worker.specs.Transcript.{Exchange}
 use Rattle.rw_fleet.specs.declared.joined.StoppedShard.{StoppedShard}
 use Rattle.rw_fleet.specs.ShardHistories.{ShardHistory, AreSame, AreSetUp}
 use Rattle.rw_fleet.specs.Work.{IsWorked, AreWorked, lane_of}
-use Rattle.rw_fleet.proofs.shared.ListLemmas.{more_length}
 use Rattle.rw_fleet.proofs.shared.LaneLemmas.{set_up_append, set_up_same}
 
 module _ {T : Type 0} (tells : T → Type 0) (seen : T → List Exchange) (is_for : ℕ → ℕ → T → Type 0) where
@@ -15,15 +14,6 @@ module _ {T : Type 0} (tells : T → Type 0) (seen : T → List Exchange) (is_fo
   worked_push (x ∷ xs) j h w = (h.0, worked_push xs j h.1 w)
 
 module _ {T : Type 0} where
-  -- all were done, if as many are there as began
-  pub all_done : (now was more : List (StoppedShard T)) (done all : List ShardHistory) (n_now n_was n_all left : ℕ) → now ≡ was ++ more → map lane_of more ≡ done → n_now ≡ length now → n_was ≡ length was → n_all ≡ length all
-      → n_now + left ≡ n_was + n_all → left ≡ 0 → length all ≡ length done
-  all_done now was more done all n_now n_was n_all left is same a b c sum none =
-      let m = more_length now was more is in
-      let n = ap length (sym same) in
-      let k = length-map more lane_of in
-      omega arith
-
   -- each shard of the epoch got its End, and each worker ended
   pub set_up_closed : (config : ConfigFields) (was now more : List (StoppedShard T)) (current ending : List ShardHistory) → AreSetUp config (map lane_of was) → AreSetUp config current → AreSame current ending → now ≡ was ++ more → map lane_of more ≡ ending
       → AreSetUp config (map lane_of now)

@@ -3,4 +3,5 @@ pub mod WindowLemmas
 pub mod JoinedLemmas
 pub mod SoftLemmas
 pub mod LoadLemmas
+pub mod StoppedLemmas
 pub mod shared

@@ -8,7 +8,7 @@ use Rattle.rw_fleet.specs.ShardHistories.{ShardHistory}
 use Rattle.rw_fleet.specs.Loads.{load_of, count_in, left_at_work, IsAdvised}
 use Rattle.rw_fleet.specs.declared.load.Load.{Load}
 
-sum_on : (f : ShardHistory → ℕ) (xs : List ShardHistory) (i : ℕ) (x : ShardHistory) → i < length xs → x ≡ get_or xs i x → sum_by f (take (i + 1) xs) ≡ sum_by f (take i xs) + f x
+sum_on : {X : Type 0} (f : X → ℕ) (xs : List X) (i : ℕ) (x : X) → i < length xs → x ≡ get_or xs i x → sum_by f (take (i + 1) xs) ≡ sum_by f (take i xs) + f x
 sum_on f xs i x below is = sum_by_more f xs i x below ∙ ap (λ y. sum_by f (take i xs) + f y) (sym is)
 
 pub waits_are_put : (window : ℕ) (x : ShardHistory) (waiting : ℕ) → waiting ≤ left_at_work window x → waiting ≤ count_in x
@@ -33,3 +33,16 @@ advised_on window xs i r l a b x load new below is all few h more =
 
 pub advised_whole : (window : ℕ) (xs : List ShardHistory) (i r l : ℕ) (load : Load) → i ≡ length xs → IsAdvised window (take i xs) r l load → IsAdvised window xs r l load
 advised_whole window xs i r l load whole h = subst (λ (ys : List ShardHistory). IsAdvised window ys r l load) (ap (λ k. take k xs) whole ∙ take-length xs) h
+
+-- a load with the sums over the first of a list, and one more
+pub load_on : {X : Type 0} (f g : X → ℕ) (xs : List X) (i r l a b : ℕ) (x : X) (load new : Load) → i < length xs → x ≡ get_or xs i x → f x ≡ a → g x ≡ b → load ≡ load_of (r + sum_by f (take i xs)) (l + sum_by g (take i xs))
+    → ((m n : ℕ) → load ≡ load_of m n → new ≡ load_of (m + a) (n + b)) → new ≡ load_of (r + sum_by f (take (i + 1) xs)) (l + sum_by g (take (i + 1) xs))
+load_on f g xs i r l a b x load new below is fa gb h more =
+    let fs = sum_on f xs i x below is in
+    let gs = sum_on g xs i x below is in
+    let left : (r + sum_by f (take i xs)) + a ≡ r + sum_by f (take (i + 1) xs) = omega (arith, fs, fa) in
+    let right : (l + sum_by g (take i xs)) + b ≡ l + sum_by g (take (i + 1) xs) = omega (arith, gs, gb) in
+    more _ _ h ∙ ap (λ k. load_of k ((l + sum_by g (take i xs)) + b)) left ∙ ap (λ k. load_of (r + sum_by f (take (i + 1) xs)) k) right
+
+pub load_whole : {X : Type 0} (f g : X → ℕ) (xs : List X) (i r l : ℕ) (load : Load) → i ≡ length xs → load ≡ load_of (r + sum_by f (take i xs)) (l + sum_by g (take i xs)) → load ≡ load_of (r + sum_by f xs) (l + sum_by g xs)
+load_whole f g xs i r l load whole h = subst (λ ys. load ≡ load_of (r + sum_by f ys) (l + sum_by g ys)) (ap (λ k. take k xs) whole ∙ take-length xs) h

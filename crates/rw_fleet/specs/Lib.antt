@@ -2,4 +2,5 @@ pub mod ShardHistories
 pub mod Work
 pub mod Fleets
 pub mod Loads
+pub mod Stopped
 pub mod inner

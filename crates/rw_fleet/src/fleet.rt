@@ -10,13 +10,11 @@ ghost use Rattle.rw_fleet.specs.Fleets.{AreAll, EndBy, HasClosed};
 ghost use Rattle.rw_fleet.specs.Loads.{window_of, IsLoad};
 
 use crate::connect::Connect;
-use crate::joined::{Resolution, StoppedShard};
-use crate::lists::{
-    end_all, hand_over_all, join_all, load_at_work, load_of_ended, mark_all, open_all,
-    resolution_of,
-};
+use crate::joined::Resolution;
+use crate::lists::{end_all, hand_over_all, join_all, load_at_work, mark_all, open_all};
 use crate::load::Load;
 use crate::running::{Fault, RunningShard, StoppingShard};
+use crate::stopped::StoppedShards;
 use rw_series_cache::RoutedSample;
 use rw_shard_core::Config;
 use rw_shard_queue::Kind;
@@ -38,11 +36,11 @@ pub struct ShardSet<C: Connect + Drop> {
     running: Vec<RunningShard<C::T>>,
     /// It has room for each shard at work.
     ending: Vec<StoppingShard<C::T>>,
-    joined: Vec<StoppedShard<C::T>>,
+    joined: StoppedShards<C::T>,
 }
 
 impl<C: Connect + Drop> Model for ShardSet<C> {
-    ghost use Rattle.std.specs.Prelude.{◌≡◌, ◌+◌, ◌≤◌, [], map, vec_len, vec_capacity};
+    ghost use Rattle.std.specs.Prelude.{◌≡◌, ◌≤◌, [], length, map, vec_len, vec_capacity};
     ghost use Rattle.std.specs.Coded.{codes};
     ghost use Rattle.std.specs.FinMap as names;
     ghost use Rattle.rw_fleet.specs.ShardHistories.{AreSetUp};
@@ -64,11 +62,12 @@ impl<C: Connect + Drop> Model for ShardSet<C> {
     ghost invariant = { λ f. AreWorked C.T.tells C.T.seen C.T.is_for f.joined.items
         × AreSetUp f.config (map lane_of f.joined.items)
         × AreSetUp f.config f.running.items
-        × (vec_len f.joined + vec_len f.running ≤ vec_capacity f.joined)
+        × (vec_len f.running ≤ f.joined.room)
         × (vec_len f.running ≤ vec_capacity f.ending)
         × (f.ending.items ≡ [])
         × (vec_len f.running ≤ 1000)
-        × AreSoft (map lane_of f.joined.items) };
+        × AreSoft (map lane_of f.joined.items)
+        × (f.joined.folded ≤ length f.joined.items) };
 }
 
 impl<C: Connect + Drop> ShardSet<C> {
@@ -86,7 +85,7 @@ impl<C: Connect + Drop> ShardSet<C> {
             epoch: 0,
             running: Vec::new(alloc),
             ending: Vec::new(alloc),
-            joined: Vec::new(alloc),
+            joined: StoppedShards::new(alloc),
         }
     }
 
@@ -119,9 +118,13 @@ impl<C: Connect + Drop> ShardSet<C> {
     pub fn load(&self) -> Load
         ensures { IsLoad self.now result }
     {
-        let ended = load_of_ended(&self.joined);
         let batch = self.config.fields().batch.get();
-        load_at_work(ended, &self.running, batch, self.window() as u64)
+        load_at_work(
+            self.joined.load(),
+            &self.running,
+            batch,
+            self.window() as u64,
+        )
     }
 
     /// Opens the queues of `shards` shards, and starts a worker for each. After an `Err` some of
@@ -212,7 +215,8 @@ impl<C: Connect + Drop> ShardSet<C> {
     }
 
     /// Ends all shards at work once all that was put is resolved, and waits for their workers; the
-    /// next epoch has no shard yet. Returns whether all that was put in all epochs is resolved.
+    /// next epoch has no shard yet. Returns whether all that was put in all epochs is resolved;
+    /// then only sums are kept of these shards, and their refused samples.
     pub fn close<R: Threads + Wait>(&mut self, rt: &R) -> Resolution
         requires { self.old.epoch + 1 < 2 ^ 64 }
         ensures closed { HasClosed self.old self.new }
@@ -223,25 +227,23 @@ impl<C: Connect + Drop> ShardSet<C> {
     {
         let running = replace(&mut self.running, Vec::new(self.alloc));
         let ending = replace(&mut self.ending, Vec::new(self.alloc));
-        let joined = replace(&mut self.joined, Vec::new(self.alloc));
+        let joined = replace(&mut self.joined, StoppedShards::new(self.alloc));
         let ending = end_all(rt, running, ending, Kind::Reshard);
-        self.joined = join_all(rt, ending, joined);
+        let (joined, resolution) = join_all(rt, ending, joined).fold_resolved();
+        self.joined = joined;
         self.epoch += 1;
-        resolution_of(&self.joined)
+        resolution
     }
 
     /// Ends all shards at work, and waits for their workers, which are stopped at once if `kind` is
     /// `Hard`. Returns the shards of all epochs, and whether all that was put into them is
     /// resolved.
-    pub fn finish<R: Threads + Wait>(
-        self,
-        rt: &R,
-        kind: Kind,
-    ) -> (Vec<StoppedShard<C::T>>, Resolution)
+    pub fn finish<R: Threads + Wait>(self, rt: &R, kind: Kind) -> (StoppedShards<C::T>, Resolution)
         ensures all { AreAll self result.0.items }
         ensures worked { AreWorked C.T.tells C.T.seen C.T.is_for result.0.items }
         ensures setup { AreSetUp self.config (map lane_of result.0.items) }
         ensures ended { EndBy kind self (map finished_of result.0.items) }
+        ensures folded { result.0.folded ≤ length self.ended }
         ensures resolved { result.1 ≡ Resolution.All → AreResolved result.0.items }
         ensures cut { is_hard kind ≡ false → result.1 ≡ Resolution.NotAll
             → HasCut result.0.items }
@@ -261,7 +263,7 @@ impl<C: Connect + Drop> ShardSet<C> {
         }
         let ending = end_all(rt, running, ending, kind);
         let joined = join_all(rt, ending, joined);
-        let resolution = resolution_of(&joined);
+        let resolution = joined.resolution();
         (joined, resolution)
     }
 }

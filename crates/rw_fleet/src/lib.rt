@@ -9,6 +9,7 @@ mod joined;
 mod lists;
 mod load;
 mod running;
+mod stopped;
 mod window;
 
 pub use connect::Connect;
@@ -17,3 +18,4 @@ pub use fleet::ShardSet;
 pub use joined::{Finished, Resolution, StoppedShard};
 pub use load::Load;
 pub use running::Fault;
+pub use stopped::StoppedShards;

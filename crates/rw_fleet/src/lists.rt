@@ -4,6 +4,7 @@ ghost use Rattle.std.specs.Prelude.{◌≡◌, ◌+◌, ◌≤◌, ℕ, List, []
 ghost use Rattle.std.specs.List.{sum_by};
 ghost use Rattle.rw_fleet.specs.ShardHistories.{AreFresh, AreSame, AreSetUp, marked, put_into};
 ghost use Rattle.rw_fleet.specs.Loads.{load_of, resolved_in, left_in_shard, IsAdvised};
+ghost use Rattle.rw_fleet.specs.Stopped.{names_in_parts, part_of};
 ghost use Rattle.rw_fleet.specs.Work.{AreResolved, AreEndedBy, AreWorked, lane_of};
 ghost use Rattle.rw_fleet.specs.inner.Work.{HasUnresolved};
 
@@ -11,6 +12,8 @@ use crate::connect::Connect;
 use crate::joined::{Resolution, StoppedShard};
 use crate::load::Load;
 use crate::running::{Fault, RunningShard, StoppingShard};
+use crate::stopped::StoppedShards;
+use rw_ledger::Reason;
 use rw_shard_core::Config;
 use rw_shard_queue::Kind;
 use rw_worker::{StopFlag, Transport};
@@ -108,19 +111,18 @@ pub(crate) fn end_all<T: Transport + Send + Drop + 'static, R: Wait>(
 pub(crate) fn join_all<T: Transport + Send + Drop + 'static, R: Threads>(
     rt: &R,
     ending: Vec<StoppingShard<T>>,
-    mut joined: Vec<StoppedShard<T>>,
-) -> Vec<StoppedShard<T>>
-    requires room { vec_len joined + vec_len ending ≤ vec_capacity joined }
+    mut joined: StoppedShards<T>,
+) -> StoppedShards<T>
+    requires room { vec_len ending ≤ joined.room }
     requires worked { AreWorked T.tells T.seen T.is_for joined.items }
-    ensures capacity { vec_capacity result ≡ vec_capacity joined }
-    ensures len { vec_len result ≡ vec_len joined + vec_len ending }
+    ensures folded { result.folded ≡ joined.folded }
     ensures same { (more : List _) × (result.items ≡ joined.items ++ more)
         × (map lane_of more ≡ ending.items) }
     ensures worked { AreWorked T.tells T.seen T.is_for result.items }
 {
     let mut rest = ending.into_iter();
     while let Some(shard) = rest.next() {
-        joined.push_reserved(shard.join(rt));
+        joined.push(shard.join(rt));
     }
     rest.destroy_empty();
     joined
@@ -139,16 +141,32 @@ pub(crate) fn resolution_of<T: Transport>(joined: &Vec<StoppedShard<T>>) -> Reso
     Resolution::All
 }
 
-/// Returns how far the samples of shards that have ended have come.
-pub(crate) fn load_of_ended<T: Transport>(joined: &Vec<StoppedShard<T>>) -> Load
-    ensures { result
-        ≡ load_of (sum_by resolved_in joined.now.items) (sum_by left_in_shard joined.now.items) }
+/// Returns the load `before`, and that of these shards, which have ended.
+pub(crate) fn load_with<T>(before: Load, joined: &Vec<StoppedShard<T>>) -> Load
+    ensures { (r l : ℕ) → before ≡ load_of r l → result
+        ≡ load_of (r + sum_by resolved_in joined.now.items)
+        (l + sum_by left_in_shard joined.now.items) }
 {
-    let mut load = Load::none();
+    let mut load = before;
     for shard in joined.iter() {
         load = load.with(shard.finished.resolved, shard.abandoned.len() as u64);
     }
     load
+}
+
+/// Appends the refused samples of these shards to `names`. After an `Err` it may have some of them.
+pub(crate) fn push_parts<T>(
+    joined: &Vec<StoppedShard<T>>,
+    names: &mut Vec<(u64, Reason)>,
+) -> Result<(), AllocError>
+    ensures all { OnOk result (names.new.items
+        ≡ names.old.items ++ names_in_parts (map part_of joined.now.items)) }
+    ensures grown { (more : List _) × (names.new.items ≡ names.old.items ++ more) }
+{
+    for shard in joined.iter() {
+        names.extend_from_slice(shard.part.iter().as_slice())?;
+    }
+    Ok(())
 }
 
 /// Returns the load `ended`, and that of these shards at work, which send batches of `batch`

@@ -21,7 +21,7 @@ use Rattle.rw_fleet.specs.Fleets.{EndBy}
 use Rattle.rw_fleet.specs.declared.joined.Finished.{Finished}
 use Rattle.rw_fleet.specs.declared.joined.StoppedShard.{StoppedShard}
 use Rattle.rw_shard_core.specs.declared.config.ConfigFields.{ConfigFields}
-use Rattle.rw_sender.specs.Reports.{IsAbandoned}
+use Rattle.rw_sender.specs.Reports.{IsAbandoned, workers_of}
 use Rattle.rw_sender.specs.Shipping.{Shipping, PlacesAll, HasStopped}
 use Rattle.rw_sender.specs.declared.report.Report.{Report}
 use Rattle.rw_shard_core.specs.declared.outcome.Outcome.{Outcome}
@@ -91,9 +91,9 @@ abbrev exchanges_by : List (Finished SeatLine) → ℕ → ℕ → List Exchange
 exchanges_by fs zero k = seen_at (slice_get fs k)
 exchanges_by fs (suc e) k = []
 
-module _ (opening : State) (path : List ℕ) (limit : ℕ) (s : Shipping SeatLine) (r : Report SeatLine) (store : Store) (c : Setup) (h : HasStopped (IsSeatLine opening path limit) seen_by IsAnyones s r) (p : PlacesAll s.log s.fleet) (machine : IsMachineOf c s) (first : IsFirst c s) (lines : AreLines c opening path limit r.workers.items store) where
+module _ (opening : State) (path : List ℕ) (limit : ℕ) (s : Shipping SeatLine) (r : Report SeatLine) (store : Store) (c : Setup) (h : HasStopped (IsSeatLine opening path limit) seen_by IsAnyones s r) (p : PlacesAll s.log s.fleet) (machine : IsMachineOf c s) (first : IsFirst c s) (lines : AreLines c opening path limit (workers_of r) store) where
   abbrev exs : ℕ → ℕ → List Exchange
-  exs = exchanges_by r.workers.items
+  exs = exchanges_by (workers_of r)
 
   joined_is : h.joined ≡ h.all.0
   joined_is = h.all.1 ∙ ap (λ (js : List (StoppedShard SeatLine)). js ++ h.all.0) first.none_ended
@@ -125,7 +125,7 @@ module _ (opening : State) (path : List ℕ) (limit : ℕ) (s : Shipping SeatLin
         (made-both target.path work.report.worked.settling work.report.worked.tries (made-transcript target host work.report.worked.settled work.report.worked.settling work.report.worked.transcript) (made-tried target host _ work.report.worked.tries work.report.worked.tried))));
   }
     where
-      here : slice_get r.workers.items k ≡ Some (finished_of j)
+      here : slice_get (workers_of r) k ≡ Some (finished_of j)
       here = ap (λ (fs : List (Finished SeatLine)). slice_get fs k) h.workers ∙ get_map finished_of h.joined k j at
 
       lane : (l : ShardHistory) × (slice_get s.fleet.current k ≡ Some l) × ((lane_of j).setup ≡ l.setup)
@@ -162,19 +162,19 @@ module _ (opening : State) (path : List ℕ) (limit : ℕ) (s : Shipping SeatLin
   record IsOwned (e k i : ℕ) : Type 0 where
     epoch_is : e ≡ 0
     f : Finished SeatLine
-    at : slice_get r.workers.items k ≡ Some f
+    at : slice_get (workers_of r) k ≡ Some f
     j : StoppedShard SeatLine
     there : slice_get h.joined k ≡ Some j
     same : finished_of j ≡ f
 
-  shard-of : (k : ℕ) (f : Finished SeatLine) → slice_get r.workers.items k ≡ Some f → (j : StoppedShard SeatLine) × (slice_get h.joined k ≡ Some j) × (finished_of j ≡ f)
+  shard-of : (k : ℕ) (f : Finished SeatLine) → slice_get (workers_of r) k ≡ Some f → (j : StoppedShard SeatLine) × (slice_get h.joined k ≡ Some j) × (finished_of j ≡ f)
   shard-of k f at = map_get finished_of h.joined k f (ap (λ (fs : List (Finished SeatLine)). slice_get fs k) (sym h.workers) ∙ at)
 
   owned : (e k i : ℕ) (x : Exchange) → slice_get (exs e k) i ≡ Some x → IsOwned e k i
   owned (suc e) k i x got = absurd (none-some x got)
-  owned zero k i x got = by_found (slice_get r.workers.items k) refl got
+  owned zero k i x got = by_found (slice_get (workers_of r) k) refl got
     where
-      by_found : (o : Option (Finished SeatLine)) → slice_get r.workers.items k ≡ o → slice_get (seen_at o) i ≡ Some x → IsOwned 0 k i
+      by_found : (o : Option (Finished SeatLine)) → slice_get (workers_of r) k ≡ o → slice_get (seen_at o) i ≡ Some x → IsOwned 0 k i
       by_found None at got = absurd (none-some x got)
       by_found (Some f) at got = let j = shard-of k f at in record { epoch_is = refl; f = f; at = at; j = j.0; there = j.1; same = j.2 }
 
@@ -185,15 +185,15 @@ module _ (opening : State) (path : List ℕ) (limit : ℕ) (s : Shipping SeatLin
   }
 
   -- ---- each seat is that of its worker
-  seat-at : (k : ℕ) (t : Seated) → slice_get (map seat_of r.workers.items) k ≡ Some t → IsSeatOf c.target.path c.max_body opening (exs 0 k) t
+  seat-at : (k : ℕ) (t : Seated) → slice_get (map seat_of (workers_of r)) k ≡ Some t → IsSeatOf c.target.path c.max_body opening (exs 0 k) t
   seat-at k t at = subst (λ (xs : List Exchange). IsSeatOf c.target.path c.max_body opening xs t) (sym exchanges_are)
       (subst (IsSeatOf c.target.path c.max_body opening m.0.transport.seen) m.2
       (subst (λ (l : ℕ). IsSeatOf c.target.path l opening m.0.transport.seen m.0.transport.seat) lines.limit_is
       (subst (λ (d : List ℕ). IsSeatOf d limit opening m.0.transport.seen m.0.transport.seat) lines.path_is
       (lines.each k m.0 m.1 (subst (λ (d : List ℕ). AreMade d m.0.transport.seen) (sym lines.path_is) made)))))
     where
-      m : (f : Finished SeatLine) × (slice_get r.workers.items k ≡ Some f) × (seat_of f ≡ t)
-      m = map_get seat_of r.workers.items k t at
+      m : (f : Finished SeatLine) × (slice_get (workers_of r) k ≡ Some f) × (seat_of f ≡ t)
+      m = map_get seat_of (workers_of r) k t at
 
       j : (j : StoppedShard SeatLine) × (slice_get h.joined k ≡ Some j) × (finished_of j ≡ m.0)
       j = shard-of k m.0 m.1
@@ -204,14 +204,14 @@ module _ (opening : State) (path : List ℕ) (limit : ℕ) (s : Shipping SeatLin
       exchanges_are : exs 0 k ≡ m.0.transport.seen
       exchanges_are = ap seen_at m.1
 
-  seated : AreSeated c exs opening (map seat_of r.workers.items) store
+  seated : AreSeated c exs opening (map seat_of (workers_of r)) store
   seated = record {
     empty_is = lines.empty_is;
     limits_are = lines.limits_are;
     host = lines.host;
     gathered = lines.gathered;
     seat = seat-at;
-    alone = λ e k i x got. let o = owned e k i x got in (o.epoch_is, subst (λ (n : ℕ). k < n) (sym (length-map r.workers.items seat_of)) (slice_get_within r.workers.items k o.f o.at));
+    alone = λ e k i x got. let o = owned e k i x got in (o.epoch_is, subst (λ (n : ℕ). k < n) (sym (length-map (workers_of r) seat_of)) (slice_get_within (workers_of r) k o.f o.at));
   }
 
   -- ---- so the head holds the samples
@@ -222,7 +222,7 @@ module _ (opening : State) (path : List ℕ) (limit : ℕ) (s : Shipping SeatLin
   held fed work fed_are ended = subst (IsHeld s r) (sym one.3) (by_end ended (is_abandoned r.outcome))
     where
       one : (arrivals : List Arrival) × (heads : ℕ → State) × IsOneReceiver c exs arrivals heads × (store ≡ (heads (length arrivals)).store)
-      one = seats-as-one c exs opening (map seat_of r.workers.items) store lines.calm seated
+      one = seats-as-one c exs opening (map seat_of (workers_of r)) store lines.calm seated
 
       resolved : AreResolved s.fleet.ended
       resolved k j at = absurd (none-some j (ap (λ (js : List (StoppedShard SeatLine)). slice_get js k) (sym first.none_ended) ∙ at))
@@ -230,7 +230,7 @@ module _ (opening : State) (path : List ℕ) (limit : ℕ) (s : Shipping SeatLin
       left : IsAbandoned r.outcome → IsHeld s r (one.1 (length one.0)).store
       left stopped = receives-abandoned (IsSeatLine opening path limit) seen_by IsAnyones s r c fed h s.fleet p machine work fed_are h.all resolved first.number first-number stopped exs one.0 one.1 exchanges-of-all one.2
 
-      whole : EndBy Orderly s.fleet r.workers.items → (IsAbandoned r.outcome → ⊥) → IsHeld s r (one.1 (length one.0)).store
+      whole : EndBy Orderly s.fleet (workers_of r) → (IsAbandoned r.outcome → ⊥) → IsHeld s r (one.1 (length one.0)).store
       whole ends none = receives-in-order (IsSeatLine opening path limit) seen_by IsAnyones s r c fed h p machine work fed_are first.number first-number ends none exs one.0 one.1 exchanges-of-all one.2
 
       is_abandoned : (o : Outcome) → (IsAbandoned o → ⊥) ⊎ IsAbandoned o

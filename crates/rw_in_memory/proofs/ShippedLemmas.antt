@@ -1,5 +1,5 @@
 -- A shipper over lines, from its start until the head is back.
-use Rattle.std.proofs.Common.{◌≡◌, inl, inr, ℕ, ◌≤◌, List, [], ◌∷◌, ◌++◌, All, map, take, length, Option, None, Some, Result, Ok, Err, IfOk, IfSome, slice_get, get_or, refl, sym, ap, ◌∙◌, subst, arith}
+use Rattle.std.proofs.Common.{◌≡◌, inl, inr, ℕ, ◌≤◌, List, [], ◌∷◌, ◌++◌, All, drop, map, take, length, Option, None, Some, Result, Ok, Err, IfOk, IfSome, slice_get, get_or, refl, sym, ap, ◌∙◌, subst, arith}
 use Rattle.std.specs.Prelude.{IsSome, is_some, OnOk}
 use Rattle.std.specs.FinMap.{empty}
 use Rattle.std.proofs.lemmas.List.{length-map}
@@ -24,7 +24,7 @@ use Rattle.rw_fleet.specs.declared.joined.StoppedShard.{StoppedShard}
 use Rattle.rw_fleet.specs.declared.running.Fault.{Fault}
 use Rattle.rw_fleet.specs.declared.running.Fault.TheVariants as queue_fault
 use Rattle.rw_fleet.proofs.shared.LaneLemmas.{same_length}
-use Rattle.rw_sender.specs.Reports.{IsAbandoned, end_kind}
+use Rattle.rw_sender.specs.Reports.{IsAbandoned, end_kind, workers_of}
 use Rattle.rw_sender.specs.Shipping.{Shipping, HasStopped, HasEndedAs, Feeds}
 use Rattle.rw_sender.specs.declared.report.Report.{Report}
 use Rattle.rw_sender.specs.declared.shipper.FeedFault.{FeedFault}
@@ -41,7 +41,7 @@ use Rattle.rw_in_memory.specs.declared.shipping.Shipped.{Shipped}
 use Rattle.rw_in_memory.proofs.Held.{holds-in-memory}
 
 -- ---- as many workers as shards
-pub workers_count : (tells : SeatLine → Type 0) (s : Shipping SeatLine) (r : Report SeatLine) → HasStopped tells seen_by IsAnyones s r → s.fleet.ended ≡ [] → length r.workers.items ≡ length s.fleet.current
+pub workers_count : (tells : SeatLine → Type 0) (s : Shipping SeatLine) (r : Report SeatLine) → HasStopped tells seen_by IsAnyones s r → s.fleet.ended ≡ [] → length (workers_of r) ≡ length s.fleet.current
 workers_count tells s r h none =
     ap length h.workers
     ∙ length-map h.joined finished_of
@@ -49,8 +49,15 @@ workers_count tells s r h none =
     ∙ sym (length-map h.all.0 lane_of)
     ∙ same_length s.fleet.current (map lane_of h.all.0) h.all.2
 
+-- ---- no shard is folded in the first epoch
+pub all_kept : {X Y : Type 0} (folded : ℕ) (was : List Y) (all kept : List X) → kept ≡ drop folded all → folded ≤ length was → was ≡ [] → kept ≡ all
+all_kept folded was all kept is few none =
+    let len = ap length none in
+    let first : folded ≡ 0 = omega (arith, few) in
+    is ∙ ap (λ n. drop n all) first
+
 -- ---- how it was stopped
-pub ended_so : (fault : Option Fault) (s : Shipping SeatLine) (r : Report SeatLine) → EndBy (end_kind (is_some fault)) s.fleet r.workers.items → IfSome fault (λ f. IsAbandoned r.outcome) → HasEnded s r
+pub ended_so : (fault : Option Fault) (s : Shipping SeatLine) (r : Report SeatLine) → EndBy (end_kind (is_some fault)) s.fleet (workers_of r) → IfSome fault (λ f. IsAbandoned r.outcome) → HasEnded s r
 ended_so None s r by failed = inl by
 ended_so (Some f) s r by failed = inr failed
 
@@ -126,7 +133,7 @@ module _ (opening : State) (path : List ℕ) (limit : ℕ) (config : ConfigField
     shards = count;
   }
 
-  lines : AreLines setup opening path limit g.r.workers.items v.head.store
+  lines : AreLines setup opening path limit (workers_of g.r) v.head.store
   unfolding setup
   lines = record {
     host = sound.host;

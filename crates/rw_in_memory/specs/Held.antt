@@ -13,7 +13,7 @@ use Rattle.rw_worker.specs.Transcript.{Exchange}
 use Rattle.rw_fleet.specs.Fleets.{EndBy}
 use Rattle.rw_fleet.specs.declared.joined.Finished.{Finished}
 use Rattle.rw_sender.specs.Placement.{IsShardCount}
-use Rattle.rw_sender.specs.Reports.{IsAbandoned}
+use Rattle.rw_sender.specs.Reports.{IsAbandoned, workers_of}
 use Rattle.rw_sender.specs.Shipping.{Shipping, PlacesAll, HasStopped}
 use Rattle.rw_sender.specs.declared.report.Report.{Report}
 use Rattle.rw_machine.specs.Worlds.{Setup}
@@ -53,11 +53,11 @@ pub record IsFirst (c : Setup) (s : Shipping SeatLine) : Type 0 where
 
 -- it was stopped in order and left nothing, or it abandoned what was left
 abbrev pub HasEnded : Shipping SeatLine → Report SeatLine → Type 0
-HasEnded s r = EndBy Orderly s.fleet r.workers.items ⊎ IsAbandoned r.outcome
+HasEnded s r = EndBy Orderly s.fleet (workers_of r) ⊎ IsAbandoned r.outcome
 
 -- The head holds the samples, whatever was stored, refused, repeated or lost; there is no premise
 -- on a network.
 abbrev pub HoldsInMemory : State → List ℕ → ℕ → Shipping SeatLine → Report SeatLine → Store → Type 0
 HoldsInMemory opening path limit s r store =
     (c : Setup) (fed : List Piece) → HasStopped (IsSeatLine opening path limit) seen_by IsAnyones s r → PlacesAll s.log s.fleet → IsMachineOf c s → CanWork c → s.log.pieces ≡ map piece_of fed
-    → IsFirst c s → AreLines c opening path limit r.workers.items store → HasEnded s r → IsHeld s r store
+    → IsFirst c s → AreLines c opening path limit (workers_of r) store → HasEnded s r → IsHeld s r store

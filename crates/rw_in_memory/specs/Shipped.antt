@@ -15,7 +15,7 @@ use Rattle.rw_recv_head.specs.Seats.{HasGathered}
 use Rattle.rw_sender.specs.Feeders.{HasRead}
 use Rattle.rw_sender.specs.Logs.{filtered}
 use Rattle.rw_fleet.specs.declared.joined.Finished.{Finished}
-use Rattle.rw_sender.specs.Reports.{IsAbandoned, ListsCut}
+use Rattle.rw_sender.specs.Reports.{IsAbandoned, ListsCut, parts_of, workers_of}
 use Rattle.rw_sender.specs.Shipping.{Shipping, PlacesAll, HasStopped, Feeds}
 use Rattle.rw_sender.specs.declared.report.Report.{Report}
 use Rattle.rw_simulation.specs.Received.{IsHeld}
@@ -30,12 +30,12 @@ pub record IsGathered (opening : State) (path : List ℕ) (limit : ℕ) (s : Shi
   pub stopped : HasStopped (IsSeatLine opening path limit) seen_by IsAnyones s r
   pub ended : HasEnded s r
   pub failed : IsSome s.fault → IsAbandoned r.outcome
-  pub cut : s.fault ≡ None → IsAbandoned r.outcome → ListsCut r.workers.items
+  pub cut : s.fault ≡ None → IsAbandoned r.outcome → ListsCut (workers_of r)
   pub outcome_is : shipped.outcome ≡ r.outcome
-  pub parts_are : shipped.parts ≡ r.parts
+  pub parts_are : shipped.parts.items ≡ parts_of r
   pub filter_count : shipped.filtered ≡ r.filtered
-  pub each : (k : ℕ) (f : Finished SeatLine) → slice_get r.workers.items k ≡ Some f → IsSeatLine opening path limit f.transport
-  pub gathered : HasGathered opening (map seat_of r.workers.items) shipped.head.store
+  pub each : (k : ℕ) (f : Finished SeatLine) → slice_get (workers_of r) k ≡ Some f → IsSeatLine opening path limit f.transport
+  pub gathered : HasGathered opening (map seat_of (workers_of r)) shipped.head.store
 
 -- one epoch of a shipper with this configuration
 pub record IsOneEpoch (config : ConfigFields) (s : Shipping SeatLine) : Type 0 where
@@ -64,7 +64,7 @@ pub record IsShippedTo (opening : State) (path : List ℕ) (limit : ℕ) (config
   pub filter_count : shipped.filtered ≡ length (filtered s.log.choice s.log.placed)
   pub complete : (end : ℕ) → shipped.outcome ≡ Complete end → (length log ≤ fed) × (end ≡ length s.log.placed) × (s.log.placed ≡ entries s.log.pieces)
   pub damaged : (f : TailFault) → shipped.outcome ≡ Damaged f → HasRead s.log.pieces s.log.placed (Some f)
-  pub cut : s.fault ≡ None → IsAbandoned shipped.outcome → ListsCut gathered.r.workers.items
+  pub cut : s.fault ≡ None → IsAbandoned shipped.outcome → ListsCut (workers_of gathered.r)
   pub held : IsHeld s gathered.r shipped.head.store
 
 -- a head without samples, with these limits

@@ -1,9 +1,11 @@
 //! Ships a log to a head in the same process.
 
-ghost use Rattle.std.specs.Prelude.{◌≡◌, ◌+◌, [], None, map, All, length, IfOk, Some};
+ghost use Rattle.std.specs.Prelude.{◌≡◌, ◌+◌, [], ◌∷◌, None, map, All, length, IfOk, Some};
 ghost use Rattle.std.specs.Arc.{arc_value};
 ghost use Rattle.std.specs.FinMap.{empty};
+ghost use Rattle.rw_fleet.specs.Work.{finished_of};
 ghost use Rattle.rw_sender.specs.Feeders.{HasRead};
+ghost use Rattle.rw_sender.specs.Reports.{part_of};
 ghost use Rattle.rw_in_memory.specs.Lines.{IsSeatLine};
 ghost use Rattle.rw_in_memory.specs.Held.{seat_of};
 ghost use Rattle.rw_in_memory.specs.Shipped.{IsGathered, IsShipped, IsShippedTo};
@@ -15,7 +17,7 @@ use crate::receiver::{Endpoint, Receiver};
 use rw_head::{Head, Limits};
 use rw_ledger::Ledger;
 use rw_recv_head::{Blank, Seat};
-use rw_sender::{Connect, FeedFault, Finished, Outcome, Report, Shipper};
+use rw_sender::{Connect, FeedFault, Outcome, Report, Shipper, StoppedShard};
 use rw_shard_core::{Config, Target};
 use rw_types::{Bounded, RequestPath};
 use rw_wal_tail::Piece;
@@ -31,7 +33,7 @@ pub struct Shipped {
     pub outcome: Outcome,
     /// `Ok` if the whole log was read and placed, or why it was not.
     pub fed: Result<(), FeedFault>,
-    /// The samples that were not sent, or were refused: as in the report of a shipper.
+    /// The samples that were not sent, and for each shard those that were refused.
     pub parts: Vec<Ledger>,
     /// How many samples were placed whose series the rules drop.
     pub filtered: u64,
@@ -57,29 +59,40 @@ fn feed_all<R: Wait, C: Connect + Drop>(
     Ok(())
 }
 
-/// Returns the seat of a worker's transport.
-fn seat_in<R: Drop, L: Endpoint>(finished: Finished<Line<R, L>>) -> Seat<L>
-    ensures seat { result ≡ seat_of finished }
-    ensures line { IsSeatLine L.opening L.path L.limit finished.transport }
+/// Returns the refused samples of a shard, and the seat of its worker's transport.
+fn part_and_seat<R: Drop, L: Endpoint>(shard: StoppedShard<Line<R, L>>) -> (Ledger, Seat<L>)
+    ensures part { result.0 ≡ part_of shard }
+    ensures seat { result.1 ≡ seat_of (finished_of shard) }
+    ensures line { IsSeatLine L.opening L.path L.limit shard.finished.transport }
 {
-    finished.transport.into_seat()
+    let StoppedShard { part, finished, .. } = shard;
+    (part, finished.transport.into_seat())
 }
 
-/// Returns the seats of the workers' transports.
-fn seats_of<R: Drop, L: Endpoint>(
+/// Returns the dropped samples, and the seats of the workers' transports.
+fn parts_and_seats<R: Drop, L: Endpoint>(
     alloc: Global,
-    workers: Vec<Finished<Line<R, L>>>,
-) -> Result<Vec<Seat<L>>, AllocError>
-    ensures seats { IfOk result (λ seats. seats.items ≡ map seat_of workers.items) }
+    dropped: Ledger,
+    shards: Vec<StoppedShard<Line<R, L>>>,
+) -> Result<(Vec<Ledger>, Vec<Seat<L>>), AllocError>
+    ensures parts { IfOk result (λ r. r.0.items ≡ dropped ∷ map part_of shards.items) }
+    ensures seats { IfOk result
+        (λ r. r.1.items ≡ map seat_of (map finished_of shards.items)) }
     ensures lines { IfOk result
-        (λ _. All (λ f. IsSeatLine L.opening L.path L.limit f.transport) workers.items) }
+        (λ _. All (λ f. IsSeatLine L.opening L.path L.limit f.transport)
+        (map finished_of shards.items)) }
 {
+    let mut parts = Vec::with_capacity(alloc, 1)?;
     let mut seats = Vec::new(alloc);
-    seats.reserve(workers.len())?;
-    for finished in workers {
-        seats.push_reserved(seat_in(finished));
+    parts.push_reserved(dropped);
+    parts.reserve(shards.len())?;
+    seats.reserve(shards.len())?;
+    for shard in shards {
+        let (part, seat) = part_and_seat(shard);
+        parts.push_reserved(part);
+        seats.push_reserved(seat);
     }
-    Ok(seats)
+    Ok((parts, seats))
 }
 
 /// Stops a shipper, and gathers the seats of its workers.
@@ -103,11 +116,11 @@ fn gathered<
     let end = shipper.entries_read();
     let Report {
         outcome,
-        parts,
+        dropped,
         filtered,
-        workers,
+        ended,
     } = shipper.stop_orderly(rt, end);
-    let seats = seats_of(alloc, workers)?;
+    let (parts, seats) = parts_and_seats(alloc, dropped, ended.into_kept())?;
     let Some(receiver) = Arc::into_inner(receiver) else {
         return Err(AllocError);
     };

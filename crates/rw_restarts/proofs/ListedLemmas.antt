@@ -36,7 +36,7 @@ use Rattle.rw_fleet.specs.Work.{AreResolved, AreWorked, IsWorked, lane_of, posit
 use Rattle.rw_fleet.specs.declared.joined.StoppedShard.{StoppedShard}
 use Rattle.rw_sender.specs.Logs.{Sent, dropped_by_fate, dropped_of, kept_sample, named, sent, sent_by_fate, sent_of, with_name}
 use Rattle.rw_sender.specs.Placement.{as_sent, joined_epochs, samples_put}
-use Rattle.rw_sender.specs.Reports.{abandoned_in, part_of}
+use Rattle.rw_sender.specs.Reports.{abandoned_in, part_of, parts_of}
 use Rattle.rw_sender.specs.Shipping.{Shipping, HasStopped, HasEndedAs}
 use Rattle.rw_sender.specs.declared.report.Report.{Report}
 use Rattle.rw_sender.proofs.shared.ListingLemmas.{resolved_left}
@@ -222,10 +222,10 @@ module _ {T : Type 0} (tells : T → Type 0) (seen : T → List Exchange) (is_fo
 
   module _ (s : Shipping T) (r : Report T) (h : HasStopped tells seen is_for s r) where
     -- a position that a part of the report names
-    own_named : (p : ℕ) → HasName h.own.names p → (reason : Reason) × IsNamedIn r.parts.items p reason
+    own_named : (p : ℕ) → HasName h.own.names p → (reason : Reason) × IsNamedIn (parts_of r) p reason
     own_named p name = (name.0, (0, h.own, ap (λ ps. slice_get ps 0) h.parts, name.1))
 
-    part_named : (n : ℕ) (j : StoppedShard T) (p : ℕ) → slice_get h.joined n ≡ Some j → HasName j.part.names p → (reason : Reason) × IsNamedIn r.parts.items p reason
+    part_named : (n : ℕ) (j : StoppedShard T) (p : ℕ) → slice_get h.joined n ≡ Some j → HasName j.part.names p → (reason : Reason) × IsNamedIn (parts_of r) p reason
     part_named n j p at name = (name.0, (suc n, j.part, ap (λ ps. slice_get ps (suc n)) h.parts ∙ get_map part_of h.joined n j at, name.1))
 
     module _ (p : ℕ) (x : Point) (l : Labels) (u : IsUnlisted s r p x l) where

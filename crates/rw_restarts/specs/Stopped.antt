@@ -20,7 +20,7 @@ use Rattle.rw_fleet.specs.Work.{AreResolved, AreWorked, lane_of}
 use Rattle.rw_fleet.specs.Fleets.{Shards, AreAll}
 use Rattle.rw_fleet.specs.declared.joined.StoppedShard.{StoppedShard}
 use Rattle.rw_sender.specs.Placement.{joined_epochs}
-use Rattle.rw_sender.specs.Reports.{IsAbandoned}
+use Rattle.rw_sender.specs.Reports.{IsAbandoned, parts_of}
 use Rattle.rw_sender.specs.Shipping.{Shipping, PlacesAll, HasStopped}
 use Rattle.rw_sender.specs.declared.report.Report.{Report}
 use Rattle.rw_simulation.specs.StoppedRuns.{IsNamedIn}
@@ -50,7 +50,7 @@ pub record IsUnlisted {T : Type 0} (s : Shipping T) (r : Report T) (p : ℕ) (x 
   pub placed : slice_get s.log.placed p ≡ Some (Sample reference x.0 x.1)
   pub kept : known s.log.choice (take p s.log.placed) reference ≡ Kept l
   pub not_left : is_left r.outcome p ≡ false
-  pub not_dropped : (reason : Reason) → IsNamedIn r.parts.items p reason → ⊥
+  pub not_dropped : (reason : Reason) → IsNamedIn (parts_of r) p reason → ⊥
 
 -- What a shipper that was stopped added to a receiver: what this one held before, or had
 -- acknowledged if it was started again meanwhile, is in its place; each list rises, so that nothing

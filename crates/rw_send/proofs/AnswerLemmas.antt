@@ -8,7 +8,7 @@ use Rattle.rw_fleet.specs.declared.running.Fault.{Fault}
 use Rattle.rw_fleet.specs.declared.joined.StoppedShard.{StoppedShard}
 use Rattle.rw_shard_core.specs.declared.outcome.Outcome.{Outcome}
 use Rattle.rw_shard_core.specs.declared.outcome.Outcome.TheVariants as outcome
-use Rattle.rw_sender.specs.Reports.{IsAbandoned, ListsCut, end_kind}
+use Rattle.rw_sender.specs.Reports.{IsAbandoned, ListsCut, end_kind, workers_of}
 use Rattle.rw_sender.specs.declared.report.Report.{Report}
 use Rattle.rw_sender.specs.Shipping.{Shipping, HasEndedAs}
 use Rattle.rw_text.specs.declared.tool_fault.ToolFault.{ToolFault}
@@ -89,7 +89,7 @@ abbrev pub HasCause : (cause : Type 0) → Result (Unit {0}) FeedError → Type 
 HasCause cause shipped = IsSome (hard_fault shipped) → cause
 
 pub ends_for : {T : Type 0} (cause : Type 0) (s : Shipping T) (r : Report T) (shipped : Result (Unit {0}) FeedError)
-    → EndBy (end_kind (is_some (hard_fault shipped))) s.fleet r.workers.items → ((f : ToolFault) → hard_fault shipped ≡ Some f → IsAbandoned r.outcome) → HasCause (IsSome s.fault ⊎ cause) shipped → EndsFor cause s r
+    → EndBy (end_kind (is_some (hard_fault shipped))) s.fleet (workers_of r) → ((f : ToolFault) → hard_fault shipped ≡ Some f → IsAbandoned r.outcome) → HasCause (IsSome s.fault ⊎ cause) shipped → EndsFor cause s r
 ends_for cause s r (Ok u) by hard why = inl by
 ends_for cause s r (Err (error.Damaged f)) by hard why = inl by
 ends_for cause s r (Err error.Failed) by hard why = inr (by, hard fault.OutOfMemory refl, why refl)
@@ -98,7 +98,7 @@ ends_for cause s r (Err (error.Missing n)) by hard why = inr (by, hard fault.Dev
 ends_for cause s r (Err error.Aborted) by hard why = inr (by, hard fault.Device refl, why refl)
 
 pub cut_for : {T : Type 0} (cause : Type 0) (s : Shipping T) (r : Report T) (shipped : Result (Unit {0}) FeedError)
-    → (hard_fault shipped ≡ None → IsAbandoned r.outcome → ListsCut r.workers.items) → HasCause (IsSome s.fault ⊎ cause) shipped → IsCutFor cause s r
+    → (hard_fault shipped ≡ None → IsAbandoned r.outcome → ListsCut (workers_of r)) → HasCause (IsSome s.fault ⊎ cause) shipped → IsCutFor cause s r
 cut_for cause s r (Ok u) soft why left = inl (soft refl left)
 cut_for cause s r (Err (error.Damaged f)) soft why left = inl (soft refl left)
 cut_for cause s r (Err error.Failed) soft why left = inr (why refl)
@@ -141,8 +141,8 @@ abbrev pub SendCause : List (Option (List ℕ)) → List Bool → List Piece →
 SendCause lefts sures pieces answer = StopsAtOnce (HasMoreBytes lefts pieces) (AreSure sures → ⊥) answer
 
 pub send_ends : {T : Type 0} (lefts : List (Option (List ℕ))) (sures : List Bool) (pieces : List Piece) (s : Shipping T) (r : Report T) (shipped : Result (Unit {0}) FeedError) (answer : Result (Unit {0}) ToolFault)
-    → IfErr shipped (IsHalted s) → EndBy (end_kind (is_some (hard_fault shipped))) s.fleet r.workers.items → ((f : ToolFault) → hard_fault shipped ≡ Some f → IsAbandoned r.outcome)
-    → (hard_fault shipped ≡ None → IsAbandoned r.outcome → ListsCut r.workers.items) → ((f : ToolFault) → hard_fault shipped ≡ Some f → answer ≡ Err f)
+    → IfErr shipped (IsHalted s) → EndBy (end_kind (is_some (hard_fault shipped))) s.fleet (workers_of r) → ((f : ToolFault) → hard_fault shipped ≡ Some f → IsAbandoned r.outcome)
+    → (hard_fault shipped ≡ None → IsAbandoned r.outcome → ListsCut (workers_of r)) → ((f : ToolFault) → hard_fault shipped ≡ Some f → answer ≡ Err f)
     → (shipped ≡ Err error.Failed → IsSome s.fault ⊎ HasMoreBytes lefts pieces) → (AreSure sures → shipped ≡ Err error.Unreadable → ⊥)
     → EndsFor (SendCause lefts sures pieces answer) s r × IsCutFor (SendCause lefts sures pieces answer) s r
 send_ends lefts sures pieces s r shipped answer halted by hard soft is memory read =

@@ -1,19 +1,15 @@
 -- What is printed of a report.
-use Rattle.std.specs.Prelude.{◌≡◌, ℕ, ◌≤◌, List, length, take, flat_map, Option, Some}
+use Rattle.std.specs.Prelude.{◌≡◌, ℕ, ◌≤◌, List, length, take, Option, Some}
 use Rattle.std.specs.Io.KnownBytes.{Appends}
 use Rattle.std.specs.List.Sorted.{IsPermutation, IsNonDecreasing, IsNonDecreasingBy}
-use Rattle.std.specs.FinMap.{entries}
-use Rattle.rw_ledger.specs.Names.{Named}
 use Rattle.rw_ledger.specs.declared.ledger.Reason.{Reason}
 use Rattle.rw_shard_core.specs.declared.outcome.Outcome.{Outcome}
 use Rattle.rw_shard_core.specs.declared.outcome.Outcome.TheVariants as outcome
 use Rattle.rw_shard_core.specs.Endings.{Ending, Complete, Abandoned, Damaged}
 use Rattle.rw_state_text.specs.StateText.{work_text}
+use Rattle.rw_fleet.specs.Stopped.{names_in_parts}
+use Rattle.rw_sender.specs.Reports.{parts_of}
 use Rattle.rw_sender.specs.declared.report.Report.{Report}
-
--- the dropped samples of all parts
-abbrev pub names_in_parts : List Named → List (ℕ × Reason)
-names_in_parts parts = flat_map (λ (part : Named). entries part.names) parts
 
 -- the same dropped samples, by position
 abbrev pub AreByPosition : List (ℕ × Reason) → List (ℕ × Reason) → Type 0
@@ -29,7 +25,7 @@ IsEnding (outcome.Damaged fault) ending = ending ≡ Damaged fault
 -- the dropped samples by position, how many the rules have filtered, and the end
 pub record IsTextOf {T : Type 0} (r : Report T) (text : List ℕ) : Type 0 where
   pub names : List (ℕ × Reason)
-  pub by_position : AreByPosition (names_in_parts r.parts.items) names
+  pub by_position : AreByPosition (names_in_parts (parts_of r)) names
   pub ending : Ending
   pub ends : IsEnding r.outcome ending
   pub text_is : text ≡ work_text names r.filtered (Some ending)

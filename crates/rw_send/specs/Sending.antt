@@ -10,7 +10,7 @@ use Rattle.rw_shard_core.specs.declared.outcome.Outcome.TheVariants as outcome
 use Rattle.rw_worker.specs.Transcript.{Exchange}
 use Rattle.rw_fleet.specs.Fleets.{EndBy}
 use Rattle.rw_sender.specs.Placement.{IsShardCount}
-use Rattle.rw_sender.specs.Reports.{IsAbandoned, ListsCut}
+use Rattle.rw_sender.specs.Reports.{IsAbandoned, ListsCut, workers_of}
 use Rattle.rw_sender.specs.Shipping.{Shipping, PlacesAll, HasStopped}
 use Rattle.rw_sender.specs.declared.report.Report.{Report}
 use Rattle.rw_text.specs.declared.tool_fault.ToolFault.{ToolFault}
@@ -23,13 +23,13 @@ use Rattle.rw_send.specs.Steps.{AreShipped, AreShippedPart, HasLastEpoch, HasSta
 -- work is abandoned
 abbrev pub EndsFor : {T : Type 0} → (cause : Type 0) → Shipping T → Report T → Type 0
 EndsFor cause s r =
-    EndBy Orderly s.fleet r.workers.items
-    ⊎ (EndBy Hard s.fleet r.workers.items × IsAbandoned r.outcome × (IsSome s.fault ⊎ cause))
+    EndBy Orderly s.fleet (workers_of r)
+    ⊎ (EndBy Hard s.fleet (workers_of r) × IsAbandoned r.outcome × (IsSome s.fault ⊎ cause))
 
 -- work is abandoned only if a worker was cut, the shipper failed, or for this cause
 abbrev pub IsCutFor : {T : Type 0} → (cause : Type 0) → Shipping T → Report T → Type 0
 IsCutFor cause s r =
-    IsAbandoned r.outcome → ListsCut r.workers.items ⊎ (IsSome s.fault ⊎ cause)
+    IsAbandoned r.outcome → ListsCut (workers_of r) ⊎ (IsSome s.fault ⊎ cause)
 
 -- A shipper that was configured so, with this limit in bytes while it has not failed, was fed these
 -- pieces, none after the first with a fault, and this is the report of its stop: in order, unless

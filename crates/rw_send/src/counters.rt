@@ -4,7 +4,7 @@ ghost use Rattle.std.specs.Prelude.{◌≡◌, None};
 ghost use Rattle.rw_wal_format.specs.Pieces.{entries};
 ghost use Rattle.rw_sender.specs.Shipping.{PlacesAll};
 
-use rw_ledger::{Ledger, Reason};
+use rw_ledger::Reason;
 use rw_metrics::{SendCounters, Skipped};
 use rw_sender::{Connect, Report, Shipper};
 use rw_wal_tail::SkippedType;
@@ -48,9 +48,9 @@ pub fn update_counters<C: Connect + Drop>(counters: &SendCounters, shipper: &Shi
     counters.drop_unsent(shipper.dropped().iter().as_slice());
 }
 
-/// Counts what a stopped worker has dropped: the samples of the batches that were refused.
-fn count_refused(counters: &SendCounters, part: &Ledger) {
-    for name in part.iter() {
+/// Counts what stopped workers have dropped: the samples of the batches that were refused.
+fn count_refused(counters: &SendCounters, names: &[(u64, Reason)]) {
+    for name in names {
         if let Reason::Status(_) = name.1 {
             counters.drop_sample(name.1);
         }
@@ -60,12 +60,9 @@ fn count_refused(counters: &SendCounters, part: &Ledger) {
 /// Counts how far a stopped shipper came, and what its workers dropped. What was dropped and
 /// filtered of the log was counted before.
 pub(crate) fn count_report<T>(counters: &SendCounters, report: &Report<T>) {
-    for part in &report.parts {
-        count_refused(counters, part);
+    count_refused(counters, report.ended.refused_before());
+    for shard in report.ended.kept() {
+        count_refused(counters, shard.part.iter().as_slice());
     }
-    let mut resolved = 0u64;
-    for worker in &report.workers {
-        resolved = resolved.saturating_add(worker.resolved);
-    }
-    counters.set_resolved(resolved);
+    counters.set_resolved(report.ended.resolved());
 }

@@ -4,32 +4,24 @@ ghost use Rattle.std.specs.Prelude.{◌≡◌, ◌++◌, ◌⊎◌, ℕ, List, f
 ghost use Rattle.std.specs.Io.KnownBytes.{Appends};
 ghost use Rattle.rw_shard_core.specs.Endings.{ending_of};
 ghost use Rattle.rw_state_text.specs.StateText.{dropped_text};
-ghost use Rattle.rw_send.specs.ReportText.{AreByPosition, IsEnding, IsTextOf, WritesReportPart, names_in_parts};
+ghost use Rattle.rw_fleet.specs.Stopped.{names_in_parts};
+ghost use Rattle.rw_sender.specs.Reports.{parts_of};
+ghost use Rattle.rw_send.specs.ReportText.{AreByPosition, IsEnding, IsTextOf, WritesReportPart};
 ghost use Rattle.rw_text.specs.declared.tool_fault.ToolFault.TheVariants.{OutOfMemory, Device};
 
-use rw_ledger::{Ledger, Reason};
+use rw_ledger::Reason;
 use rw_sender::{Outcome, Report};
 use rw_state_text::{push_dropped, push_ending, push_filtered};
 use rw_text::ToolFault;
 use rw_types::{Sink, write_all};
 use std::alloc::{AllocError, Global};
 
-/// Returns the dropped samples of all parts.
-fn all_names(alloc: Global, parts: &[Ledger]) -> Result<Vec<(u64, Reason)>, AllocError>
-    ensures { IfOk result (λ names. names.items ≡ names_in_parts parts.now) }
+/// Returns the dropped samples of a report, by position.
+fn names_by_position<T>(alloc: Global, report: &Report<T>) -> Result<Vec<(u64, Reason)>, AllocError>
+    ensures { IfOk result
+        (λ names. AreByPosition (names_in_parts (parts_of report.now)) names.items) }
 {
-    let mut names = Vec::new(alloc);
-    for part in parts {
-        names.extend_from_slice(part.iter().as_slice())?;
-    }
-    Ok(names)
-}
-
-/// Returns the dropped samples of all parts, by position.
-fn names_by_position(alloc: Global, parts: &[Ledger]) -> Result<Vec<(u64, Reason)>, AllocError>
-    ensures { IfOk result (λ names. AreByPosition (names_in_parts parts.now) names.items) }
-{
-    let mut names = all_names(alloc, parts)?;
+    let mut names = report.dropped_samples(alloc)?;
     names.sort_unstable_by_key(|name| name.0);
     Ok(names)
 }
@@ -65,14 +57,12 @@ fn push_all_dropped(out: &mut Vec<u8>, names: &[(u64, Reason)]) -> Result<(), Al
 fn text_of<T: Drop>(alloc: Global, report: Report<T>) -> Result<Vec<u8>, AllocError>
     ensures { IfOk result (λ text. IsTextOf report text.items) }
 {
+    let names = names_by_position(alloc, &report)?;
     let Report {
         outcome,
-        parts,
         filtered,
-        workers,
+        ..
     } = report;
-    drop(workers);
-    let names = names_by_position(alloc, &parts)?;
     let outcome = by_position(outcome);
     let mut text = Vec::new(alloc);
     push_all_dropped(&mut text, &names)?;

@@ -3,7 +3,7 @@
 ghost use Rattle.std.specs.Prelude.{◌≡◌, ◌⊎◌, ℕ, None, Some, map, Ok, Err, true, false, IfOk, IfErr, IfSome, IsOk, OnOk, is_some};
 ghost use Rattle.rw_wal_format.specs.declared.tail_fault.TailFault.{TailFault};
 ghost use Rattle.rw_fleet.specs.Fleets.{EndBy};
-ghost use Rattle.rw_sender.specs.Reports.{IsAbandoned, ListsCut, end_kind};
+ghost use Rattle.rw_sender.specs.Reports.{IsAbandoned, ListsCut, end_kind, workers_of};
 ghost use Rattle.rw_sender.specs.Shipping.{HasStopped};
 ghost use Rattle.rw_text.specs.declared.tool_fault.ToolFault.{ToolFault};
 ghost use Rattle.rw_text.specs.declared.tool_fault.ToolFault.TheVariants.{OutOfMemory, Log, Line, SegmentFull, Device};
@@ -68,9 +68,9 @@ pub(crate) fn stop_shipper<R: Threads + Wait, C: Connect + Drop>(
     requires live { OnOk shipped (shipper.fault ≡ None) }
     ensures stopped { HasStopped C.T.tells C.T.seen C.T.is_for shipper result.report }
     ensures ended { EndBy (end_kind (is_some (hard_fault shipped))) shipper.fleet
-        result.report.workers.items }
+        (workers_of result.report) }
     ensures cut { hard_fault shipped ≡ None → IsAbandoned result.report.outcome
-        → ListsCut result.report.workers.items }
+        → ListsCut (workers_of result.report) }
     ensures answers { Answers (IsOk shipped)
         (hard_fault shipped ≡ Some Device) result.report.outcome result.answer }
     ensures hard { (f : ToolFault) → hard_fault shipped ≡ Some f

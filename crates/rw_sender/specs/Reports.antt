@@ -1,21 +1,22 @@
--- What a report lists, and the room for it.
-use Rattle.std.specs.Prelude.{slice_get, false, ◌≡◌, ◌+◌, ℕ, Bool, true, List, [], ◌∷◌, ◌++◌, Some, ⊤}
+-- What a report lists.
+use Rattle.std.specs.Prelude.{slice_get, false, ◌≡◌, ℕ, Bool, true, List, ◌∷◌, map, Some, ⊤}
 use Rattle.rw_ledger.specs.Names.{Named}
 use Rattle.rw_shard_core.specs.declared.outcome.Outcome.{Outcome}
 use Rattle.rw_shard_core.specs.declared.outcome.Outcome.TheVariants.{Complete, Abandoned, Damaged}
 use Rattle.rw_plain_queue.specs.declared.item.Kind.{Kind}
 use Rattle.rw_plain_queue.specs.declared.item.Kind.TheVariants.{Orderly, Hard}
-use Rattle.rw_fleet.specs.Work.{IsCut}
-use Rattle.rw_fleet.specs.declared.joined.StoppedShard.{StoppedShard}
+use Rattle.rw_fleet.specs.Work.{IsCut, finished_of}
 use Rattle.rw_fleet.specs.declared.joined.Finished.{Finished}
+pub use Rattle.rw_fleet.specs.Stopped.{part_of, abandoned_in}
+use Rattle.rw_sender.specs.declared.report.Report.{Report}
 
-abbrev pub part_of : {T : Type 0} → StoppedShard T → Named
-part_of j = j.part
+-- each queue of each epoch, as its worker left it
+abbrev pub workers_of : {T : Type 0} → Report T → List (Finished T)
+workers_of r = map finished_of r.ended.items
 
--- the positions of the samples that shards were put and that are not resolved
-abbrev pub abandoned_in : {T : Type 0} → List (StoppedShard T) → List ℕ
-abandoned_in [] = []
-abandoned_in (j ∷ js) = j.abandoned.items ++ abandoned_in js
+-- the samples that were dropped without being put, and then for each queue its refused samples
+abbrev pub parts_of : {T : Type 0} → Report T → List Named
+parts_of r = r.dropped ∷ map part_of r.ended.items
 
 -- by which End the shards are ended
 abbrev pub end_kind : Bool → Kind

@@ -17,7 +17,7 @@ use Rattle.rw_sender.specs.Feeders.{Sorting, HasRead}
 use Rattle.rw_sender.specs.Logs.{sent, named, dropped, filtered}
 use Rattle.rw_sender.specs.Placement.{IsPlacing, ArePlaced}
 use Rattle.rw_sender.specs.declared.report.Report.{Report}
-use Rattle.rw_sender.specs.Reports.{part_of, abandoned_in}
+use Rattle.rw_sender.specs.Reports.{part_of, abandoned_in, workers_of, parts_of}
 use Rattle.rw_sender.specs.declared.shipper.FeedFault.{FeedFault}
 use Rattle.rw_sender.specs.declared.shipper.FeedFault.TheVariants.{OutOfMemory, Damaged, Gone}
 
@@ -72,8 +72,8 @@ HasEndedAs s js (outcome.Abandoned placed samples) = (placed ≡ length s.log.pl
 pub record HasStopped {T : Type 0} (tells : T → Type 0) (seen : T → List Exchange) (is_for : ℕ → ℕ → T → Type 0) (s : Shipping T) (r : Report T) : Type 0 where
   pub joined : List (StoppedShard T)
   pub own : Named
-  pub workers : r.workers.items ≡ map finished_of joined
-  pub parts : r.parts.items ≡ own ∷ map part_of joined
+  pub workers : workers_of r ≡ map finished_of joined
+  pub parts : parts_of r ≡ own ∷ map part_of joined
   pub samples : ArePlaced (map lane_of joined) (sent s.log.choice s.log.placed)
   pub worked : AreWorked tells seen is_for joined
   pub setup : AreSetUp s.fleet.config (map lane_of joined)

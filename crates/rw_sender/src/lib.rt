@@ -9,17 +9,19 @@ mod bytes_laws;
 mod cuts;
 mod feeder;
 mod laws;
-mod lists;
 mod place;
 mod report;
 mod shipper;
+mod unresolved;
 
 pub use bytes_laws::{body_within_its_count, cuts_keep_within, marks_keep_within};
 pub use cuts::Cuts;
 pub use feeder::{Feeder, Next};
 pub use laws::{batches_are_short, queues_stay_within, samples_are_spread};
 pub use report::Report;
-pub use rw_fleet::{Connect, Ends, Fault, Fed, Finished, Load, Resolution, ShardSet, StoppedShard};
+pub use rw_fleet::{
+    Connect, Ends, Fault, Fed, Finished, Load, Resolution, ShardSet, StoppedShard, StoppedShards,
+};
 pub use rw_shard_core::{
     Attempt, Config, ConfigFields, MAX_FIELDS, MAX_HEAD_BYTES, Outcome, ReplyRead, ShardCore,
     Target, read_reply, request_bytes,

@@ -12,15 +12,15 @@ ghost use Rattle.rw_sender.specs.Logs.{named, dropped, filtered};
 ghost use Rattle.rw_shard_core.specs.Configs.{choice_of};
 ghost use Rattle.rw_sender.specs.Cutting.{AreCutBy};
 ghost use Rattle.rw_sender.specs.Placement.{AreKept};
-ghost use Rattle.rw_sender.specs.Reports.{IsAbandoned, ListsCut, end_kind};
+ghost use Rattle.rw_sender.specs.Reports.{IsAbandoned, ListsCut, end_kind, workers_of};
 ghost use Rattle.rw_sender.specs.inner.Reports.{IsAbandonedAt, end_of};
 ghost use Rattle.rw_sender.specs.Shipping.{feed_fault_of, FailsBy, Feeds, Joins, HasCompared, HasStopped, PlacesAll};
 
 use crate::cuts::Cuts;
 use crate::feeder::Feeder;
-use crate::lists::{Lists, finish_listed, open_listed};
 use crate::place::place_all;
 use crate::report::Report;
+use crate::unresolved::{finish_listed, open_listed};
 use rw_fleet::{Connect, Fault, Load, Resolution, ShardSet};
 use rw_ledger::Ledger;
 use rw_relabel::{Choice, Rules};
@@ -145,7 +145,8 @@ fn split_choice(alloc: Global, config: Config) -> (Config, Choice)
 pub struct Shipper<C: Connect + Drop> {
     feeder: Feeder,
     fleet: ShardSet<C>,
-    lists: Lists<C::T>,
+    /// Has room for the positions of the samples that may not be resolved.
+    samples: Vec<u64>,
     cuts: Cuts,
     /// Why it has failed.
     fault: Option<Fault>,
@@ -175,7 +176,7 @@ impl<C: Connect + Drop> Model for Shipper<C> {
         × IsReady s.feeder s.fleet s.fault
         × IsRead s.feeder s.fault s.damage
         × IsReckoned s.cuts s.fleet s.fault
-        × IsRoomFor s.fleet s.lists };
+        × IsRoomFor s.fleet s.samples };
 }
 
 impl<C: Connect + Drop> Shipper<C> {
@@ -226,16 +227,16 @@ impl<C: Connect + Drop> Shipper<C> {
         let shards = config.fields().shards.get() as u32;
         let (config, choice) = split_choice(alloc, config);
         let cuts = Cuts::within(alloc, limit)?;
-        let mut lists = Lists::new(alloc)?;
+        let mut samples = Vec::new(alloc);
         let mut fleet = ShardSet::new(alloc, config, connect, stop);
-        if open_listed(rt, &mut fleet, &mut lists, shards).is_err() {
+        if open_listed(rt, &mut fleet, &mut samples, shards).is_err() {
             let _ = fleet.finish(rt, Kind::Hard);
             return Err(AllocError);
         }
         Ok(Shipper {
             feeder: Feeder::new(alloc, choice),
             fleet,
-            lists,
+            samples,
             cuts,
             fault: None,
             damage: None,
@@ -354,7 +355,7 @@ impl<C: Connect + Drop> Shipper<C> {
             self.fault = Some(Fault::Gone);
             return Err(FeedFault::Gone);
         };
-        if open_listed(rt, &mut self.fleet, &mut self.lists, shards).is_err() {
+        if open_listed(rt, &mut self.fleet, &mut self.samples, shards).is_err() {
             self.fault = Some(Fault::OutOfMemory);
             return Err(FeedFault::OutOfMemory);
         }
@@ -413,33 +414,28 @@ impl<C: Connect + Drop> Shipper<C> {
         requires placed { placed ≡ length self.log.placed }
         requires ready { is_hard ≡ false → self.fault ≡ None }
         ensures stopped { HasStopped C.T.tells C.T.seen C.T.is_for self result }
-        ensures ended { EndBy (end_kind is_hard) self.fleet result.workers.items }
+        ensures ended { EndBy (end_kind is_hard) self.fleet (workers_of result) }
+        ensures folded { result.ended.folded ≤ length self.fleet.ended }
         ensures hard { is_hard ≡ true → IsAbandoned result.outcome }
-        ensures cut { is_hard ≡ false → IsAbandoned result.outcome → ListsCut result.workers.items }
+        ensures cut { is_hard ≡ false → IsAbandoned result.outcome → ListsCut (workers_of result) }
     {
         let Shipper {
             feeder,
             fleet,
-            lists,
+            samples,
             cuts: _,
             fault: _,
             damage,
         } = self;
-        let (part, filtered) = feeder.finish();
+        let (dropped, filtered) = feeder.finish();
         let kind = kind_of(is_hard);
-        let (lists, resolution) = finish_listed(rt, fleet, lists, kind, part);
-        let Lists {
-            room: _,
-            parts,
-            workers,
-            samples,
-        } = lists;
+        let (ended, samples, resolution) = finish_listed(rt, fleet, samples, kind);
         let outcome = outcome_of(is_hard, resolution, placed, damage, samples);
         Report {
             outcome,
-            parts,
+            dropped,
             filtered,
-            workers,
+            ended,
         }
     }
 
@@ -448,10 +444,11 @@ impl<C: Connect + Drop> Shipper<C> {
     pub fn stop_orderly<R: Threads + Wait>(self, rt: &R, end: u64) -> Report<C::T>
         requires { end ≡ length self.log.placed }
         ensures stopped { HasStopped C.T.tells C.T.seen C.T.is_for self result }
-        ensures ended { EndBy (end_kind (is_some self.fault)) self.fleet result.workers.items }
+        ensures ended { EndBy (end_kind (is_some self.fault)) self.fleet (workers_of result) }
+        ensures folded { result.ended.folded ≤ length self.fleet.ended }
         ensures failed { IfSome self.fault (λ _. IsAbandoned result.outcome) }
         ensures cut { self.fault ≡ None → IsAbandoned result.outcome
-            → ListsCut result.workers.items }
+            → ListsCut (workers_of result) }
     {
         let is_hard = self.fault.is_some();
         self.stop(rt, is_hard, end)
@@ -460,7 +457,8 @@ impl<C: Connect + Drop> Shipper<C> {
     /// Ends all shards at once, and waits for their workers.
     pub fn stop_hard<R: Threads + Wait>(self, rt: &R) -> Report<C::T>
         ensures stopped { HasStopped C.T.tells C.T.seen C.T.is_for self result }
-        ensures ended { EndBy Kind.Hard self.fleet result.workers.items }
+        ensures ended { EndBy Kind.Hard self.fleet (workers_of result) }
+        ensures folded { result.ended.folded ≤ length self.fleet.ended }
         ensures hard { IsAbandoned result.outcome }
     {
         let placed = self.entries_read();

@@ -33,7 +33,7 @@ use Rattle.rw_fleet.specs.Work.{lane_of}
 use Rattle.rw_fleet.specs.declared.joined.StoppedShard.{StoppedShard}
 use Rattle.rw_fleet.specs.declared.running.Fault.{Fault}
 use Rattle.rw_sender.specs.Placement.{AreTurned, IsShardCount}
-use Rattle.rw_sender.specs.Reports.{IsAbandoned}
+use Rattle.rw_sender.specs.Reports.{IsAbandoned, workers_of}
 use Rattle.rw_sender.specs.Shipping.{Shipping, HasEndedAs, PlacesAll}
 use Rattle.rw_sender.specs.declared.report.Report.{Report}
 use Rattle.rw_simulation.specs.Arrivals.{Arrival, IsOneReceiver, Receives}
@@ -118,6 +118,12 @@ pub placed_from : {T : Type 0} (s : Shipping T) (before : Shards T) → (before 
 placed_from {T} s before (inl same) placed = subst (λ (f : Shards T). PlacesAll s.log f) (sym same) placed
 placed_from s before (inr (none, were, placed)) now = placed
 
+-- one of the shards of an epoch
+some_shard : {T : Type 0} (lanes : List ShardHistory) (more : List (StoppedShard T)) → 1 ≤ length lanes → AreSame lanes (map lane_of more) → StoppedShard T
+some_shard [] more some same = absurd (omega (arith, some))
+some_shard (l ∷ ls) [] some same = absurd same
+some_shard (l ∷ ls) (j ∷ js) some same = j
+
 module _ {T : Type 0} (tells : T → Type 0) (seen : T → List Exchange) (is_for : ℕ → ℕ → T → Type 0)
     (in_order : (s : Shipping T) (r : Report T) → ReceivesInOrder tells seen is_for s r)
     (abandoned : (s : Shipping T) (r : Report T) → ReceivesAbandoned tells seen is_for s r)
@@ -146,10 +152,10 @@ module _ {T : Type 0} (tells : T → Type 0) (seen : T → List Exchange) (is_fo
   one : (n : ℕ) → IsOneReceiver (machine n) comes.exchanges comes.arrivals comes.heads
   one n = one_for (machine_of c comes.limits comes.max_body comes.busy) n comes.exchanges comes.arrivals comes.heads comes.one
 
-  fed : (qs : List Piece) × (ps ≡ map piece_of qs)
-  fed = fed_as (vec_allocator r.workers) ps short
+  fed : (f : Shards T) → 1 ≤ length f.current → AreAll f report.stopped.joined → (qs : List Piece) × (ps ≡ map piece_of qs)
+  fed f some all = fed_as (vec_allocator (some_shard f.current all.0 some all.2).abandoned) ps short
 
-  orderly : (IsAbandoned r.outcome → ⊥) → EndsFor cause s r → EndBy Orderly s.fleet r.workers.items
+  orderly : (IsAbandoned r.outcome → ⊥) → EndsFor cause s r → EndBy Orderly s.fleet (workers_of r)
   orderly left (inl by) = by
   orderly left (inr (by, abandoned, why)) = absurd (left abandoned)
 
@@ -157,8 +163,9 @@ module _ {T : Type 0} (tells : T → Type 0) (seen : T → List Exchange) (is_fo
   of_all left =
       let number : IsShardCount (length s.fleet.current) = report.number (none_of s.fault (λ some. left (report.failed some))) in
       let n = first_number report.placed.epochs s.fleet.current in
+      let pieces = fed s.fleet number.0 report.stopped.all in
       subst (λ (st : Store). IsHeld s r st) comes.last
-      (in_order s r (machine n) fed.0 report.stopped report.placed (is_machine n) (can_work n (first_some report.placed.epochs s.fleet.current report.placed.turned number)) (report.pieces_are ∙ fed.1) number refl
+      (in_order s r (machine n) pieces.0 report.stopped report.placed (is_machine n) (can_work n (first_some report.placed.epochs s.fleet.current report.placed.turned number)) (report.pieces_are ∙ pieces.1) number refl
       (orderly left report.ended) left comes.exchanges comes.arrivals comes.heads comes.of_workers (one n))
 
   of_some : IsAbandoned r.outcome → length s.fleet.current ≤ 1000 → IsHeld s r store
@@ -167,9 +174,11 @@ module _ {T : Type 0} (tells : T → Type 0) (seen : T → List Exchange) (is_fo
       let number : IsShardCount (length last.before.current) = (last.some, last.few few) in
       let placed = placed_from s last.before last.is report.placed in
       let n = first_number placed.epochs last.before.current in
+      let all = all_from s last.before report.stopped.joined last.is report.stopped.all in
+      let pieces = fed last.before last.some all in
       subst (λ (st : Store). IsHeld s r st) comes.last
-      (abandoned s r (machine n) fed.0 report.stopped last.before placed (is_machine n) (can_work n (first_some placed.epochs last.before.current placed.turned number)) (report.pieces_are ∙ fed.1)
-      (all_from s last.before report.stopped.joined last.is report.stopped.all) last.resolved number refl is comes.exchanges comes.arrivals comes.heads comes.of_workers (one n))
+      (abandoned s r (machine n) pieces.0 report.stopped last.before placed (is_machine n) (can_work n (first_some placed.epochs last.before.current placed.turned number)) (report.pieces_are ∙ pieces.1)
+      all last.resolved number refl is comes.exchanges comes.arrivals comes.heads comes.of_workers (one n))
 
   held : (o : Outcome) → r.outcome ≡ o → (IsAbandoned r.outcome → length s.fleet.current ≤ 1000) → IsHeld s r store
   held (Complete end) is few = of_all (λ left. subst IsAbandoned is left)

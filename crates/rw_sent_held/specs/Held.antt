@@ -15,7 +15,7 @@ use Rattle.rw_head.specs.Verdicts.{LabelLimits}
 use Rattle.rw_machine.specs.Worlds.{Setup}
 use Rattle.rw_machine.specs.Promises.{owed, pair_of}
 use Rattle.rw_worker.specs.Transcript.{Exchange}
-use Rattle.rw_sender.specs.Reports.{IsAbandoned}
+use Rattle.rw_sender.specs.Reports.{IsAbandoned, parts_of}
 use Rattle.rw_sender.specs.Shipping.{Shipping, HasStopped}
 use Rattle.rw_sender.specs.declared.report.Report.{Report}
 use Rattle.rw_simulation.specs.Arrivals.{Arrival, IsOneReceiver}
@@ -62,7 +62,7 @@ pub record ComesToOne {T : Type 0} (tells : T → Type 0) (seen : T → List Exc
 pub record HoldsAllOf {T : Type 0} (c : ConfigFields) (pieces : List Piece) (r : Report T)
     (store : Store) : Type 0 where
   pub names : FinMap nat_cmp Reason
-  pub named : NamesAll names r.parts.items
+  pub named : NamesAll names (parts_of r)
   pub each : (l : Labels)
       → list_of store l ≡ map pair_of (owed names (kept_points (choice_of c) (entries pieces) l))
 

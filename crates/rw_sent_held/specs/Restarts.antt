@@ -34,6 +34,7 @@ use Rattle.rw_text.specs.declared.tool_fault.ToolFault.{ToolFault}
 use Rattle.rw_send.specs.declared.follow_fault.FollowFault.{FollowFault}
 use Rattle.rw_send.specs.Sending.{IsSent}
 use Rattle.rw_send.specs.Following.{IsFollowed}
+use Rattle.rw_sender.specs.Reports.{parts_of}
 use Rattle.rw_sent_held.specs.Held.{machine_of}
 
 -- ---- one run of a sender
@@ -90,7 +91,7 @@ pub record IsFedUnlisted {T : Type 0} (c : ConfigFields) (pieces : List Piece) (
   pub fed : slice_get (entries pieces) p ≡ Some (Sample reference x.0 x.1)
   pub kept : known (choice_of c) (take p (entries pieces)) reference ≡ Kept l
   pub settled : IsSettledBy r.outcome p
-  pub not_dropped : (reason : Reason) → IsNamedIn r.parts.items p reason → ⊥
+  pub not_dropped : (reason : Reason) → IsNamedIn (parts_of r) p reason → ⊥
 
 -- what a receiver held is in its place, each list rises, and each such sample is held
 pub record HasAddedFed {T : Type 0} (c : ConfigFields) (pieces : List Piece) (r : Report T)

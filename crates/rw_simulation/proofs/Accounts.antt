@@ -18,6 +18,7 @@ use Rattle.rw_machine.specs.Promises.{Accounted, AccountedEntry, HasOneClassEach
 use Rattle.rw_machine.proofs.shared.Classes.{get_left}
 use Rattle.rw_simulation.specs.FreeLaws.{world_of}
 use Rattle.rw_simulation.specs.StoppedRuns.{ComesTo}
+use Rattle.rw_sender.specs.Reports.{parts_of}
 use Rattle.rw_simulation.specs.Accounts.{IsNamedAs, AccountedAs, AccountsForAll, RunAccounts}
 
 at_most : (p n : ℕ) → p < n → p ≤ n
@@ -27,7 +28,7 @@ module _ {T : Type 0} (tells : T → Type 0) (seen : T → List Exchange) (is_fo
   log_is : log w ≡ s.log.placed ++ h.read.0
   log_is = ap entries comes.log ∙ h.read.1
 
-  named-as : (p : ℕ) (named : Option Reason) → get w.names p ≡ named → IsNamedAs r.parts.items p named
+  named-as : (p : ℕ) (named : Option Reason) → get w.names p ≡ named → IsNamedAs (parts_of r) p named
   named-as p None e = λ reason n. none-some reason (sym e ∙ (comes.names p reason).1 n)
   named-as p (Some reason) e = ((comes.names p reason).0 e, λ other n. same_Some _ _ (sym ((comes.names p other).1 n) ∙ e))
 

@@ -12,6 +12,7 @@ use Rattle.rw_sender.specs.Shipping.{Shipping, HasStopped}
 use Rattle.rw_sender.specs.declared.report.Report.{Report}
 use Rattle.rw_machine.specs.Worlds.{Setup}
 use Rattle.rw_machine.specs.Promises.{Accounted}
+use Rattle.rw_sender.specs.Reports.{parts_of}
 use Rattle.rw_simulation.specs.StoppedRuns.{IsMachineOf, IsNamedIn, IsRun}
 
 -- the parts do not name the position, or name it with this reason alone
@@ -28,8 +29,8 @@ AccountedAs choice placed p named (Some (Sample r t word)) = Accounted named (λ
 
 -- each entry placed is in one class over all parts of the report, and the parts name nothing else
 pub record AccountsForAll {T : Type 0} (s : Shipping T) (r : Report T) : Type 0 where
-  pub each : (p : ℕ) → p < length s.log.placed → (named : Option Reason) × IsNamedAs r.parts.items p named × AccountedAs s.log.choice s.log.placed p named (slice_get s.log.placed p)
-  pub no_other : (p : ℕ) → (p < length s.log.placed → ⊥) → IsNamedAs r.parts.items p None
+  pub each : (p : ℕ) → p < length s.log.placed → (named : Option Reason) × IsNamedAs (parts_of r) p named × AccountedAs s.log.choice s.log.placed p named (slice_get s.log.placed p)
+  pub no_other : (p : ℕ) → (p < length s.log.placed → ⊥) → IsNamedAs (parts_of r) p None
 
 -- the same for the report of each shipper that is a run of the machine
 abbrev pub RunAccounts : {T : Type 0} → (T → Type 0) → (T → List Exchange) → (ℕ → ℕ → T → Type 0) → Shipping T → Report T → Type 0

@@ -27,7 +27,7 @@ use Rattle.rw_fleet.specs.Work.{AreResolved, AreWorked}
 use Rattle.rw_fleet.specs.Fleets.{Shards, AreAll, EndBy}
 use Rattle.rw_fleet.specs.declared.joined.StoppedShard.{StoppedShard}
 use Rattle.rw_sender.specs.Placement.{IsShardCount}
-use Rattle.rw_sender.specs.Reports.{IsAbandoned}
+use Rattle.rw_sender.specs.Reports.{IsAbandoned, parts_of, workers_of}
 use Rattle.rw_sender.specs.Shipping.{Shipping, PlacesAll, HasStopped}
 use Rattle.rw_sender.specs.declared.report.Report.{Report}
 use Rattle.rw_machine.specs.Worlds.{Setup}
@@ -64,7 +64,7 @@ owed_of_placed s names l = owed names (kept_points_below s.log.choice (entries s
 -- as left nor names (`settled`).
 pub record IsHeld {T : Type 0} (s : Shipping T) (r : Report T) (store : Store) : Type 0 where
   pub names : FinMap nat_cmp Reason
-  pub named : NamesAll names r.parts.items
+  pub named : NamesAll names (parts_of r)
   pub in_order : (l : Labels) → Begins (list_of store l) (map pair_of (owed names (kept_points s.log.choice (entries s.log.pieces) l)))
   pub of_placed : (l : Labels) → Begins (list_of store l) (map pair_of (owed_of_placed s names l))
   pub owed_rises : (l : Labels) → Rises IsEarlier (map pair_of (owed_of_placed s names l))
@@ -77,7 +77,7 @@ pub record IsHeld {T : Type 0} (s : Shipping T) (r : Report T) (store : Store) :
 abbrev pub ReceivesInOrder : {T : Type 0} → (T → Type 0) → (T → List Exchange) → (ℕ → ℕ → T → Type 0) → Shipping T → Report T → Type 0
 ReceivesInOrder tells seen is_for s r =
     (c : Setup) (fed : List Piece) (h : HasStopped tells seen is_for s r) (p : PlacesAll s.log s.fleet) → IsMachineOf c s → CanWork c → s.log.pieces ≡ map piece_of fed → IsShardCount (length s.fleet.current) → first_number p.epochs s.fleet.current ≡ c.shards
-    → EndBy Orderly s.fleet r.workers.items → (IsAbandoned r.outcome → ⊥)
+    → EndBy Orderly s.fleet (workers_of r) → (IsAbandoned r.outcome → ⊥)
     → (exchanges : ℕ → ℕ → List Exchange) (arrivals : List Arrival) (heads : ℕ → State) → AreExchangesOf tells seen is_for h.joined h.worked exchanges → IsOneReceiver c exchanges arrivals heads → IsHeld s r (heads (length arrivals)).store
 
 -- and of every shipper that abandoned what was left, however it was stopped: a prefix of them.

@@ -21,7 +21,7 @@ use Rattle.rw_fleet.specs.Fleets.{Shards, AreAll, EndBy}
 use Rattle.rw_fleet.specs.declared.joined.Finished.{Finished}
 use Rattle.rw_sender.specs.Logs.{sent}
 use Rattle.rw_sender.specs.Placement.{IsShardCount, Places, joined_epochs}
-use Rattle.rw_sender.specs.Reports.{IsAbandoned}
+use Rattle.rw_sender.specs.Reports.{IsAbandoned, parts_of, workers_of}
 use Rattle.rw_sender.specs.Shipping.{Shipping, PlacesAll, HasStopped}
 use Rattle.rw_sender.specs.declared.report.Report.{Report}
 use Rattle.rw_machine.specs.Shards.{Shard}
@@ -105,11 +105,11 @@ pub record ComesTo {T : Type 0} (tells : T → Type 0) (seen : T → List Exchan
   pub filtered : w.filtered ≡ r.filtered
   pub earlier : List (Finished T)
   pub last : List (Finished T)
-  pub workers : r.workers.items ≡ earlier ++ last
+  pub workers : workers_of r ≡ earlier ++ last
   pub shards : length w.shards ≡ length last
   pub each : (k : ℕ) (m : Shard) (f : Finished T) → slice_get w.shards k ≡ Some m → slice_get last k ≡ Some f → IsAlike f m
-  pub names : NamesAll w.names r.parts.items
-  pub requests : SendsAll tells seen w.requests r.workers.items
+  pub names : NamesAll w.names (parts_of r)
+  pub requests : SendsAll tells seen w.requests (workers_of r)
   pub outcome_is : Tells r.outcome (report w)
 
 -- some free schedule of the machine leads there, and the machine's laws are true of it
@@ -133,7 +133,7 @@ first_number (lanes ∷ later) current = length lanes
 abbrev pub StopsInOrder : {T : Type 0} → (T → Type 0) → (T → List Exchange) → (ℕ → ℕ → T → Type 0) → Shipping T → Report T → Type 0
 StopsInOrder tells seen is_for s r =
     (c : Setup) (fed : List Piece) (h : HasStopped tells seen is_for s r) (p : PlacesAll s.log s.fleet) → IsMachineOf c s → CanWork c → s.log.pieces ≡ map piece_of fed → IsShardCount (length s.fleet.current) → first_number p.epochs s.fleet.current ≡ c.shards
-    → EndBy Orderly s.fleet r.workers.items → (IsAbandoned r.outcome → ⊥) → IsRun tells seen c s r
+    → EndBy Orderly s.fleet (workers_of r) → (IsAbandoned r.outcome → ⊥) → IsRun tells seen c s r
 
 -- The same for every shipper that abandoned what was left, however it was stopped. `before` is the
 -- fleet as it was before its last shards were ended: that of the shipper, with the shards that a

@@ -22,12 +22,7 @@ const BOTH_OF_UP: &[u8] = &[
     0x0b, 0x09, 0x00, 0x00, 0x00, 0x00, 0x00, 0x00, 0x00, 0x40, 0x10, 0x14,
 ];
 
-/// The messages of the sample 1 at 10 ms and of the sample 2 at 20 ms of the series `c`.
-const FIRST_OF_C: &[u8] = &[
-    0x0a, 0x1c, 0x0a, 0x0d, 0x0a, 0x08, 0x5f, 0x5f, 0x6e, 0x61, 0x6d, 0x65, 0x5f, 0x5f, 0x12, 0x01,
-    0x63, 0x12, 0x0b, 0x09, 0x00, 0x00, 0x00, 0x00, 0x00, 0x00, 0xf0, 0x3f, 0x10, 0x0a,
-];
-
+/// The message of the sample 2 at 20 ms of the series `c`.
 const SECOND_OF_C: &[u8] = &[
     0x0a, 0x1c, 0x0a, 0x0d, 0x0a, 0x08, 0x5f, 0x5f, 0x6e, 0x61, 0x6d, 0x65, 0x5f, 0x5f, 0x12, 0x01,
     0x63, 0x12, 0x0b, 0x09, 0x00, 0x00, 0x00, 0x00, 0x00, 0x00, 0x00, 0x40, 0x10, 0x14,
@@ -40,8 +35,8 @@ struct Row<'a> {
     /// For how many receivers there is memory.
     receivers: u64,
     wanted: Wanted<'a>,
-    /// The bodies that the first and the last receiver get, each in one request; an empty one means
-    /// no request.
+    /// The bodies that the first and the last receiver of the last epoch get, each in one request;
+    /// an empty one means no request.
     sent: Option<(&'a [u8], &'a [u8])>,
     loads: Option<&'a [Load]>,
 }
@@ -117,7 +112,7 @@ static ALL_SENT: Row<'static> = Row {
         faults: &[None, None],
         ending: Ending::Complete(3),
         named: &[],
-        resolved: &[2, 0],
+        resolved: &[0, 2, 0],
         stopped: 0,
     },
     sent: Some((BOTH_OF_UP, &[])),
@@ -142,8 +137,8 @@ static NAMED: Row<'static> = Row {
     wanted: Wanted {
         faults: &[None],
         ending: Ending::Complete(3),
-        named: &[(0, 1, Reason::NoSeries), (1, 2, Reason::Status(400))],
-        resolved: &[1, 0],
+        named: &[(0, 1, Reason::NoSeries), (2, 2, Reason::Status(400))],
+        resolved: &[0, 1, 0],
         stopped: 0,
     },
     sent: None,
@@ -200,10 +195,10 @@ static ONE_SERIES: Row<'static> = Row {
         faults: &[None, None, None, None],
         ending: Ending::Complete(6),
         named: &[],
-        resolved: &[1, 0, 0, 0, 1],
+        resolved: &[1, 0, 0, 1],
         stopped: 0,
     },
-    sent: Some((FIRST_OF_C, SECOND_OF_C)),
+    sent: Some((&[], SECOND_OF_C)),
     loads: Some(&[ONE_OF_ONE, ONE_OF_ONE, ONE_OF_ONE, TWO_OF_TWO]),
 };
 
@@ -212,6 +207,45 @@ static ONE_SERIES: Row<'static> = Row {
 #[test]
 fn one_series_goes_on_in_the_next_epoch(rt: HostRuntime) {
     assert!(rt; does(&rt, rt.alloc(), &ONE_SERIES));
+}
+
+/// In the first epoch two shards have a sample each, in the second one the first of three.
+static REFUSED_BEFORE: Row<'static> = Row {
+    task: Task {
+        shards: 2,
+        batch: 2_000,
+        calls: &[
+            Feed(&FOUR, &[(1, 10, ONE), (2, 10, ONE)], None),
+            Reshard(3),
+            NextSegment,
+            Feed(&[], &[(3, 20, ONE)], None),
+            Reshard(2),
+        ],
+        stop: Stop::Orderly,
+        limit: None,
+    },
+    status: 400,
+    receivers: u64::MAX,
+    wanted: Wanted {
+        faults: &[None, None, None, None, None],
+        ending: Ending::Complete(7),
+        named: &[
+            (1, 4, Reason::Status(400)),
+            (1, 5, Reason::Status(400)),
+            (1, 6, Reason::Status(400)),
+        ],
+        resolved: &[3, 0, 0],
+        stopped: 0,
+    },
+    sent: None,
+    loads: None,
+};
+
+/// What the receiver refused in an epoch that has ended is named, in the order of the shards, and
+/// counts once.
+#[test]
+fn a_past_epoch_leaves_its_names(rt: HostRuntime) {
+    assert!(rt; does(&rt, rt.alloc(), &REFUSED_BEFORE));
 }
 
 static KEPT_SHARDS: Row<'static> = Row {
@@ -233,7 +267,7 @@ static KEPT_SHARDS: Row<'static> = Row {
         faults: &[None, None, None, None],
         ending: Ending::Complete(8),
         named: &[],
-        resolved: &[1, 1, 0, 0, 2],
+        resolved: &[2, 0, 0, 2],
         stopped: 0,
     },
     sent: None,
@@ -259,7 +293,7 @@ static HARD_STOP: Row<'static> = Row {
         faults: &[None],
         ending: Ending::Abandoned(3, &[1, 2]),
         named: &[],
-        resolved: &[0],
+        resolved: &[0, 0],
         stopped: 1,
     },
     sent: None,
@@ -286,7 +320,7 @@ static DAMAGED: Row<'static> = Row {
         faults: &[Some(FeedFault::Damaged(TailFault::Compressed))],
         ending: Ending::Damaged(TailFault::Compressed),
         named: &[],
-        resolved: &[2, 0],
+        resolved: &[0, 2, 0],
         stopped: 0,
     },
     sent: None,
@@ -322,7 +356,7 @@ static REFUSED_EPOCH: Row<'static> = Row {
         faults: &[None, REFUSED, REFUSED, REFUSED, REFUSED],
         ending: Ending::Abandoned(2, &[]),
         named: &[],
-        resolved: &[1, 0],
+        resolved: &[1],
         stopped: 0,
     },
     sent: None,

@@ -1,8 +1,10 @@
 //! The work of a shipper from its start to its stop.
 
 use crate::logs::{Named, Samples, segment};
-use rw_ledger::{Ledger, Reason};
-use rw_sender::{Connect, Ends, FeedFault, Finished, Load, Outcome, Report, Shipper};
+use rw_ledger::Reason;
+use rw_sender::{
+    Connect, Ends, FeedFault, Finished, Load, Outcome, Report, Shipper, StoppedShard, StoppedShards,
+};
 use rw_shard_core::{Config, ConfigFields};
 use rw_types::Bounded;
 use rw_wal_tail::{Piece, TailFault};
@@ -57,13 +59,12 @@ pub(crate) struct Work {
     pub(crate) loads: Vec<Load>,
     pub(crate) outcome: Outcome,
     pub(crate) filtered: u64,
-    /// How many parts the report has.
-    pub(crate) parts: usize,
-    /// What each part names: its number, a position, and the reason.
+    /// The samples that were dropped: by no worker (0), by one of the folded shards (1), and by
+    /// each other shard (from 2 on), with the position and the reason of each.
     pub(crate) named: Vec<(usize, u64, Reason)>,
-    /// How many samples each shard resolved.
+    /// How many samples the folded shards resolved together, and then each other one.
     pub(crate) resolved: Vec<u64>,
-    /// How many shards took all that they were put.
+    /// How many of the others took all that they were put.
     pub(crate) whole: usize,
     /// How many workers said that they were stopped.
     pub(crate) stopped: usize,
@@ -164,13 +165,10 @@ impl Work {
         is_so && self.named.is_empty()
     }
 
-    /// Returns whether nothing is filtered, each shard has a part beside the feeder's, and is whole
-    /// or stopped.
+    /// Returns whether nothing is filtered, and each shard that is not folded is whole or stopped.
     fn counts_all(&self) -> bool {
-        let shards = self.resolved.len();
-        self.filtered == 0
-            && self.parts.saturating_sub(1) == shards
-            && self.whole.saturating_add(self.stopped) == shards
+        let shards = self.resolved.len().saturating_sub(1);
+        self.filtered == 0 && self.whole.saturating_add(self.stopped) == shards
     }
 }
 
@@ -217,14 +215,40 @@ fn put_steps(alloc: Global, steps: &mut Vec<Step>, calls: &[Call<'_>]) -> Result
     Ok(())
 }
 
-fn named_in(alloc: Global, parts: &[Ledger]) -> Result<Vec<(usize, u64, Reason)>, AllocError> {
+/// Adds the names of the part of this number.
+fn put_names(
+    named: &mut Vec<(usize, u64, Reason)>,
+    number: usize,
+    names: &[(u64, Reason)],
+) -> Result<(), AllocError> {
+    for (pos, reason) in names {
+        named.push((number, *pos, *reason))?;
+    }
+    Ok(())
+}
+
+/// Returns the names of all parts.
+fn named_in<T>(alloc: Global, report: &Report<T>) -> Result<Vec<(usize, u64, Reason)>, AllocError> {
     let mut named = Vec::new(alloc);
-    for (i, part) in parts.iter().enumerate() {
-        for (pos, reason) in part.iter() {
-            named.push((i, *pos, *reason))?;
-        }
+    put_names(&mut named, 0, report.dropped.iter().as_slice())?;
+    put_names(&mut named, 1, report.ended.refused_before())?;
+    for (i, shard) in report.ended.kept().iter().enumerate() {
+        put_names(
+            &mut named,
+            i.saturating_add(2),
+            shard.part.iter().as_slice(),
+        )?;
     }
     Ok(named)
+}
+
+/// Returns how many samples the folded shards resolved together.
+fn resolved_before<T>(ended: &StoppedShards<T>) -> u64 {
+    let mut resolved = ended.resolved();
+    for shard in ended.kept() {
+        resolved = resolved.saturating_sub(shard.finished.resolved);
+    }
+    resolved
 }
 
 /// Counts a shard, and gives its transport.
@@ -247,32 +271,34 @@ fn counted<T: Transport>(
     (resolved, transport)
 }
 
-/// Returns what a report says, and the transports.
+/// Returns what a report says, and the transports of the shards that are not folded.
 fn work_of<T: Transport + Drop>(
     alloc: Global,
     faults: Vec<Option<FeedFault>>,
     loads: Vec<Load>,
     report: Report<T>,
 ) -> Result<(Work, Vec<T>), AllocError> {
+    let named = named_in(alloc, &report)?;
     let Report {
         outcome,
-        parts,
+        dropped: _,
         filtered,
-        workers,
+        ended,
     } = report;
     let mut work = Work {
         faults,
         loads,
         outcome,
         filtered,
-        parts: parts.len(),
-        named: named_in(alloc, &parts)?,
+        named,
         resolved: Vec::new(alloc),
         whole: 0,
         stopped: 0,
     };
+    work.resolved.push(resolved_before(&ended))?;
     let mut transports = Vec::new(alloc);
-    for finished in workers {
+    for shard in ended.into_kept() {
+        let StoppedShard { finished, .. } = shard;
         let (resolved, transport) = counted(finished, &mut work.whole, &mut work.stopped);
         work.resolved.push(resolved)?;
         transports.push(transport)?;
@@ -336,8 +362,8 @@ fn ship<R: Threads + Wait + Copy + Send + 'static, C: Connect + Drop>(
     work_of(alloc, faults, loads, report_of(rt, shipper, task.stop))
 }
 
-/// Does a task. Returns what was done, and the transports, or `None` if it does not start or memory
-/// runs out.
+/// Does a task. Returns what was done, and the transports of the shards that are not folded, or
+/// `None` if it does not start or memory runs out.
 pub(crate) fn done<R: Threads + Wait + Copy + Send + 'static, C: Connect + Drop>(
     rt: &R,
     alloc: Global,

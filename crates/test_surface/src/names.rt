@@ -76,6 +76,7 @@ pub use rw_sender::Shipper;
 pub use rw_sender::StopFlag;
 pub use rw_sender::Stopped;
 pub use rw_sender::StoppedShard;
+pub use rw_sender::StoppedShards;
 pub use rw_sender::TakingEnd;
 pub use rw_sender::Tally;
 pub use rw_sender::Target;

@@ -1,8 +1,8 @@
 //! The parts of a sender: its configuration, the core of a shard, a set of shards.
 
 use rw_sender::{
-    Config, ConfigFields, Connect, Pause, ShardCore, ShardSet, StopFlag, StoppedShard, Tally,
-    Target, Transport, Worker, spawn,
+    Config, ConfigFields, Connect, Pause, ShardCore, ShardSet, StopFlag, StoppedShard,
+    StoppedShards, Tally, Target, Transport, Worker, spawn,
 };
 use std::sync::Wait;
 use std::thread::Threads;
@@ -51,6 +51,16 @@ pub fn of_opened_sets<C: Connect + Drop, R: Threads + Wait + Copy + Send + 'stat
 /// How a set of shards ends.
 pub fn of_ended_sets<C: Connect + Drop, R: Threads + Wait>() {
     let _ = (ShardSet::<C>::close::<R>, ShardSet::<C>::finish::<R>);
+}
+
+/// What the shards that have ended leave.
+pub fn of_stopped_shards<T>() {
+    let _ = (StoppedShards::<T>::resolved, StoppedShards::<T>::kept);
+    let _ = (
+        StoppedShards::<T>::refused_before,
+        StoppedShards::<T>::into_kept,
+    );
+    let _ = StoppedShards::<T>::push_refused;
 }
 
 /// The start of a worker on its own thread.

@@ -75,6 +75,11 @@ pub fn of_loads<C: Connect + Drop>() {
     let _ = (Shipper::<C>::skipped_of, Shipper::<C>::newest);
 }
 
+/// What a report lists.
+pub fn of_reports<T>() {
+    let _ = Report::<T>::dropped_samples;
+}
+
 /// The orderly stop.
 pub fn of_orderly_stops<C: Connect + Drop, R: Threads + Wait>() {
     let _ = Shipper::<C>::stop_orderly::<R>;

@@ -1,5 +1,5 @@
 -- Lists that a loop takes from the front, and lists with one element more or another.
-use Rattle.std.proofs.Common.{◌≡◌, ◌⊎◌, inl, inr, ℕ, zero, suc, ◌+◌, ◌<◌, List, [], ◌∷◌, ◌++◌, length, Some, refl, sym, ap, ◌∙◌, append_assoc, append-nil, length-append, arith}
+use Rattle.std.proofs.Common.{◌≡◌, ℕ, ◌<◌, List, [], ◌∷◌, ◌++◌, length, Some, sym, ap, ◌∙◌, append_assoc, append-nil, length-append, arith}
 use Rattle.std.specs.Prelude.{slice_get, get_or}
 use Rattle.std.proofs.lemmas.List.{nil_from_length}
 use Rattle.std.proofs.lemmas.Option.{slice_get-get_or}
@@ -11,9 +11,6 @@ module _ {A : Type 0} where
   -- the first of the rest joins what is done
   pub moved : (all done rest later : List A) (x : A) → all ≡ done ++ rest → rest ≡ x ∷ later → all ≡ (done ++ x ∷ []) ++ later
   moved all done rest later x is first = is ∙ ap (λ l. done ++ l) first ∙ sym (append_assoc done (x ∷ []) later)
-
-  pub more_length : (all old more : List A) → all ≡ old ++ more → length all ≡ length old + length more
-  more_length all old more is = ap length is ∙ length-append old more
 
   pub pushed : (all old more after : List A) (x : A) → after ≡ all ++ x ∷ [] → all ≡ old ++ more → after ≡ old ++ (more ++ x ∷ [])
   pushed all old more after x is was = is ∙ ap (λ l. l ++ x ∷ []) was ∙ append_assoc old more (x ∷ [])

@@ -13,7 +13,7 @@ use Rattle.rw_fleet.specs.Work.{IsWorked, AreWorked, finished_of, queue_of_ends}
 use Rattle.rw_fleet.specs.declared.joined.StoppedShard.{StoppedShard}
 use Rattle.rw_fleet.specs.declared.joined.Finished.{Finished}
 use Rattle.rw_sender.specs.Logs.{named, dropped}
-use Rattle.rw_sender.specs.Reports.{part_of}
+use Rattle.rw_sender.specs.Reports.{part_of, parts_of, workers_of}
 use Rattle.rw_sender.specs.Shipping.{Shipping, HasStopped}
 use Rattle.rw_sender.specs.declared.report.Report.{Report}
 use Rattle.rw_machine.specs.Worlds.{Setup, Request, World}
@@ -140,7 +140,7 @@ module _ {T : Type 0} (tells : T → Type 0) (seen : T → List Exchange) where
       of_parts p reason (zero, part, e, named_so) = inl (ap (λ (m : Names). get m p) (sym own_names) ∙ ap (λ (n : Named). get n.names p) (same_Some _ _ e) ∙ named_so)
       of_parts p reason (suc i, part, e, named_so) = let g = map_get part_of h.joined i part e in inr (inl (i, g.0, g.1, ap (λ (n : Named). get n.names p) g.2 ∙ named_so))
 
-      pub names-all : NamesAll w.names r.parts.items
+      pub names-all : NamesAll w.names (parts_of r)
       names-all = subst (NamesAll w.names) (sym h.parts) (λ p reason. (λ e. in_parts p reason (t.named p reason e), λ n. t.names p reason (of_parts p reason n)))
 
       queue-at : (j : StoppedShard T) (i : ℕ) → slice_get h.joined i ≡ Some j → queue_of_ends j.finished.ends ≡ j.worker.value.queue
@@ -156,5 +156,5 @@ module _ {T : Type 0} (tells : T → Type 0) (seen : T → List Exchange) where
       one-of q (inl (lt, h')) = let j = h'.0 in let a = h'.1 in (a.i, j.finished, get_map finished_of h.joined a.i j a.at, sym (ap (λ x. x.epoch) (queue-at j a.i a.at) ∙ a.epoch_is), sym (ap (λ x. x.shard) (queue-at j a.i a.at) ∙ a.shard_is))
       one-of q (inr (same, lt)) = no_shard q.id.shard lt
 
-      pub sends-all : SendsAll tells seen w.requests r.workers.items
+      pub sends-all : SendsAll tells seen w.requests (workers_of r)
       sends-all = subst (SendsAll tells seen w.requests) (sym h.workers) (record { each = sends-each; owned = AllByRecursion-weaker (IsOwned (past_of h.joined) epoch 0) (IsOfOne (map finished_of h.joined)) one-of w.requests t.owned })

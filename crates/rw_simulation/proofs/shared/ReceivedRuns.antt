@@ -42,7 +42,7 @@ use Rattle.rw_fleet.proofs.shared.LaneLemmas.{same_length}
 use Rattle.rw_sender.specs.Feeders.{HasRead}
 use Rattle.rw_sender.specs.Logs.{Sent, sent, sent_of}
 use Rattle.rw_sender.specs.Placement.{IsDealt, IsShardCount, Places, joined_epochs}
-use Rattle.rw_sender.specs.Reports.{IsAbandoned, abandoned_in}
+use Rattle.rw_sender.specs.Reports.{IsAbandoned, abandoned_in, parts_of}
 use Rattle.rw_sender.specs.Shipping.{Shipping, PlacesAll, HasStopped, HasEndedAs}
 use Rattle.rw_sender.specs.declared.report.Report.{Report}
 use Rattle.rw_sender.proofs.shared.PlacementLemmas.{whole_is, whole_placed}
@@ -489,7 +489,7 @@ none-pending c p (m ∷ ms) kept all =
     (no_rest m.put m.core.resolved (pending_in_shard m) (put-split c m (kept 0 m refl)) (eqb-true (length m.core.resolved) (length m.put) ended.1)) ∙ none-pending c p ms (λ k n e. kept (suc k) n e) both.1
 
 -- a head that holds what the machine's does
-held-so : {T : Type 0} (c : Setup) (s : Shipping T) (r : Report T) (v : World) (head : State) (events : List Event) → run c events (start c) ≡ v → v.head ≡ head → v.pieces ≡ s.log.pieces → c.choice ≡ s.log.choice → NamesAll v.names r.parts.items → ((IsAbandoned r.outcome → ⊥) → (l : Labels) → HoldsAll c v (length s.log.placed) l)
+held-so : {T : Type 0} (c : Setup) (s : Shipping T) (r : Report T) (v : World) (head : State) (events : List Event) → run c events (start c) ≡ v → v.head ≡ head → v.pieces ≡ s.log.pieces → c.choice ≡ s.log.choice → NamesAll v.names (parts_of r) → ((IsAbandoned r.outcome → ⊥) → (l : Labels) → HoldsAll c v (length s.log.placed) l)
     → (rest : List Entry) → entries s.log.pieces ≡ s.log.placed ++ rest → v.placed ≡ length s.log.placed → ((p : ℕ) → is_left r.outcome p ≡ false → is_pending v p ≡ false) → IsHeld s r head.store
 held-so c s r v head events is head_is pieces_are choice named all rest read placed none_pending = record {
   names = v.names;
@@ -640,7 +640,7 @@ module _ {T : Type 0} (tells : T → Type 0) (seen : T → List Exchange) (is_fo
     all-came m (inl e) = e
     all-came m (inr (a, at, lt)) = absurd (no_later m a at lt)
 
-    tallied-so : (v : World) → IsTallied setup (past_of tells seen (was.ended ++ last)) (suc at-last.epoch) 0 (at-last.now ++ at-last.later) (λ k. empty) v → NamesAll v.names r.parts.items
+    tallied-so : (v : World) → IsTallied setup (past_of tells seen (was.ended ++ last)) (suc at-last.epoch) 0 (at-last.now ++ at-last.later) (λ k. empty) v → NamesAll v.names (parts_of r)
     tallied-so v t = names-all tells seen is_for setup s r h choice (suc at-last.epoch) v
         (subst (λ (js : List (StoppedShard T)). IsTallied setup (past_of tells seen js) (suc at-last.epoch) 0 s.log.placed (λ k. empty) v) (sym alls.1)
         (subst (λ (es : List Entry). IsTallied setup (past_of tells seen (was.ended ++ last)) (suc at-last.epoch) 0 es (λ k. empty) v) (sym at-last.are) t))

@@ -3,7 +3,7 @@ use Rattle.std.specs.Prelude.{is_some}
 use Rattle.rw_text.specs.declared.tool_fault.ToolFault.{ToolFault}
 use Rattle.rw_fleet.specs.Fleets.{EndBy}
 use Rattle.rw_fleet.specs.declared.running.Fault.{Fault}
-use Rattle.rw_sender.specs.Reports.{end_kind}
+use Rattle.rw_sender.specs.Reports.{end_kind, workers_of}
 use Rattle.rw_send.proofs.AnswerLemmas.{abandons_so, answers_orderly, answers_hard, goes_on, same_answer}
 use Rattle.rw_send.proofs.send.stop_shipper.Goals as goal
 
@@ -21,12 +21,12 @@ returns-in-None-clause-cut g c = λ soft. c.stop_orderly-report.ensures.cut (goe
 pub returns-in-None-clause-ended : goal.returns-in-None-clause-ended
 returns-in-None-clause-ended g c =
     let stop = c.stop_orderly-report in
-    subst (λ (o : Option ToolFault). EndBy (end_kind (is_some o)) c.args.shipper.fleet stop.result.workers.items) c.in-None.ensures
-    (subst (λ (o : Option Fault). EndBy (end_kind (is_some o)) c.args.shipper.fleet stop.result.workers.items) (goes_on c.args.shipper c.args.shipped c.requires.halted c.requires.live (sym c.in-None.ensures)) stop.ensures.ended)
+    subst (λ (o : Option ToolFault). EndBy (end_kind (is_some o)) c.args.shipper.fleet (workers_of stop.result)) c.in-None.ensures
+    (subst (λ (o : Option Fault). EndBy (end_kind (is_some o)) c.args.shipper.fleet (workers_of stop.result)) (goes_on c.args.shipper c.args.shipped c.requires.halted c.requires.live (sym c.in-None.ensures)) stop.ensures.ended)
 
 pub returns-in-Some-clause-ended : goal.returns-in-Some-clause-ended
 returns-in-Some-clause-ended g c =
-    subst (λ (o : Option ToolFault). EndBy (end_kind (is_some o)) c.args.shipper.fleet c.stop_hard.result.workers.items) c.in-Some.ensures c.stop_hard.ensures.ended
+    subst (λ (o : Option ToolFault). EndBy (end_kind (is_some o)) c.args.shipper.fleet (workers_of c.stop_hard.result)) c.in-Some.ensures c.stop_hard.ensures.ended
 
 pub returns-in-Some-clause-failed : goal.returns-in-Some-clause-failed
 returns-in-Some-clause-failed g c = abandons_so _ _ c.stop_hard.ensures.hard

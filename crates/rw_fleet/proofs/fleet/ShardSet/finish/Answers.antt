@@ -1,4 +1,4 @@
-use Rattle.std.proofs.Common.{◌++◌, List, map, sym, ap, ◌∙◌, subst}
+use Rattle.std.proofs.Common.{◌++◌, List, length, map, sym, ap, ◌∙◌, subst, arith}
 use Rattle.rw_fleet.specs.ShardHistories.{ShardHistory, AreSame, AreSetUp}
 use Rattle.rw_fleet.specs.Fleets.{Shards}
 use Rattle.rw_fleet.specs.Work.{lane_of}
@@ -24,9 +24,16 @@ pub returns-clause-cut : goal.returns-clause-cut
 returns-clause-cut g c = λ soft unresolved.
     let j = c.join_all-joined.ensures.same in
     let i = c.self.invariant in
-    has_cut g.C.T.Transport.tells g.C.T.Transport.seen g.C.T.Transport.is_for _ c.join_all-joined.ensures.worked (soft_closed _ _ _ _ i.7 (soft_all _ _ soft c.end_all-ending.ensures.ended) j.1 j.2) (c.resolution_of-resolution.ensures.not_all unresolved)
+    has_cut g.C.T.Transport.tells g.C.T.Transport.seen g.C.T.Transport.is_for _ c.join_all-joined.ensures.worked (soft_closed _ _ _ _ i.7 (soft_all _ _ soft c.end_all-ending.ensures.ended) j.1 j.2) (c.resolution-resolution.ensures.not_all unresolved)
 
 pub returns-clause-ended : goal.returns-clause-ended
 returns-clause-ended g c =
     let j = c.join_all-joined.ensures.same in
     ended_closed _ _ _ _ _ (j.1 ∙ ap (λ (s : Shards _). s.ended ++ j.0) c.self.view_is) j.2 c.end_all-ending.ensures.ended
+
+pub returns-clause-folded : goal.returns-clause-folded
+returns-clause-folded g c =
+    let view = ap (λ (s : Shards _). length s.ended) c.self.view_is in
+    let folded = c.join_all-joined.ensures.folded in
+    let within = c.self.invariant.8 in
+    omega arith

@@ -9,4 +9,4 @@ invariant_of-self g c =
     let a = i.3 in
     let b = i.4 in
     let d = i.6 in
-    (i.0, i.1, set_up_same c.self.inside.config _ _ c.mark_all.ensures.same i.2, omega arith, omega arith, i.5, omega arith, i.7)
+    (i.0, i.1, set_up_same c.self.inside.config _ _ c.mark_all.ensures.same i.2, omega arith, omega arith, i.5, omega arith, i.7, i.8)

@@ -7,12 +7,12 @@ use Rattle.rw_fleet.proofs.fleet.ShardSet.mark_one.Goals as goal
 pub invariant_of-self : goal.invariant_of-self
 invariant_of-self g c =
     let i = c.self.invariant in
-    (i.0, i.1, set_up_set c.self.inside.config _ _ _ _ _ i.2 c.index_mut.ensures.value c.mark.ensures.setup refl, i.3, i.4, i.5, i.6, i.7)
+    (i.0, i.1, set_up_set c.self.inside.config _ _ _ _ _ i.2 c.index_mut.ensures.value c.mark.ensures.setup refl, i.3, i.4, i.5, i.6, i.7, i.8)
 
 pub invariant_of-self-2 : goal.invariant_of-self-2
 invariant_of-self-2 g c =
     let i = c.self.invariant in
-    (i.0, i.1, set_up_set c.self.inside.config _ _ _ _ _ i.2 c.index_mut.ensures.value c.mark.ensures.setup refl, i.3, i.4, i.5, i.6, i.7)
+    (i.0, i.1, set_up_set c.self.inside.config _ _ _ _ _ i.2 c.index_mut.ensures.value c.mark.ensures.setup refl, i.3, i.4, i.5, i.6, i.7, i.8)
 
 pub returns-in-Err-clause-err : goal.returns-in-Err-clause-err
 returns-in-Err-clause-err g c =

@@ -7,7 +7,7 @@ use Rattle.rw_sender.proofs.shared.ShippingLemmas.{rest_as, kept_still}
 use Rattle.rw_sender.proofs.shipper.Shipper.feed.Goals as goal
 
 pub invariant_of-self-in-Err : goal.invariant_of-self-in-Err
-invariant_of-self-in-Err g c = (subst (λ (f : Shards _). PlacesAll c.place_all-read.new.feeder f) (sym c.hand_over.ensures) c.place_all-read.ensures.places, tt, tt, tt, room_handed c.self.inside.fleet c.place_all-read.new.fleet _ c.self.inside.lists c.self.invariant.4 c.hand_over.ensures c.place_all-read.ensures.goes.fleet c.place_all-read.ensures.goes.len)
+invariant_of-self-in-Err g c = (subst (λ (f : Shards _). PlacesAll c.place_all-read.new.feeder f) (sym c.hand_over.ensures) c.place_all-read.ensures.places, tt, tt, tt, room_handed c.self.inside.fleet c.place_all-read.new.fleet _ c.self.inside.samples c.self.invariant.4 c.hand_over.ensures c.place_all-read.ensures.goes.fleet c.place_all-read.ensures.goes.len)
 
 pub returns-in-Ok-None-clause-rest : goal.returns-in-Ok-None-clause-rest
 returns-in-Ok-None-clause-rest g c = rest_as c.args.self.now.fleet _ _ c.hand_over.ensures (c.place_all-read.ensures.goes.fleet ∙ ap (λ (s : Shipping _). record s.fleet { current = c.place_all-read.new.fleet.current }) c.self.view_is)

@@ -4,7 +4,7 @@ use Rattle.rw_sender.proofs.shared.ShippingLemmas.{places_same, ready_same, reck
 use Rattle.rw_sender.proofs.shipper.Shipper.flush.Goals as goal
 
 pub invariant_of-self : goal.invariant_of-self
-invariant_of-self g c = (places_same c.self.inside.feeder c.self.inside.fleet c.mark.new.self c.self.invariant.0 c.mark.ensures.rest c.mark.ensures.same, tt, tt, tt, room_same c.self.inside.fleet c.mark.new.self c.self.inside.lists c.self.invariant.4 c.mark.ensures.rest c.mark.ensures.same)
+invariant_of-self g c = (places_same c.self.inside.feeder c.self.inside.fleet c.mark.new.self c.self.invariant.0 c.mark.ensures.rest c.mark.ensures.same, tt, tt, tt, room_same c.self.inside.fleet c.mark.new.self c.self.inside.samples c.self.invariant.4 c.mark.ensures.rest c.mark.ensures.same)
 
 pub invariant_of-self-2 : goal.invariant_of-self-2
 invariant_of-self-2 g c = (
@@ -12,7 +12,7 @@ invariant_of-self-2 g c = (
   ready_same c.self.inside.feeder c.self.inside.fleet c.mark.new.self c.self.inside.fault c.self.invariant.1 c.mark.ensures.same,
   c.self.invariant.2,
   reckoned_marked c.self.inside.cuts c.reset.new.self c.self.inside.fleet c.mark.new.self c.self.inside.fault c.self.invariant.3 c.reset.ensures.limit c.reset.ensures.full c.in_default-mark.ensures.marked,
-  room_same c.self.inside.fleet c.mark.new.self c.self.inside.lists c.self.invariant.4 c.mark.ensures.rest c.mark.ensures.same,
+  room_same c.self.inside.fleet c.mark.new.self c.self.inside.samples c.self.invariant.4 c.mark.ensures.rest c.mark.ensures.same,
 )
 
 pub returns-in-Some-clause-same : goal.returns-in-Some-clause-same

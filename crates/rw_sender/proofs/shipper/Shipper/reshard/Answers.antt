@@ -6,12 +6,12 @@ use Rattle.rw_sender.proofs.shipper.Shipper.reshard.Goals as goal
 pub invariant_of-self-in_default-close : goal.invariant_of-self-in_default-close
 invariant_of-self-in_default-close g c =
     let e = c.close.ensures in
-    (places_shut c.self.inside.feeder c.self.inside.fleet c.close.new.self c.self.inside.fault c.self.invariant.0 c.self.invariant.1 c.in_default.is e.closed, tt, tt, tt, room_closed g.C.T.Transport.tells g.C.T.Transport.seen g.C.T.Transport.is_for c.self.inside.fleet c.close.new.self c.self.inside.lists c.self.invariant.4 e.closed e.worked e.setup)
+    (places_shut c.self.inside.feeder c.self.inside.fleet c.close.new.self c.self.inside.fault c.self.invariant.0 c.self.invariant.1 c.in_default.is e.closed, tt, tt, tt, room_closed g.C.T.Transport.tells g.C.T.Transport.seen g.C.T.Transport.is_for c.self.inside.fleet c.close.new.self c.self.inside.samples c.self.invariant.4 e.closed e.worked e.setup)
 
 pub open_listed-requires-clause-room : goal.open_listed-requires-clause-room
 open_listed-requires-clause-room g c κs within =
     let e = c.close.ensures in
-    room_closed g.C.T.Transport.tells g.C.T.Transport.seen g.C.T.Transport.is_for c.self.inside.fleet c.close.new.self c.self.inside.lists c.self.invariant.4 e.closed e.worked e.setup
+    room_closed g.C.T.Transport.tells g.C.T.Transport.seen g.C.T.Transport.is_for c.self.inside.fleet c.close.new.self c.self.inside.samples c.self.invariant.4 e.closed e.worked e.setup
 
 pub invariant_of-self-then-is_err : goal.invariant_of-self-then-is_err
 invariant_of-self-then-is_err g c =

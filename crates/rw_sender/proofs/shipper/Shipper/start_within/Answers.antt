@@ -14,18 +14,18 @@ open_listed-requires-clause-resolved g c κs within = resolved_none c.new-fleet.
 pub open_listed-requires-clause-room : goal.open_listed-requires-clause-room
 open_listed-requires-clause-room g c κs within =
     let fleet = c.new-fleet.ensures in
-    room_begun c.new-fleet.result c.in_ok-lists.lists (ap (λ (s : Shards _). s.ended) fleet) (ap (λ (s : Shards _). s.current) fleet) c.in_ok-lists.ensures
+    room_begun c.new-fleet.result c.new-samples.result (ap (λ (s : Shards _). s.ended) fleet) (ap (λ (s : Shards _). s.current) fleet) c.new-samples.ensures.len
 
 pub invariant_of-result : goal.invariant_of-result
 invariant_of-result g c =
     let fleet = c.new-fleet.ensures in
-    let feeder = c.new-2.ensures in
+    let feeder = c.new.ensures in
     let all = on_ok c.open_listed.result _ (sym c.is_err.ensures.value ∙ c.if-is_err.false) c.open_listed.ensures.all in
     let low = c.get-shards.ensures.low in
     let high = c.get-shards.ensures.high in (
-      places_begun c.new-2.result c.new-fleet.result c.open_listed.new.fleet (ap (λ (s : Sorting). s.placed) feeder) (ap (λ (s : Shards _). s.epoch) fleet) (ap (λ (s : Shards _). s.ended) fleet) (ap (λ (s : Shards _). s.current) fleet) c.open_listed.ensures.rest c.open_listed.ensures.fresh,
+      places_begun c.new.result c.new-fleet.result c.open_listed.new.fleet (ap (λ (s : Sorting). s.placed) feeder) (ap (λ (s : Shards _). s.epoch) fleet) (ap (λ (s : Shards _). s.ended) fleet) (ap (λ (s : Shards _). s.current) fleet) c.open_listed.ensures.rest c.open_listed.ensures.fresh,
       (ap (λ (s : Sorting). s.hand) feeder, (omega arith, omega arith)),
-      read_begun c.new-2.result _ feeder,
+      read_begun c.new.result _ feeder,
       counted_fresh c.in_ok-cuts.cuts.limit c.in_ok-cuts.cuts.rooms c.open_listed.new.fleet.epoch _ c.open_listed.new.fleet.current c.in_ok-cuts.ensures.full all (omega arith) c.open_listed.ensures.fresh,
       c.open_listed.ensures.room,
     )
