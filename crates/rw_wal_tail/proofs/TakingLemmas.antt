@@ -1,15 +1,17 @@
 -- What a client has taken, by what a reader answers.
-use Rattle.std.proofs.Common.{◌≡◌, ◌+◌, ◌≤◌, true, false, List, [], ◌∷◌, ◌++◌, length, Option, None, Some, Result, Ok, Err, ◌⊎◌, inl, inr, refl, sym, ap, ◌∙◌, append_assoc, append-nil, length-append, arith}
+use Rattle.std.proofs.Common.{◌≡◌, ℕ, ◌+◌, ◌<◌, ◌≤◌, ◌^◌, true, false, List, [], ◌∷◌, ◌++◌, length, Option, None, Some, Result, Ok, Err, ◌⊎◌, inl, inr, refl, sym, ap, ◌∙◌, subst, append_assoc, append-nil, length-append, arith}
 use Rattle.std.proofs.lemmas.Bool.Decides.{nat_tests}
 use Rattle.std.proofs.lemmas.List.{nil_from_length}
-use Rattle.std.specs.Prelude.{slice_get, nat_lt}
+use Rattle.std.proofs.lemmas.Option.{slice_get_within}
+use Rattle.std.specs.Prelude.{slice_get, nat_lt, OnErr}
+use Rattle.std.specs.declared.alloc.AllocError.{AllocError}
 use Rattle.rw_types.specs.declared.entry.Entry.{Entry}
 use Rattle.rw_wal_format.specs.Pieces.{entries, fault, skipped, reading, page_size}
 use Rattle.rw_wal_format.specs.Laws.{Extends}
 use Rattle.rw_wal_format.specs.declared.tail_fault.TailFault.{TailFault}
 use Rattle.rw_wal_format.specs.declared.tail_fault.TailFault.TheVariants.{OutOfMemory}
-use Rattle.rw_wal_tail.specs.Fed.{Fed, next_of, after_answer, is_out_of_memory}
-use Rattle.rw_wal_tail.specs.Taking.{HasTaken, HasTakenAll, TakesNext}
+use Rattle.rw_wal_tail.specs.Fed.{Fed, next_of, after_answer, is_out_of_memory, size_of}
+use Rattle.rw_wal_tail.specs.Taking.{HasTaken, HasTakenAll, TakesNext, TakesAll}
 use Rattle.rw_wal_tail.proofs.shared.AnswerLemmas.{next_is, end_is, fault_is, has_some, answered_same}
 
 -- what a reader may answer
@@ -103,3 +105,87 @@ stays_taken t after taken g x h = record {
   rest = h.rest ++ x.more;
   begins = x.entries ∙ ap (λ l. l ++ x.more) h.begins ∙ append_assoc taken h.rest x.more;
 }
+
+-- ---- all entries that a reader has left, one after the other
+
+-- some of them were taken, after those that were taken before
+pub record TakesSome (t at : Fed) (before now : List Entry) : Type 0 where
+  pub more : List Entry
+  pub grows : now ≡ before ++ more
+  pub has : (taken : List Entry) → HasTaken t taken → HasTaken at (taken ++ more)
+  pub fed : at.pieces ≡ t.pieces
+
+pub takes_none : (t : Fed) (before : List Entry) → TakesSome t t before before
+takes_none t before = record {
+  more = [];
+  grows = sym (append-nil before);
+  has = λ taken h. subst (HasTaken t) (sym (append-nil taken)) h;
+  fed = refl;
+}
+
+-- what the reader says next, of whatever was taken from it
+abbrev pub Says : Fed → Fed → Said → Type 0
+Says at new said = (taken : List Entry) → HasTaken at taken → TakesNext taken said new
+
+pub takes_more : (t at new : Fed) (before now after : List Entry) (e : Entry) (said : Said) → TakesSome t at before now → said ≡ Ok (Some e) → Says at new said → new.pieces ≡ at.pieces → after ≡ now ++ e ∷ [] → TakesSome t new before after
+takes_more t at new before now after e said h is says fed up = record {
+  more = h.more ++ e ∷ [];
+  grows = up ∙ ap (λ l. l ++ e ∷ []) h.grows ∙ append_assoc before h.more (e ∷ []);
+  has = λ taken g. subst (HasTaken new) (append_assoc taken h.more (e ∷ [])) (subst (λ (s : Said). TakesNext (taken ++ h.more) s new) is (says (taken ++ h.more) (h.has taken g)));
+  fed = fed ∙ h.fed;
+}
+
+pub takes_to_end : (t at new : Fed) (before now : List Entry) (said : Said) → TakesSome t at before now → said ≡ Ok None → Says at new said → TakesAll t new before now None
+takes_to_end t at new before now said h is says = record {
+  more = h.more;
+  grows = h.grows;
+  all = λ taken g. subst (λ (s : Said). TakesNext (taken ++ h.more) s new) is (says (taken ++ h.more) (h.has taken g));
+}
+
+pub takes_to_fault : (t at new : Fed) (before now : List Entry) (f : TailFault) (said : Said) → TakesSome t at before now → said ≡ Err f → is_out_of_memory f ≡ false → Says at new said → TakesAll t new before now (Some f)
+takes_to_fault t at new before now f said h is plain says = record {
+  more = h.more;
+  grows = h.grows;
+  all = λ taken g. (subst (λ (s : Said). TakesNext (taken ++ h.more) s new) is (says (taken ++ h.more) (h.has taken g))).1 plain;
+}
+
+-- a fault of the log that was answered is told
+told_after : (t : Fed) (f : TailFault) → is_out_of_memory f ≡ false → (after_answer t (Err f)).fault ≡ Some f
+unfolding after_answer
+told_after t OutOfMemory plain = absurd cc
+told_after t f plain = refl
+
+pub tells_fault : (t new : Fed) (f g : TailFault) (said : Said) (result : Result (Option TailFault) AllocError) → said ≡ Err f → is_out_of_memory f ≡ false → new ≡ after_answer t said → result ≡ Ok (Some f) → result ≡ Ok (Some g) → new.fault ≡ Some g
+tells_fault t new f g said result is plain n now same =
+    let it : f ≡ g = cc in
+    ap (λ (x : Fed). x.fault) (n ∙ ap (after_answer t) is) ∙ told_after t f plain ∙ ap Some it
+
+-- an entry is left, or a count has come to its end
+abbrev pub MayRunOut : Fed → Type 0
+MayRunOut t = (t.given < length (entries t.pieces)) ⊎ (2 ^ 60 ≤ size_of t.pieces)
+
+-- nothing was taken yet, or an entry was left
+abbrev pub IsAsBefore : Fed → Fed → ℕ → Type 0
+IsAsBefore t at n = ((n ≡ 0) × (at ≡ t)) ⊎ (t.given < length (entries t.pieces))
+
+-- an entry that is returned was left
+entry_left : (t : Fed) (e : Entry) (said : Said) → said ≡ Ok (Some e) → Answers t said → t.given < length (entries t.pieces)
+unfolding next_of
+entry_left t e said is (inl r) = absurd cc
+entry_left t e said is (inr r) = slice_get_within (entries t.pieces) t.given e (next_is (nat_lt t.given (length (entries t.pieces))) (slice_get (entries t.pieces) t.given) (fault t.pieces) e (sym is ∙ r))
+
+pub left_first : (t at : Fed) (n : ℕ) (e : Entry) (said : Said) → IsAsBefore t at n → said ≡ Ok (Some e) → Answers at said → t.given < length (entries t.pieces)
+left_first t at n e said (inl h) is a = subst (λ (x : Fed). x.given < length (entries x.pieces)) h.1 (entry_left at e said is a)
+left_first t at n e said (inr h) is a = h
+
+pub runs_out : (t at : Fed) (n : ℕ) → IsAsBefore t at n → MayRunOut at → MayRunOut t
+runs_out t at n (inl h) may = subst MayRunOut h.1 may
+runs_out t at n (inr h) may = inl h
+
+pub at_err : {A E : Type 0} (r : Result A E) (P : Type 0) → P → OnErr r P
+at_err (Ok x) P p = tt
+at_err (Err e) P p = p
+
+pub ran_out : (f : TailFault) (said : Said) → said ≡ Err f → is_out_of_memory f ≡ true → said ≡ Err OutOfMemory
+ran_out OutOfMemory said is out = is
+ran_out f said is out = absurd cc

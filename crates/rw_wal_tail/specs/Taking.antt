@@ -29,3 +29,11 @@ TakesNext taken (Ok (Some e)) new = HasTaken new (taken ++ e ∷ [])
 TakesNext taken (Ok None) new = HasTakenAll new taken None
 TakesNext taken (Err f) new =
     HasTaken new taken × (is_out_of_memory f ≡ false → HasTakenAll new taken (Some f))
+
+-- All entries that were left were taken, after those that were taken before: if a client had taken
+-- what the reader gave until then, it has now taken all that there are, with this fault after them,
+-- or none.
+pub record TakesAll (old new : Fed) (before after : List Entry) (found : Option TailFault) : Type 0 where
+  pub more : List Entry
+  pub grows : after ≡ before ++ more
+  pub all : (taken : List Entry) → HasTaken old taken → HasTakenAll new (taken ++ more) found

@@ -18,8 +18,10 @@ mod reader;
 mod record;
 mod skips;
 mod tail;
+mod taker;
 
 pub use piece::Piece;
 pub use place::FaultPlace;
 pub use rw_wal_format::{SkippedType, TailFault};
 pub use tail::{Tail, is_out_of_memory};
+pub use taker::{Taker, take_all};

@@ -1,11 +1,10 @@
 -- Inner definitions beside those of Fed.antt: only invariants, private functions and
 -- proofs use them.
-use Rattle.std.specs.Prelude.{◌≡◌, ℕ, ◌+◌, ◌<◌, ◌^◌, List, [], ◌++◌, length, Option, Some, None}
+use Rattle.std.specs.Prelude.{◌≡◌, ℕ, ◌<◌, ◌^◌, List, [], ◌++◌, length, Option, Some, None}
 use Rattle.rw_types.specs.declared.entry.Entry.{Entry}
 use Rattle.rw_wal_format.specs.Pieces as pieces
 use Rattle.rw_wal_format.specs.Pieces.{page_size, reading}
 use Rattle.rw_wal_format.specs.declared.tail_fault.TailFault.{TailFault}
-use Rattle.rw_wal_tail.specs.declared.piece.Piece.{Piece}
 use Rattle.rw_wal_tail.specs.declared.reader.Reader.{Reader}
 use Rattle.rw_wal_tail.specs.inner.Still.{after}
 use Rattle.rw_wal_tail.specs.Places.{stop_after}
