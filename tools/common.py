@@ -1,7 +1,9 @@
 """What several tools need."""
+import errno
 import importlib.machinery
 import importlib.util
 import os
+import random
 import shutil
 import socket
 import sys
@@ -32,10 +34,16 @@ def program():
 
 
 def free_port(host="127.0.0.1", family=socket.AF_INET):
-    """Returns a port that nobody listens on."""
-    with socket.socket(family) as it:
-        it.bind((host, 0))
-        return it.getsockname()[1]
+    """Returns a port that nobody uses, below those that a system gives to connections, which could take it before its user does."""
+    while True:
+        port = random.randrange(10_000, 32_768)
+        with socket.socket(family) as it:
+            try:
+                it.bind((host, port))
+                return port
+            except OSError as why:
+                if why.errno != errno.EADDRINUSE:
+                    raise
 
 
 def is_listened_on(port):
