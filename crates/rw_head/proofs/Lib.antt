@@ -5,5 +5,6 @@ pub mod NameLemmas
 pub mod NotedLemmas
 pub mod PartLemmas
 pub mod PlaceLemmas
+pub mod PlacedLemmas
 pub mod TableLemmas
 pub mod shared

@@ -6,6 +6,7 @@ pub mod Growth
 pub mod Head
 pub mod Lists
 pub mod Order
+pub mod Placed
 pub mod Staged
 pub mod Store
 pub mod Verdicts

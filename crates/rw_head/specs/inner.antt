@@ -5,5 +5,6 @@ pub mod Growth
 pub mod Keys
 pub mod Lists
 pub mod Names
+pub mod Placed
 pub mod Staged
 pub mod Texts

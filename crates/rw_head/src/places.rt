@@ -1,6 +1,6 @@
 //! The places of label sets.
 
-ghost use Rattle.std.specs.Prelude.{◌≡◌, ◌≢◌, ◌+◌, min, map, ◌<◌, ◌≤◌, length, [], ◌^◌, ◌++◌, ◌∷◌, None, Some, IfOk, IfErr, IfSome, OnOk, OnErr, vec_len, vec_capacity};
+ghost use Rattle.std.specs.Prelude.{◌≡◌, ◌≢◌, ◌+◌, map, take, ◌<◌, ◌≤◌, length, [], ◌^◌, ◌++◌, ◌∷◌, None, Some, IfOk, IfErr, IfSome, OnOk, OnErr, vec_len, vec_capacity};
 ghost use Rattle.std.specs.List.{All};
 ghost use Rattle.std.specs.BTreeMap.{get, Updates, IsOrdered};
 ghost use Rattle.rw_types.specs.Labels.{Labels, text_label};
@@ -134,17 +134,33 @@ impl Places {
         self.names.as_slice()
     }
 
+    /// Returns this place, if it has the label set of these labels.
+    fn if_at(&self, place: usize, texts: &[(String, String)]) -> Option<usize>
+        ensures { IfSome result (λ n.
+            get labels_cmp self.now.tree (map text_label texts.now) ≡ Some n) }
+    {
+        if place < self.names.len() && self.names[place].labels().as_slice() == texts {
+            Some(place)
+        } else {
+            None
+        }
+    }
+
     /// Returns the place that is expected next, if it has the label set of these labels.
     fn expected(&self, texts: &[(String, String)]) -> Option<usize>
         ensures place { IfSome result (λ n.
             get labels_cmp self.now.tree (map text_label texts.now) ≡ Some n) }
     {
         let place = *self.after.get(self.last)?;
-        if place < self.names.len() && self.names[place].labels().as_slice() == texts {
-            Some(place)
-        } else {
-            None
-        }
+        self.if_at(place, texts)
+    }
+
+    /// Returns the place of the last series, if it has the label set of these labels.
+    pub(crate) fn last(&self, texts: &[(String, String)]) -> Option<usize>
+        ensures place { IfSome result (λ n.
+            get labels_cmp self.now.tree (map text_label texts.now) ≡ Some n) }
+    {
+        self.if_at(self.last, texts)
     }
 
     /// Notes that the label set at a place came after the last one.
@@ -273,7 +289,7 @@ impl Places {
     pub(crate) fn truncate(&mut self, len: usize)
         ensures below { (l : Labels)
             → get labels_cmp self.new.tree l ≡ below len (get labels_cmp self.old.tree l) }
-        ensures names { length self.new.names.items ≡ min len (length self.old.names.items) }
+        ensures names { self.new.names.items ≡ take len self.old.names.items }
     {
         while self.names.len() > len {
             if let Some(place) = self.names.pop() {

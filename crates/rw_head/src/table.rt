@@ -1,12 +1,14 @@
 //! The lists of all label sets, and what a message would make of them.
 
-ghost use Rattle.std.specs.Prelude.{◌≡◌, ◌≢◌, ◌↔◌, ◌+◌, ◌-◌, ◌^◌, ◌<◌, ◌≤◌, ◌++◌, ◌∷◌, [], ℕ, length, None, Some, IsTrue, IfOk, IfErr, OnOk, OnErr, map, slice_index_or, slice_set, vec_len, vec_capacity};
+ghost use Rattle.std.specs.Prelude.{◌≡◌, ◌≢◌, ◌↔◌, ◌+◌, ◌-◌, ◌^◌, ◌<◌, ◌≤◌, ◌++◌, ◌∷◌, [], ℕ, length, None, Some, IsTrue, IfOk, IfErr, IfSome, OnOk, OnErr, map, slice_index_or, slice_set, vec_len, vec_capacity};
 ghost use Rattle.rw_types.specs.Beginnings.{Begins};
+ghost use Rattle.rw_types.specs.Labels.{text_label};
 ghost use Rattle.std.specs.BTreeMap.{get};
 ghost use Rattle.std.specs.FinMap.{empty};
 ghost use Rattle.rw_types.specs.LabelOrder.{labels_cmp};
 ghost use Rattle.rw_head.specs.declared.verdict.Verdict.TheVariants.{OutOfOrder, NoMemory};
 ghost use Rattle.rw_head.specs.Order.{points, accept};
+ghost use Rattle.rw_head.specs.Placed.{IsPlaced};
 ghost use Rattle.rw_head.specs.Store.{list_of, total, label_sets, held_series, AreListsOf, HasNoEmptyList};
 ghost use Rattle.rw_head.specs.Verdicts.{LabelLimits, accepted, taken};
 ghost use Rattle.rw_head.specs.inner.Bodies.{known_of, KnownGives};
@@ -57,7 +59,7 @@ impl Model for Table {
     ghost use Rattle.std.specs.Coded.{codes};
     ghost use Rattle.std.specs.FinMap as map;
     ghost use Rattle.rw_head.specs.Lists.{added_of};
-    ghost use Rattle.rw_head.specs.inner.Lists.{Stores, kept_store, staged_store, IsSound};
+    ghost use Rattle.rw_head.specs.inner.Lists.{Stores, kept_store, staged_store, settled_names, IsSound};
 
     ghost Value = { Stores };
 
@@ -68,6 +70,7 @@ impl Model for Table {
       staged = staged_store t.places.tree.entries t.lists.items;
       added = added_of t.places.names.items t.lists.items t.touched.items;
       noted = length t.touched.items + length t.fresh.items;
+      placed = settled_names t.places.names.items t.fresh.items;
     } };
 
     ghost invariant = { λ t. IsSound t.places.tree t.lists.items t.touched.items t.fresh.items
@@ -207,7 +210,13 @@ fn is_above(limit: u64, before: u64, after: u64) -> bool
 impl Table {
     /// Returns a table without samples. This takes no memory.
     pub(crate) fn new(alloc: Global) -> Table
-        ensures { result ≡ record { kept = empty; staged = empty; added = []; noted = 0 } }
+        ensures { result ≡ record {
+          kept = empty;
+          staged = empty;
+          added = [];
+          noted = 0;
+          placed = [];
+        } }
     {
         Table {
             places: Places::new(alloc),
@@ -246,6 +255,7 @@ impl Table {
         ensures staged { StoreGives result
             (accepted name self.old.staged
             (accept (Some (list_of self.old.staged name)) (points samples.now))) self.new.staged }
+        ensures placed { self.new.placed ≡ self.old.placed }
     {
         self.lists.reserve(1)?;
         self.touched.reserve(1)?;
@@ -281,6 +291,7 @@ impl Table {
         ensures kept { self.new.kept ≡ self.old.kept }
         ensures staged { StoreGives result (taken bounds.now self.old.staged
             (record { labels = labels_of texts.entry; samples = samples.now })) self.new.staged }
+        ensures placed { self.new.placed ≡ self.old.placed }
     {
         let alloc = *self.lists.allocator();
         if samples.is_empty() {
@@ -315,8 +326,47 @@ impl Table {
         ensures kept { self.new.kept ≡ self.old.kept }
         ensures staged { StoreGives result
             (taken bounds.now self.old.staged series.now) self.new.staged }
+        ensures placed { self.new.placed ≡ self.old.placed }
     {
         self.stage(bounds, Texts::Lent(&series.labels), &series.samples)
+    }
+
+    /// Stages samples of the label set at this place, without a look at its labels.
+    pub(crate) fn stage_placed(
+        &mut self,
+        place: usize,
+        samples: &[(Word, i64)],
+    ) -> Result<(), Verdict>
+        requires { place < length self.old.placed }
+        ensures kept { self.new.kept ≡ self.old.kept }
+        ensures staged { (limits : LabelLimits) → HoldsNoneRefused limits self.old.staged
+            → StoreGives result (taken limits self.old.staged (record {
+              labels = slice_index_or self.old.placed place [];
+              samples = samples.now;
+            }))
+            self.new.staged }
+        ensures placed { self.new.placed ≡ self.old.placed }
+    {
+        if !has_room(self.count + self.staged_count, samples.len()) {
+            return Err(Verdict::NoMemory);
+        }
+        self.touched.reserve(1)?;
+        stage_held(
+            &mut self.lists,
+            &mut self.touched,
+            &mut self.staged_count,
+            place,
+            samples,
+        )
+    }
+
+    /// Returns the place of the series that was staged last, if it is that of the label set with
+    /// these texts. This takes no memory.
+    pub(crate) fn last_place(&self, texts: &[(String, String)]) -> Option<usize>
+        requires { self.now.noted ≡ 0 }
+        ensures { IfSome result (λ n. IsPlaced n (map text_label texts.now) self.now.placed) }
+    {
+        self.places.last(texts)
     }
 
     /// Stages a series from its bytes, if they begin with the head of the label set that is
@@ -372,6 +422,7 @@ impl Table {
         ensures staged { self.new.staged ≡ self.old.staged }
         ensures count { result ≡ total self.old.staged - total self.old.kept }
         ensures noted { self.new.noted ≡ 0 }
+        ensures placed { Begins self.old.placed self.new.placed }
     {
         commit_all(&mut self.lists, &self.touched);
         self.touched.clear();
@@ -387,6 +438,7 @@ impl Table {
         ensures kept { self.new.kept ≡ self.old.kept }
         ensures staged { self.new.staged ≡ self.old.kept }
         ensures noted { self.new.noted ≡ 0 }
+        ensures placed { self.new.placed ≡ self.old.placed }
     {
         abort_all(&mut self.lists, &self.touched);
         let len = self.lists.len() - self.fresh.len();

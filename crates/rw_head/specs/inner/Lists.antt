@@ -1,6 +1,6 @@
 -- Inner definitions beside those of Lists.antt: only invariants, private functions and
 -- proofs use them.
-use Rattle.std.specs.Prelude.{◌≡◌, ◌≢◌, ℕ, ◌+◌, ◌-◌, ◌^◌, ◌<◌, ◌≤◌, true, false, if◌then◌else◌, nat_eq, List, [], ◌∷◌, ◌++◌, length, map, slice_index, slice_index_or, slice_set, AllPairs, Option, Some, None, Result, Ok, Err}
+use Rattle.std.specs.Prelude.{◌≡◌, ◌≢◌, ℕ, ◌+◌, ◌-◌, ◌^◌, ◌<◌, ◌≤◌, true, false, if◌then◌else◌, nat_eq, List, [], ◌∷◌, ◌++◌, length, map, slice_index, slice_index_or, slice_set, take, AllPairs, Option, Some, None, Result, Ok, Err}
 use Rattle.std.specs.BTreeMap.{BTreeMap, get, Updates}
 use Rattle.std.specs.FinMap.{empty}
 use Rattle.std.specs.List.{list_any}
@@ -82,13 +82,18 @@ pub record IsAdded (index new : BTreeMap Labels ℕ) (old lists : List Lists) (t
   pub note : noted ≡ touched ++ length old ∷ []
   pub name : named ≡ fresh ++ l ∷ []
 
--- the two stores, what is staged of each label set, and how many places are noted that a message
--- has touched or made
+-- the label sets by place, without the last ones, which a message brought
+abbrev pub settled_names : List Labels → List Labels → List Labels
+settled_names names fresh = take (length names - length fresh) names
+
+-- the two stores, what is staged of each label set, how many places are noted that a message has
+-- touched or made, and the label sets by place, without those that the message brought
 pub record Stores : Type 0 where
   pub kept : Store
   pub staged : Store
   pub added : List Added
   pub noted : ℕ
+  pub placed : List Labels
 
 -- What a function that stages samples says is what the order rule gives, unless memory ran out.
 abbrev pub ListGives : Result (Unit {0}) Verdict → Option (List Point) → List Point → Type 0

@@ -1,4 +1,4 @@
-use Rattle.std.proofs.Common.{◌≡◌, min, length}
+use Rattle.std.proofs.Common.{◌≡◌, take, length}
 use Rattle.std.specs.BTreeMap.{get}
 use Rattle.rw_types.specs.Labels.{Labels}
 use Rattle.rw_types.specs.LabelOrder.{labels_cmp}
@@ -8,7 +8,7 @@ use Rattle.rw_head.proofs.places.Places.truncate.Given as goal
 abbrev pub invariant-loop-self : goal.invariant-loop-self
 invariant-loop-self l = record {
   below : (q : Labels) → below l.len (get labels_cmp l.self.tree q) ≡ below l.len (get labels_cmp l.initial.self.tree q);
-  len : min l.len (length l.self.names.items) ≡ min l.len (length l.initial.self.names.items);
+  names : take l.len l.self.names.items ≡ take l.len l.initial.self.names.items;
 }
 
 abbrev pub decreases-loop-self : goal.decreases-loop-self

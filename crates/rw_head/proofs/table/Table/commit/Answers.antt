@@ -1,4 +1,8 @@
-use Rattle.std.proofs.Common.{sym, ap, ◌∙◌}
+use Rattle.std.proofs.Common.{sym, subst, List, ap, ◌∙◌}
+use Rattle.rw_types.specs.Beginnings.{Begins}
+use Rattle.rw_types.specs.Labels.{Labels}
+use Rattle.rw_head.specs.inner.Lists.{settled_names}
+use Rattle.rw_head.proofs.PlacedLemmas.{settled_begins}
 use Rattle.rw_head.proofs.shared.StagingLemmas.{committed, IsSound-committed}
 use Rattle.rw_head.proofs.table.Table.commit.Goals as goal
 
@@ -18,3 +22,8 @@ pub returns-clause-staged : goal.returns-clause-staged
 returns-clause-staged c =
     (committed c.self.inside.places.tree c.self.inside.lists.items c.commit_all.new.lists.items c.self.invariant.0.places c.commit_all.ensures.len c.commit_all.ensures.kept c.commit_all.ensures.staged).1
     ∙ ap (λ s. s.staged) c.self.view_is
+
+pub returns-clause-placed : goal.returns-clause-placed
+returns-clause-placed c =
+    subst (λ (ns : List Labels). Begins ns (settled_names c.self.inside.places.names.items c.clear-2.new.self.items)) (ap (λ s. s.placed) c.self.view_is)
+    (settled_begins c.self.inside.places.names.items c.self.inside.fresh.items c.clear-2.new.self.items c.clear-2.ensures.items)

@@ -9,6 +9,7 @@ use Rattle.rw_head.specs.Store.{list_of, with_list}
 use Rattle.rw_head.specs.inner.Growth.{HoldsNoneRefused}
 use Rattle.rw_head.specs.inner.Texts.{labels_of}
 use Rattle.rw_head.specs.Lists.{no_lists}
+use Rattle.rw_head.specs.inner.Lists.{settled_names}
 use Rattle.rw_head.proofs.PlaceLemmas.{none_refused, staged_few}
 use Rattle.rw_head.proofs.shared.StagingLemmas.{taken_by, judged_alone, staged-same}
 use Rattle.rw_head.proofs.TableLemmas.{held_at}
@@ -60,4 +61,5 @@ returns-in_ok-reserve-in-At c =
     let series : TimeSeries = record { labels = l; samples = c.args.samples.now } in record {
       kept = h.kept ∙ ap (λ s. s.kept) c.self.view_is;
       staged = taken_by c.stage_held.result c.args.bounds.now c.args.self.now.staged _ series series refl c.in_ok-found.ensures.taken h.gives;
+      placed = ap (λ ns. settled_names ns c.self.inside.fresh.items) c.find.ensures.names ∙ ap (λ s. s.placed) c.self.view_is;
     }

@@ -9,9 +9,10 @@ use Rattle.rw_head.specs.Store.{list_of, total}
 use Rattle.rw_head.specs.Verdicts.{accepted}
 use Rattle.rw_head.specs.Lists.{no_lists}
 use Rattle.rw_head.specs.inner.Finds.{Enters, names_after}
-use Rattle.rw_head.specs.inner.Lists.{IsSound, IsAdded, kept_store, staged_store}
+use Rattle.rw_head.specs.inner.Lists.{IsSound, IsAdded, kept_store, staged_store, settled_names}
 use Rattle.rw_head.proofs.PlaceLemmas.{IsSound-same, staged_few, staged_nowhere}
 use Rattle.rw_head.proofs.shared.StagingLemmas.{accepted_has}
+use Rattle.rw_head.proofs.PlacedLemmas.{settled-push}
 use Rattle.rw_head.proofs.TableLemmas.{Holds, held_at, held_in, is_some, length_points}
 use Rattle.rw_head.proofs.table.Table.stage_named.Goals.{After-drop-share-inside-in-Had-1, After-put-in-New-2}
 use Rattle.rw_head.proofs.table.Table.stage_named.Goals as goal
@@ -89,3 +90,15 @@ returns-in-New-clause-kept c = (after_new c).kept ∙ ap (λ s. s.kept) c.self.v
 
 pub returns-in-New-clause-staged : goal.returns-in-New-clause-staged
 returns-in-New-clause-staged c = (after_new c).gives
+
+pub returns-in-Had-clause-placed : goal.returns-in-Had-clause-placed
+returns-in-Had-clause-placed c =
+    let names = subst (λ e. c.enter.new.self.names.items ≡ names_after e c.self.inside.places.names.items c.args.name) c.in-Had.is c.in_ok-place.ensures.names in
+    ap (λ ns. settled_names ns c.reserve-3.new.self.items) names ∙ ap (settled_names c.self.inside.places.names.items) c.reserve-3.ensures.items ∙ ap (λ s. s.placed) c.self.view_is
+
+pub returns-in-New-clause-placed : goal.returns-in-New-clause-placed
+returns-in-New-clause-placed c =
+    let names = subst (λ e. c.enter.new.self.names.items ≡ names_after e c.self.inside.places.names.items c.args.name) c.in-New.is c.in_ok-place.ensures.names in
+    let fresh = c.put-in-New-2.ensures ∙ ap (λ ns. ns ++ c.in_ok-share.share ∷ []) c.reserve-3.ensures.items in
+    ap (λ ns. settled_names ns c.put-in-New-2.new.items.items) names ∙ ap (settled_names (c.self.inside.places.names.items ++ c.args.name ∷ [])) fresh
+    ∙ settled-push c.self.inside.places.names.items c.self.inside.fresh.items c.args.name c.in_ok-share.share ∙ ap (λ s. s.placed) c.self.view_is
