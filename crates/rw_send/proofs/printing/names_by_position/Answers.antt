@@ -4,7 +4,7 @@ use Rattle.rw_ledger.specs.declared.ledger.Reason.{Reason}
 use Rattle.rw_send.proofs.printing.names_by_position.Goals as goal
 
 pub returns : goal.returns
-returns c = (
+returns g c = (
   rw (← c.in_ok-names.ensures) c.sort_unstable_by_key.ensures.permutation,
   IsNonDecreasingBy-from_sort_by_key (λ (name : ℕ × Reason). name.0) _ c.sort_unstable_by_key.ensures.sorted (λ a r q k. search rules),
 )
