@@ -163,9 +163,9 @@ module _ {T : Type 0} (tells : T → Type 0) (seen : T → List Exchange) (is_fo
   of_all left =
       let number : IsShardCount (length s.fleet.current) = report.number (none_of s.fault (λ some. left (report.failed some))) in
       let n = first_number report.placed.epochs s.fleet.current in
-      let pieces = fed s.fleet number.0 report.stopped.all in
+      let given = fed s.fleet number.0 report.stopped.all in
       subst (λ (st : Store). IsHeld s r st) comes.last
-      (in_order s r (machine n) pieces.0 report.stopped report.placed (is_machine n) (can_work n (first_some report.placed.epochs s.fleet.current report.placed.turned number)) (report.pieces_are ∙ pieces.1) number refl
+      (in_order s r (machine n) given.0 report.stopped report.placed (is_machine n) (can_work n (first_some report.placed.epochs s.fleet.current report.placed.turned number)) (report.pieces_are ∙ given.1) number refl
       (orderly left report.ended) left comes.exchanges comes.arrivals comes.heads comes.of_workers (one n))
 
   of_some : IsAbandoned r.outcome → length s.fleet.current ≤ 1000 → IsHeld s r store
@@ -175,9 +175,9 @@ module _ {T : Type 0} (tells : T → Type 0) (seen : T → List Exchange) (is_fo
       let placed = placed_from s last.before last.is report.placed in
       let n = first_number placed.epochs last.before.current in
       let all = all_from s last.before report.stopped.joined last.is report.stopped.all in
-      let pieces = fed last.before last.some all in
+      let given = fed last.before last.some all in
       subst (λ (st : Store). IsHeld s r st) comes.last
-      (abandoned s r (machine n) pieces.0 report.stopped last.before placed (is_machine n) (can_work n (first_some placed.epochs last.before.current placed.turned number)) (report.pieces_are ∙ pieces.1)
+      (abandoned s r (machine n) given.0 report.stopped last.before placed (is_machine n) (can_work n (first_some placed.epochs last.before.current placed.turned number)) (report.pieces_are ∙ given.1)
       all last.resolved number refl is comes.exchanges comes.arrivals comes.heads comes.of_workers (one n))
 
   held : (o : Outcome) → r.outcome ≡ o → (IsAbandoned r.outcome → length s.fleet.current ≤ 1000) → IsHeld s r store
