@@ -136,8 +136,8 @@ fn damage_of(tail: &Tail, fault: Option<TailFault>) -> Option<Damage>
 }
 
 /// Reads the segments of a log in order, to the end of the last one or to the first fault, and lets
-/// a taker take their entries. Returns what was found, and the taker. If `past_fault` is set, a segment with a fault is read to its end, so
-/// that its row has the number of all its bytes.
+/// a taker take their entries. Returns what was found, and the taker. If `past_fault` is set, a
+/// segment with a fault is read to its end, so that its row has the number of all its bytes.
 pub fn read_into<L: SegmentReader, T: Taker + Drop>(
     alloc: Global,
     log: &mut L,
