@@ -8,10 +8,11 @@ ghost use Rattle.rw_inspect.specs.Troubles.{not_rising, troubles_of};
 use crate::counts::Counts;
 use crate::troubles::{Trouble, Troubles};
 use rw_history::History;
-use rw_log_read::{Sums, Taker, one_more};
+use rw_log_read::{Sums, one_more};
 use rw_relabel::Choice;
 use rw_series_cache::{Cache, Known};
 use rw_types::Entry;
+use rw_wal_tail::Taker;
 use std::alloc::{AllocError, Global};
 use std::marker::Model;
 
@@ -150,11 +151,11 @@ impl Counter {
 }
 
 impl Taker for Counter {
-    type Task = ();
-
     ghost taken = { λ c. c };
 
-    ghost task = { λ _. tt };
+    ghost Fixed = { Unit {0} };
+
+    ghost fixed = { λ _. tt };
 
     fn take(&mut self, entry: Entry) -> Result<(), AllocError> {
         Counter::take(self, entry)

@@ -11,11 +11,12 @@ ghost use Rattle.rw_inspect.specs.Inspecting.{AllSure};
 ghost use Rattle.rw_log_read.specs.Left.{source_of};
 
 use rw_history::History;
-use rw_log_read::{Damage, LogRead, Named, Segment, SegmentList, Taker, one_more, read_into};
+use rw_log_read::{Damage, LogRead, Named, Segment, SegmentList, one_more, read_into};
 use rw_relabel::{Choice, Rules};
 use rw_series_cache::{Cache, Known};
 use rw_text::{push_integer, push_labels, push_number, push_value};
 use rw_types::{Entry, LabelFault, LabelSet, Names, RawLabels, ReadFault, Source, Word};
+use rw_wal_tail::Taker;
 use std::alloc::{AllocError, Global};
 use std::marker::Model;
 
@@ -297,11 +298,13 @@ impl Finder {
 }
 
 impl Taker for Finder {
-    type Task = Vec<u64>;
+    ghost use Rattle.std.specs.Prelude.{ℕ, List};
 
     ghost taken = { λ f. f.entries };
 
-    ghost task = { λ f. f.positions };
+    ghost Fixed = { List ℕ };
+
+    ghost fixed = { λ f. f.positions.items };
 
     fn take(&mut self, entry: Entry) -> Result<(), AllocError> {
         let note = self.note_of(&entry)?;
@@ -331,13 +334,14 @@ pub fn find_entries<S: Source + Drop>(
     ensures ok { IfOk result (Finds (map (source_of S.remaining) segments.items) positions.items) }
     ensures sure { AllSure (map (source_of S.is_sure) segments.items) → result ≡ Err Failed → ⊥ }
 {
-    let mut finder = Finder::new(alloc, positions);
+    let finder = Finder::new(alloc, positions);
     let mut log = SegmentList::new(segments);
+    let (read, finder) = read_into(alloc, &mut log, true, finder)?;
     let LogRead {
         segments,
         damage,
         skipped: _,
-    } = read_into(alloc, &mut log, true, &mut finder)?;
+    } = read;
     let (text, missing) = finder.lines(&segments)?;
     Ok(Found {
         text,

@@ -41,8 +41,7 @@ pub fn inspect<S: Source + Drop>(
     ensures ok { IfOk result (IsReportOfFirst (map (source_of S.remaining) segments.items)) }
     ensures sure { AllSure (map (source_of S.is_sure) segments.items) → result ≡ Err Failed → ⊥ }
 {
-    let mut counts = Counter::new(alloc);
     let mut log = SegmentList::new(segments);
-    let read = read_into(alloc, &mut log, true, &mut counts)?;
+    let (read, counts) = read_into(alloc, &mut log, true, Counter::new(alloc))?;
     Ok(report_of(alloc, &counts, read)?)
 }

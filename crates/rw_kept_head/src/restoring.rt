@@ -16,8 +16,8 @@ use crate::oddities::Oddities;
 use indexmap::IndexMap;
 use rw_head::{Head, Limits, Verdict};
 use rw_history::History;
-use rw_reopen::EntrySink;
 use rw_types::{Entry, LabelFault, LabelSet, Names, RawLabels, Word, utf8_takes_any_name};
+use rw_wal_tail::Taker;
 use rw_write_request::{Message, Series};
 use std::alloc::{AllocError, Global};
 use std::marker::Model;
@@ -324,7 +324,7 @@ impl Restoring {
     }
 }
 
-impl EntrySink for Restoring {
+impl Taker for Restoring {
     ghost use Rattle.rw_kept_head.specs.inner.Restoring.{Setting};
 
     ghost taken = { λ r. r.taken };

@@ -1,6 +1,6 @@
 //! The samples of a log, grouped by label set as its entries come.
 
-ghost use Rattle.std.specs.Prelude.{◌≡◌, ◌∷◌, ◌++◌, [], OnOk};
+ghost use Rattle.std.specs.Prelude.{◌≡◌, ◌∷◌, ◌++◌, [], OnOk, OnErr};
 ghost use Rattle.rw_batch.specs.Grouping.{message};
 ghost use Rattle.rw_log_commands.specs.Labelled.{labelled_samples};
 
@@ -61,7 +61,8 @@ impl Labelling {
 
     /// Takes the next entry.
     pub fn take(&mut self, entry: Entry) -> Result<(), AllocError>
-        ensures { OnOk result (self.new ≡ self.old ++ entry ∷ []) }
+        ensures ok { OnOk result (self.new ≡ self.old ++ entry ∷ []) }
+        ensures err { OnErr result (self.new ≡ self.old) }
     {
         let mut taken = self.taken.again();
         taken.push(&entry);

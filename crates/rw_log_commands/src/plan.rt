@@ -11,19 +11,22 @@ ghost use Rattle.rw_text.specs.declared.tool_fault.ToolFault.TheVariants.{Log, L
 use crate::planner::Planner;
 use crate::reading::read_log;
 use crate::run::read_input;
-use rw_log_read::{SegmentReader, Taker};
+use rw_log_read::SegmentReader;
 use rw_relabel::Choice;
 use rw_settings::Settings;
 use rw_text::ToolFault;
 use rw_types::{Entry, Sink, Source, write_all};
+use rw_wal_tail::Taker;
 use std::alloc::{AllocError, Global};
 
 impl Taker for Planner {
-    type Task = Choice;
+    ghost use Rattle.rw_relabel.specs.declared.choice.Choice.{Choice};
 
     ghost taken = { λ p. p.entries };
 
-    ghost task = { λ p. p.choice };
+    ghost Fixed = { Choice };
+
+    ghost fixed = { λ p. p.choice };
 
     fn take(&mut self, entry: Entry) -> Result<(), AllocError> {
         Planner::take(self, entry)
@@ -62,8 +65,7 @@ pub fn plan_log<L: SegmentReader, W: Sink>(
         × PlansLogPart choice (L.left log.old) (L.left log.new) (W.contents writer.old)
         (W.contents writer.new)) }
 {
-    let mut planner = Planner::new(alloc, choice);
-    read_log(alloc, log, &mut planner)?;
+    let planner = read_log(alloc, log, Planner::new(alloc, choice))?;
     let plan = planner.into_text()?;
     write_all(writer, &plan)?;
     Ok(())

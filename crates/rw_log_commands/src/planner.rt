@@ -110,12 +110,14 @@ impl Planner {
             (self.new ≡ record self.old { entries = self.old.entries ++ entry ∷ [] }) }
         ensures sound { OnOk result (self.old.has_failed ≡ false) }
         ensures err { OnErr result (self.new.has_failed ≡ true) }
+        ensures kept { OnErr result (self.new.entries ≡ self.old.entries) }
     {
         if self.has_failed {
             return Err(AllocError);
         }
         self.has_failed = true;
-        self.taken.push(&entry);
+        let mut taken = self.taken.again();
+        taken.push(&entry);
         match entry {
             Entry::Def { reference, labels } => define(
                 self.alloc,
@@ -128,6 +130,7 @@ impl Planner {
                 count(&self.cache, &mut self.counts, reference)?;
             }
         }
+        self.taken = taken;
         self.has_failed = false;
         Ok(())
     }

@@ -5,32 +5,30 @@ ghost use Rattle.rw_wal_format.specs.Pieces.{bytes, entries};
 ghost use Rattle.rw_log_commands.specs.Taking.{ReadsWhole};
 ghost use Rattle.rw_log_commands.specs.inner.Taking.{ReadsSegment, StopsLog, StopsReading};
 
-use rw_log_read::{LogRead, SegmentReader, Taker, read_into};
+use rw_log_read::{SegmentReader, read_into};
 use rw_text::ToolFault;
 use rw_types::Source;
+use rw_wal_tail::Taker;
 use std::alloc::Global;
 
-/// Reads a log to its end, and lets all its entries be taken, as its bytes come.
-pub(crate) fn read_log<L: SegmentReader, T: Taker>(
+/// Reads a log to its end, lets a taker take all its entries, as its bytes come, and returns the
+/// taker.
+pub(crate) fn read_log<L: SegmentReader, T: Taker + Drop>(
     alloc: Global,
     log: &mut L,
-    taker: &mut T,
-) -> Result<(), ToolFault>
-    requires { T.taken taker.old ≡ [] }
-    ensures ok { OnOk result (ReadsWhole (L.left log.old) (L.left log.new) (T.taken taker.new)) }
-    ensures task { OnOk result (T.task taker.new ≡ T.task taker.old) }
+    taker: T,
+) -> Result<T, ToolFault>
+    requires { T.taken taker ≡ [] }
+    ensures ok { IfOk result (λ t. ReadsWhole (L.left log.old) (L.left log.new) (T.taken t)) }
+    ensures fixed { IfOk result (λ t. T.fixed t ≡ T.fixed taker) }
     ensures sound { 0 < length (L.left log.old) → OnOk result (L.has_failed log.new ≡ false) }
     ensures err { IfErr result
         (StopsLog (L.left log.old) (L.left log.new) (L.is_sure log.old) (L.has_failed log.new)) }
 {
-    let LogRead {
-        segments: _,
-        damage,
-        skipped: _,
-    } = read_into(alloc, log, false, taker)?;
-    match damage {
+    let (read, taker) = read_into(alloc, log, false, taker)?;
+    match read.damage {
         Some(damage) => Err(ToolFault::from(damage.fault)),
-        None => Ok(()),
+        None => Ok(taker),
     }
 }
 
@@ -38,19 +36,19 @@ pub(crate) fn read_log<L: SegmentReader, T: Taker>(
 pub(crate) fn read_segment<R: Source, T: Taker + Drop>(
     alloc: Global,
     reader: &mut R,
-    mut taker: T,
+    taker: T,
 ) -> Result<T, ToolFault>
     requires { T.taken taker ≡ [] }
     ensures ok { IfOk result (λ t. (segment : List ℕ)
         × ReadsSegment None (R.remaining reader.old) (R.remaining reader.new) segment
         × (T.taken t ≡ entries (bytes segment ∷ []))) }
-    ensures task { IfOk result (λ t. T.task t ≡ T.task taker) }
+    ensures fixed { IfOk result (λ t. T.fixed t ≡ T.fixed taker) }
     ensures sound { OnOk result (R.has_failed reader.new ≡ false) }
     ensures err { IfErr result
         (StopsReading (R.remaining reader.old) (R.remaining reader.new) (R.has_failed reader.new)) }
 {
-    match read_log(alloc, reader, &mut taker) {
-        Ok(()) => Ok(taker),
+    match read_log(alloc, reader, taker) {
+        Ok(taker) => Ok(taker),
         Err(fault) => Err(fault),
     }
 }

@@ -11,18 +11,18 @@ ghost use Rattle.rw_log_commands.specs.inner.Running.{StopsInput};
 
 use crate::labelling::Labelling;
 use crate::reading::read_segment;
-use rw_log_read::Taker;
 use rw_text::ToolFault;
 use rw_types::{Entry, Sink, Source, read_to_end, write_all};
+use rw_wal_tail::Taker;
 use rw_write_request::encode;
 use std::alloc::{AllocError, Global};
 
 impl Taker for Labelling {
-    type Task = ();
-
     ghost taken = { λ l. l };
 
-    ghost task = { λ _. tt };
+    ghost Fixed = { Unit {0} };
+
+    ghost fixed = { λ _. tt };
 
     fn take(&mut self, entry: Entry) -> Result<(), AllocError> {
         Labelling::take(self, entry)

@@ -2,7 +2,7 @@
 //! read it.
 #![tactic(auto)]
 
-mod here;
+mod counting;
 mod log;
 mod log_read;
 mod reading;
@@ -10,7 +10,6 @@ mod segment_list;
 mod segment_reader;
 mod skipped;
 mod sums;
-mod taker;
 
 pub use log::read_into;
 pub use log_read::{Damage, LogRead, Segment};
@@ -18,4 +17,3 @@ pub use segment_list::{Named, SegmentList};
 pub use segment_reader::SegmentReader;
 pub use skipped::SkippedRecords;
 pub use sums::{Sums, one_more};
-pub use taker::Taker;

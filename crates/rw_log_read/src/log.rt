@@ -8,14 +8,13 @@ ghost use Rattle.rw_log_read.specs.Left.{current, later};
 ghost use Rattle.rw_log_read.specs.Logs.{ReadsInto, ReadsLog, fault_in};
 ghost use Rattle.rw_log_read.specs.inner.Logs.{AreTaken, ReadsSegment, begun};
 
-use crate::here::Here;
+use crate::counting::Counting;
 use crate::log_read::{Damage, LogRead, Segment};
 use crate::reading::read_text;
 use crate::segment_reader::SegmentReader;
 use crate::skipped::skipped_records;
-use crate::taker::Taker;
 use rw_types::ReadFault;
-use rw_wal_tail::{Tail, TailFault};
+use rw_wal_tail::{Tail, TailFault, Taker};
 use std::alloc::{AllocError, Global};
 
 /// How many bytes one read asks for.
@@ -55,17 +54,17 @@ fn read_segment<L: SegmentReader, T: Taker>(
     is_first: bool,
     chunk: &mut [u8],
     tail: &mut Tail,
-    taker: &mut T,
+    taker: &mut Counting<T>,
 ) -> Result<(Segment, Option<TailFault>), ReadFault>
     requires room { 0 < length chunk.old }
     requires some { 0 < length (L.left log.old) }
-    requires sound { HasTakenAll tail.old (T.taken taker.old) None }
+    requires sound { HasTakenAll tail.old (T.taken taker.old.taker) None }
     ensures ok { IfOk result
         (ReadsSegment past_fault is_first (current (L.left log.old)) (current (L.left log.new))
-        tail.old tail.new (T.taken taker.old) (T.taken taker.new)) }
+        tail.old tail.new (T.taken taker.old.taker) (T.taken taker.new.taker)) }
     ensures left { OnOk result
         (L.left log.new ≡ current (L.left log.new) ∷ later (L.left log.old)) }
-    ensures task { OnOk result (T.task taker.new ≡ T.task taker.old) }
+    ensures fixed { OnOk result (T.fixed taker.new.taker ≡ T.fixed taker.old.taker) }
     ensures sound { IfOk result (λ found. found.1 ≡ None → L.has_failed log.new ≡ false) }
     ensures failed { result ≡ Err Failed → L.has_failed log.new ≡ true }
     ensures sure { L.is_sure log.old ≡ true → result ≡ Err Failed → ⊥ }
@@ -74,13 +73,13 @@ fn read_segment<L: SegmentReader, T: Taker>(
     let name = String::from_str(alloc, log.name())?;
     let before = tail.skipped();
     begin_segment(is_first, tail);
-    let mut here = Here::new();
-    let (bytes, fault) = read_text(log, past_fault, chunk, tail, &mut here, taker)?;
+    taker.begin();
+    let (bytes, fault) = read_text(log, past_fault, chunk, tail, taker)?;
     let found = Segment {
         name,
         bytes,
         passed: tail.skipped() - before,
-        sums: here.sums(),
+        sums: taker.sums(),
     };
     Ok((found, fault))
 }
@@ -92,14 +91,14 @@ fn read_all<L: SegmentReader, T: Taker>(
     log: &mut L,
     past_fault: bool,
     tail: &mut Tail,
-    taker: &mut T,
+    taker: &mut Counting<T>,
     rows: &mut Vec<Segment>,
 ) -> Result<Option<TailFault>, ReadFault>
-    requires { AreTaken [] tail.old (T.taken taker.old) rows.old.items None }
+    requires { AreTaken [] tail.old (T.taken taker.old.taker) rows.old.items None }
     ensures ok { IfOk result (λ fault. (texts : List (List ℕ))
         × ReadsLog past_fault (L.left log.old) (L.left log.new) texts fault
-        × AreTaken texts tail.new (T.taken taker.new) rows.new.items fault) }
-    ensures task { OnOk result (T.task taker.new ≡ T.task taker.old) }
+        × AreTaken texts tail.new (T.taken taker.new.taker) rows.new.items fault) }
+    ensures fixed { OnOk result (T.fixed taker.new.taker ≡ T.fixed taker.old.taker) }
     ensures sound { IfOk result
         (λ fault. fault ≡ None → 0 < length (L.left log.old) → L.has_failed log.new ≡ false) }
     ensures failed { result ≡ Err Failed → L.has_failed log.new ≡ true }
@@ -137,31 +136,33 @@ fn damage_of(tail: &Tail, fault: Option<TailFault>) -> Option<Damage>
 }
 
 /// Reads the segments of a log in order, to the end of the last one or to the first fault, and lets
-/// their entries be taken. If `past_fault` is set, a segment with a fault is read to its end, so
-/// that its row has the number of all its bytes.
-pub fn read_into<L: SegmentReader, T: Taker>(
+/// a taker take their entries. Returns what was found, and the taker. If `past_fault` is set, a
+/// segment with a fault is read to its end, so that its row has the number of all its bytes.
+pub fn read_into<L: SegmentReader, T: Taker + Drop>(
     alloc: Global,
     log: &mut L,
     past_fault: bool,
-    taker: &mut T,
-) -> Result<LogRead, ReadFault>
-    requires { T.taken taker.old ≡ [] }
+    taker: T,
+) -> Result<(LogRead, T), ReadFault>
+    requires { T.taken taker ≡ [] }
     ensures ok { IfOk result
-        (λ read. ReadsInto past_fault (L.left log.old) (L.left log.new) (T.taken taker.new)
-        read.segments.items (fault_in read.damage)) }
-    ensures task { OnOk result (T.task taker.new ≡ T.task taker.old) }
-    ensures sound { IfOk result (λ read. fault_in read.damage ≡ None
+        (λ read. ReadsInto past_fault (L.left log.old) (L.left log.new) (T.taken read.1)
+        read.0.segments.items (fault_in read.0.damage)) }
+    ensures fixed { IfOk result (λ read. T.fixed read.1 ≡ T.fixed taker) }
+    ensures sound { IfOk result (λ read. fault_in read.0.damage ≡ None
         → 0 < length (L.left log.old) → L.has_failed log.new ≡ false) }
     ensures failed { result ≡ Err Failed → L.has_failed log.new ≡ true }
     ensures sure { L.is_sure log.old ≡ true → result ≡ Err Failed → ⊥ }
 {
     let mut tail = Tail::new(alloc);
     let mut rows = Vec::new(alloc);
-    let fault = read_all(alloc, log, past_fault, &mut tail, taker, &mut rows)?;
+    let mut counting = Counting::new(taker);
+    let fault = read_all(alloc, log, past_fault, &mut tail, &mut counting, &mut rows)?;
     let skipped = skipped_records(alloc, &tail)?;
-    Ok(LogRead {
+    let read = LogRead {
         segments: rows,
         damage: damage_of(&tail, fault),
         skipped,
-    })
+    };
+    Ok((read, counting.into_taker()))
 }

@@ -6,70 +6,12 @@ ghost use Rattle.rw_types.specs.declared.transfer.ReadFault.TheVariants.{Failed}
 ghost use Rattle.rw_types.specs.declared.entry.Entry.{Entry};
 ghost use Rattle.rw_wal_tail.specs.Taking.{HasTaken};
 ghost use Rattle.rw_log_read.specs.Left.{current, later};
-ghost use Rattle.rw_log_read.specs.inner.Reading.{ComesNext, FeedsMore, ReadsText, TakesAll, counted};
+ghost use Rattle.rw_log_read.specs.inner.Reading.{FeedsMore, ReadsText};
 
-use crate::here::Here;
 use crate::segment_reader::SegmentReader;
-use crate::taker::Taker;
-use rw_types::{Entry, ReadFault};
-use rw_wal_tail::{Tail, TailFault};
+use rw_types::ReadFault;
+use rw_wal_tail::{Tail, TailFault, Taker, take_all};
 use std::alloc::AllocError;
-
-/// What comes next in a log.
-#[derive(Debug, Drop)]
-pub(crate) enum Next {
-    Entry(Entry),
-    /// No more entries as far as the log has come, and the fault, if it has one.
-    End(Option<TailFault>),
-}
-
-/// Returns what comes next.
-fn next_of(tail: &mut Tail) -> Result<Next, AllocError>
-    ensures comes { (taken : List Entry) → HasTaken tail.old taken
-        → IfOk result (ComesNext taken tail.new) }
-    ensures pieces { tail.new.pieces ≡ tail.old.pieces }
-{
-    match tail.next_entry() {
-        Ok(Some(entry)) => Ok(Next::Entry(entry)),
-        Ok(None) => Ok(Next::End(None)),
-        Err(fault) => match fault {
-            TailFault::OutOfMemory => Err(AllocError),
-            _ => Ok(Next::End(Some(fault))),
-        },
-    }
-}
-
-/// Takes an entry, and counts it.
-fn take_one<T: Taker>(entry: Entry, here: &mut Here, taker: &mut T) -> Result<(), AllocError>
-    ensures taken { OnOk result (T.taken taker.new ≡ T.taken taker.old ++ entry ∷ []) }
-    ensures here { OnOk result (here.new ≡ here.old ++ entry ∷ []) }
-    ensures task { OnOk result (T.task taker.new ≡ T.task taker.old) }
-{
-    here.take(&entry)?;
-    taker.take(entry)
-}
-
-/// Takes the entries that the reader of the log has left, and returns the fault after them, if
-/// there is one.
-fn take_all<T: Taker>(
-    tail: &mut Tail,
-    here: &mut Here,
-    taker: &mut T,
-) -> Result<Option<TailFault>, AllocError>
-    requires { HasTaken tail.old (T.taken taker.old) }
-    ensures ok { IfOk result
-        (TakesAll tail.old tail.new (counted (T.taken taker.old) here.old)
-        (counted (T.taken taker.new) here.new)) }
-    ensures task { OnOk result (T.task taker.new ≡ T.task taker.old) }
-{
-    for _ in 0..u64::MAX {
-        match next_of(tail)? {
-            Next::Entry(entry) => take_one(entry, here, taker)?,
-            Next::End(fault) => return Ok(fault),
-        }
-    }
-    Err(AllocError)
-}
 
 /// Feeds what one read returns, and returns how many bytes that was; `None` means the end of the
 /// segment.
@@ -115,7 +57,6 @@ pub(crate) fn read_text<L: SegmentReader, T: Taker>(
     past_fault: bool,
     chunk: &mut [u8],
     tail: &mut Tail,
-    here: &mut Here,
     taker: &mut T,
 ) -> Result<(u64, Option<TailFault>), ReadFault>
     requires room { 0 < length chunk.old }
@@ -123,10 +64,10 @@ pub(crate) fn read_text<L: SegmentReader, T: Taker>(
     requires taken { HasTaken tail.old (T.taken taker.old) }
     ensures ok { IfOk result
         (ReadsText past_fault (current (L.left log.old)) (current (L.left log.new)) tail.old
-        tail.new (counted (T.taken taker.old) here.old) (counted (T.taken taker.new) here.new)) }
+        tail.new (T.taken taker.old) (T.taken taker.new)) }
     ensures left { OnOk result
         (L.left log.new ≡ current (L.left log.new) ∷ later (L.left log.old)) }
-    ensures task { OnOk result (T.task taker.new ≡ T.task taker.old) }
+    ensures fixed { OnOk result (T.fixed taker.new ≡ T.fixed taker.old) }
     ensures sound { IfOk result (λ found. found.1 ≡ None → L.has_failed log.new ≡ false) }
     ensures failed { result ≡ Err Failed → L.has_failed log.new ≡ true }
     ensures sure { L.is_sure log.old ≡ true → result ≡ Err Failed → ⊥ }
@@ -134,7 +75,7 @@ pub(crate) fn read_text<L: SegmentReader, T: Taker>(
 {
     let mut bytes = 0;
     for _ in 0..u64::MAX {
-        let fault = take_all(tail, here, taker)?;
+        let fault = take_all(tail, taker)?;
         if fault.is_some() && !past_fault {
             return Ok((bytes, fault));
         }

@@ -1,3 +1,4 @@
+mod GreatestLemmas
 mod HeaderLemmas
 mod ReadingLemmas
 mod RecordAtLemmas

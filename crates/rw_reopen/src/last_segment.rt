@@ -5,10 +5,10 @@ ghost use Rattle.rw_reopen.specs.inner.Reading.{IsFaultOf};
 ghost use Rattle.rw_reopen.specs.inner.Reopening.{IsFaultAt, IsLast, IsTornOf};
 
 use crate::cutting::{damage_of, find_cut};
-use crate::entry_sink::EntrySink;
 use crate::error::Damage;
 use crate::reading::{SegmentFault, read_segment};
 use crate::records::find_after_fault;
+use rw_wal_tail::Taker;
 use std::alloc::{AllocError, Global};
 
 /// What was found of a segment. It may be the last one of its log, or another one follows: then it
@@ -64,18 +64,17 @@ fn damage_in(segment: usize, fault: Option<SegmentFault>) -> Option<Damage>
 }
 
 /// Reads a segment to its end, and lets its entries be taken.
-pub(crate) fn read_last<S: EntrySink>(
+pub(crate) fn read_last<S: Taker>(
     alloc: Global,
     text: &[u8],
     sink: &mut S,
-    greatest: &mut u64,
     segment: usize,
 ) -> Result<LastSegment, AllocError>
-    ensures read { IfOk result (λ last. IsLast text.now segment last (S.taken sink.old)
-        (S.taken sink.new) greatest.old greatest.new) }
+    ensures read { IfOk result
+        (λ last. IsLast text.now segment last (S.taken sink.old) (S.taken sink.new)) }
     ensures fixed { OnOk result (S.fixed sink.new ≡ S.fixed sink.old) }
 {
-    let read = read_segment(alloc, text, sink, greatest)?;
+    let read = read_segment(alloc, text, sink)?;
     let cut = find_cut(text, &read, segment);
     let follows = find_after_fault(text, &read);
     let torn = torn_of(alloc, text, cut)?;

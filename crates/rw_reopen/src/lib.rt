@@ -3,15 +3,14 @@
 #![tactic(auto)]
 
 mod cutting;
-mod entry_sink;
 mod error;
+mod greatest;
 mod last_segment;
 mod opening;
 mod reading;
 mod records;
 mod walking;
 
-pub use entry_sink::EntrySink;
 pub use error::{Damage, ReopenError};
 pub use opening::{LogEnd, LogReading};
 pub use walking::whole_len;

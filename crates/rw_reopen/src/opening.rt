@@ -6,14 +6,16 @@ ghost use Rattle.rw_journal.specs.Journal.{Segments};
 ghost use Rattle.rw_wal_format.specs.Pieces.{page_size};
 ghost use Rattle.rw_journal.specs.Logs.{entries_of, IsWholeText};
 ghost use Rattle.rw_journal.specs.TornLogs.{AllBefore};
+ghost use Rattle.rw_reopen.specs.Reading.{greatest_after};
 ghost use Rattle.rw_reopen.specs.Reopening.{HasDamage, HasRecordAfter, IsEnd};
 ghost use Rattle.rw_reopen.specs.inner.Reopening.{EndsLog, IsFound, IsReadBefore};
 
-use crate::entry_sink::EntrySink;
 use crate::error::{Damage, ReopenError};
+use crate::greatest::Greatest;
 use crate::last_segment::{LastSegment, read_last};
 use rw_history::History;
 use rw_journal::SegmentTaker;
+use rw_wal_tail::Taker;
 use std::alloc::{AllocError, Global};
 use std::marker::Model;
 
@@ -44,8 +46,8 @@ pub(crate) enum Found {
 
 /// Returns why no further segment is read, if a next one comes.
 fn damage_before(found: &Found) -> Option<Damage>
-    ensures { (ss : Segments) (taken : List Entry) (greatest : ℕ)
-        → IsFound ss taken greatest found.now → IsReadBefore ss taken greatest result }
+    ensures { (ss : Segments) (taken : List Entry) → IsFound ss taken found.now
+        → IsReadBefore ss taken result }
 {
     match found {
         Found::Nothing => None,
@@ -55,30 +57,29 @@ fn damage_before(found: &Found) -> Option<Damage>
 }
 
 /// Reads the next segment, unless one before it is not whole, and returns what was found.
-fn read_next<S: EntrySink>(
+fn read_next<S: Taker>(
     alloc: Global,
     found: &Found,
     text: &[u8],
     sink: &mut S,
-    greatest: &mut u64,
     segment: usize,
 ) -> Result<Found, AllocError>
     ensures found { IfOk result (λ next. (ss : Segments) → segment ≡ length ss
-        → IsFound ss (S.taken sink.old) greatest.old found.now
-        → IsFound (ss ++ text.now ∷ []) (S.taken sink.new) greatest.new next) }
+        → IsFound ss (S.taken sink.old) found.now
+        → IsFound (ss ++ text.now ∷ []) (S.taken sink.new) next) }
     ensures fixed { OnOk result (S.fixed sink.new ≡ S.fixed sink.old) }
 {
     match damage_before(found) {
         Some(damage) => Ok(Found::Broken(damage)),
-        None => Ok(Found::Last(read_last(alloc, text, sink, greatest, segment)?)),
+        None => Ok(Found::Last(read_last(alloc, text, sink, segment)?)),
     }
 }
 
 /// Returns the fault of the last segment, and where a whole record begins after it, if there are
 /// both.
 fn record_after(found: &Found) -> Option<(Damage, usize)>
-    ensures { IfSome result (λ r. (ss : Segments) (taken : List Entry) (greatest : ℕ)
-        → IsFound ss taken greatest found.now → HasRecordAfter ss r.0 r.1) }
+    ensures { IfSome result (λ r. (ss : Segments) (taken : List Entry)
+        → IsFound ss taken found.now → HasRecordAfter ss r.0 r.1) }
 {
     match found {
         Found::Last(last) => last.record_after_fault(),
@@ -89,9 +90,9 @@ fn record_after(found: &Found) -> Option<(Damage, usize)>
 /// Returns the end of a log of which this was found.
 fn end_log(alloc: Global, found: Found, greatest: u64) -> Result<LogEnd, ReopenError>
     ensures end { IfOk result (λ end. (ss : Segments) (taken : List Entry)
-        → IsFound ss taken greatest found → EndsLog ss taken end) }
+        → greatest ≡ greatest_after 0 taken → IsFound ss taken found → EndsLog ss taken end) }
     ensures damaged { IfErr result (λ e. (ss : Segments) (taken : List Entry)
-        → IsFound ss taken greatest found → HasDamage ss e) }
+        → IsFound ss taken found → HasDamage ss e) }
     ensures found { IsErrOf result ReopenError.Failed → ⊥ }
 {
     match found {
@@ -129,18 +130,17 @@ fn end_log(alloc: Global, found: Found, greatest: u64) -> Result<LogEnd, ReopenE
 /// The log then has to be closed by `close_torn` at `whole`. Before that the caller may keep a copy
 /// of the bytes that it cuts, which are `torn`.
 #[derive(Drop)]
-pub struct LogReading<S: EntrySink> {
+pub struct LogReading<S: Taker> {
     alloc: Global,
     segments: History<History<u8>>,
     count: usize,
-    sink: S,
-    greatest: u64,
+    sink: Greatest<S>,
     found: Found,
     /// Whether memory ran out while a segment was taken.
     failed: bool,
 }
 
-impl<S: EntrySink> Model for LogReading<S> {
+impl<S: Taker> Model for LogReading<S> {
     ghost use Rattle.std.specs.Prelude.{◌≡◌, length, false};
     ghost use Rattle.std.specs.Coded.{codes};
     ghost use Rattle.std.specs.FinMap as map;
@@ -151,13 +151,13 @@ impl<S: EntrySink> Model for LogReading<S> {
 
     ghost coded = { Prim.hlevel (codes, map.code) };
 
-    ghost view = { λ l. record { segments = l.segments; sink = l.sink; failed = l.failed } };
+    ghost view = { λ l. record { segments = l.segments; sink = l.sink.taker; failed = l.failed } };
 
     ghost invariant = { λ l. l.failed ≡ false → (l.count ≡ length l.segments)
-        × IsFound l.segments (S.taken l.sink) l.greatest l.found };
+        × IsFound l.segments (S.taken l.sink.taker) l.found };
 }
 
-impl<S: EntrySink + Drop> LogReading<S> {
+impl<S: Taker + Drop> LogReading<S> {
     /// Begins with no segment, and a sink that has taken nothing.
     pub fn new(alloc: Global, sink: S) -> LogReading<S>
         requires nothing { S.taken sink ≡ [] }
@@ -169,8 +169,7 @@ impl<S: EntrySink + Drop> LogReading<S> {
             alloc,
             segments: History::new(),
             count: 0,
-            sink,
-            greatest: 0,
+            sink: Greatest::new(sink),
             found: Found::Nothing,
             failed: false,
         }
@@ -209,21 +208,20 @@ impl<S: EntrySink + Drop> LogReading<S> {
             segments: _,
             count: _,
             sink,
-            greatest,
             found,
             failed,
         } = self;
         if failed {
             return Err(ReopenError::OutOfMemory);
         }
-        match end_log(alloc, found, greatest) {
-            Ok(end) => Ok((sink, end)),
+        match end_log(alloc, found, sink.greatest()) {
+            Ok(end) => Ok((sink.into_taker(), end)),
             Err(error) => Err(error),
         }
     }
 }
 
-impl<S: EntrySink> SegmentTaker for LogReading<S> {
+impl<S: Taker> SegmentTaker for LogReading<S> {
     ghost taken = { λ l. l.segments };
 
     ghost Fixed = { S.Fixed };
@@ -241,14 +239,7 @@ impl<S: EntrySink> SegmentTaker for LogReading<S> {
         if had_failed || self.count == usize::MAX {
             return Err(AllocError);
         }
-        self.found = read_next(
-            self.alloc,
-            &self.found,
-            text,
-            &mut self.sink,
-            &mut self.greatest,
-            self.count,
-        )?;
+        self.found = read_next(self.alloc, &self.found, text, &mut self.sink, self.count)?;
         self.segments.push(&History::of(text));
         self.count += 1;
         self.failed = false;

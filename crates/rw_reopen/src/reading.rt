@@ -1,27 +1,16 @@
 //! A segment, read to its end.
 
-ghost use Rattle.std.specs.Prelude.{◌≡◌, ◌<◌, ◌≤◌, [], length, None, Some, IfOk, OnOk};
-ghost use Rattle.rw_wal_format.specs.Pieces.{entries, page_size};
+ghost use Rattle.std.specs.Prelude.{◌≡◌, ◌<◌, [], length, None, Some, IfOk, OnOk};
+ghost use Rattle.rw_wal_format.specs.Pieces.{page_size};
 ghost use Rattle.rw_wal_format.specs.declared.tail_fault.TailFault.{TailFault};
 ghost use Rattle.rw_wal_tail.specs.Places.{stop_after};
-ghost use Rattle.rw_reopen.specs.Reading.{greater};
-ghost use Rattle.rw_reopen.specs.inner.Reading.{ComesNext, HasFed, IsPlaced, ReadsSegment, TakesAll};
+ghost use Rattle.rw_reopen.specs.inner.Reading.{HasFed, IsPlaced, ReadsSegment};
 
-use crate::entry_sink::EntrySink;
-use rw_types::Entry;
-use rw_wal_tail::{Tail, TailFault};
+use rw_wal_tail::{Tail, TailFault, Taker, take_all};
 use std::alloc::{AllocError, Global};
 
 /// How many bytes of a segment are fed at once.
 const CHUNK: usize = 64 * 1024;
-
-/// What comes next in a log.
-#[derive(Debug, Drop)]
-pub(crate) enum Next {
-    Entry(Entry),
-    /// No further entry of what was fed, and this fault, if it has one.
-    End(Option<TailFault>),
-}
 
 /// Why a segment cannot be followed by another one.
 #[derive(Clone, Copy, Debug, Drop)]
@@ -40,70 +29,11 @@ pub(crate) struct SegmentRead {
     pub(crate) fault: Option<SegmentFault>,
 }
 
-/// Returns what comes next.
-fn read_next(tail: &mut Tail) -> Result<Next, AllocError>
-    ensures { IfOk result (ComesNext tail.old tail.new) }
-{
-    match tail.next_entry() {
-        Ok(Some(entry)) => Ok(Next::Entry(entry)),
-        Ok(None) => Ok(Next::End(None)),
-        Err(fault) => match fault {
-            TailFault::OutOfMemory => Err(AllocError),
-            _ => Ok(Next::End(Some(fault))),
-        },
-    }
-}
-
-/// Returns the greatest reference that is defined, with one more entry.
-fn greater(greatest: u64, entry: &Entry) -> u64
-    ensures { result ≡ greater greatest entry.now }
-{
-    match entry {
-        Entry::Def { reference, .. } => {
-            if greatest < *reference {
-                *reference
-            } else {
-                greatest
-            }
-        }
-        Entry::Sample { .. } => greatest,
-    }
-}
-
-/// Takes the entries that the reader has left, and returns the fault after them, if there is one.
-fn take_all<S: EntrySink>(
-    tail: &mut Tail,
-    sink: &mut S,
-    greatest: &mut u64,
-) -> Result<Option<TailFault>, AllocError>
-    requires { tail.old.given ≤ length (entries tail.old.pieces) }
-    ensures all { IfOk result
-        (TakesAll tail.old tail.new (S.taken sink.old) (S.taken sink.new) greatest.old
-        greatest.new) }
-    ensures fixed { OnOk result (S.fixed sink.new ≡ S.fixed sink.old) }
-{
-    for _ in 0..u64::MAX {
-        match read_next(tail)? {
-            Next::Entry(entry) => {
-                *greatest = greater(*greatest, &entry);
-                sink.take(entry)?;
-            }
-            Next::End(fault) => return Ok(fault),
-        }
-    }
-    Err(AllocError)
-}
-
 /// Feeds the bytes of a segment, and takes its entries.
-fn feed_text<S: EntrySink>(
-    tail: &mut Tail,
-    text: &[u8],
-    sink: &mut S,
-    greatest: &mut u64,
-) -> Result<(), AllocError>
+fn feed_text<S: Taker>(tail: &mut Tail, text: &[u8], sink: &mut S) -> Result<(), AllocError>
     requires { tail.old ≡ record { pieces = []; given = 0; skipped = []; fault = None } }
     ensures fed { OnOk result
-        (HasFed text.now tail.new (S.taken sink.old) (S.taken sink.new) greatest.old greatest.new) }
+        (HasFed text.now tail.new (S.taken sink.old) (S.taken sink.new)) }
     ensures fixed { OnOk result (S.fixed sink.new ≡ S.fixed sink.old) }
 {
     let mut rest = text;
@@ -115,7 +45,7 @@ fn feed_text<S: EntrySink>(
         };
         let (part, later) = rest.split_at(len);
         tail.feed(part)?;
-        take_all(tail, sink, greatest)?;
+        take_all(tail, sink)?;
         rest = later;
     }
     Ok(())
@@ -146,23 +76,20 @@ fn place_fault(tail: &Tail, fault: Option<TailFault>) -> Option<SegmentFault>
     }
 }
 
-/// Reads a segment to its end, and lets its entries be taken. The greatest reference grows to that
-/// of its definitions.
-pub(crate) fn read_segment<S: EntrySink>(
+/// Reads a segment to its end, and lets its entries be taken.
+pub(crate) fn read_segment<S: Taker>(
     alloc: Global,
     text: &[u8],
     sink: &mut S,
-    greatest: &mut u64,
 ) -> Result<SegmentRead, AllocError>
     ensures read { IfOk result
-        (λ read. ReadsSegment text.now read (S.taken sink.old) (S.taken sink.new) greatest.old
-        greatest.new) }
+        (λ read. ReadsSegment text.now read (S.taken sink.old) (S.taken sink.new)) }
     ensures fixed { OnOk result (S.fixed sink.new ≡ S.fixed sink.old) }
 {
     let mut tail = Tail::new(alloc);
-    feed_text(&mut tail, text, sink, greatest)?;
+    feed_text(&mut tail, text, sink)?;
     tail.next_segment();
-    let fault = take_all(&mut tail, sink, greatest)?;
+    let fault = take_all(&mut tail, sink)?;
     Ok(SegmentRead {
         entries: tail.entries_read(),
         fault: place_fault(&tail, fault),

@@ -6,8 +6,9 @@ ghost use Rattle.rw_journal.specs.Memory.{image_segments, IsLeftOf};
 
 use rw_history::History;
 use rw_journal::{MemoryJournal, close_torn};
-use rw_reopen::{EntrySink, LogEnd, LogReading, ReopenError};
+use rw_reopen::{LogEnd, LogReading, ReopenError};
 use rw_types::Entry;
+use rw_wal_tail::Taker;
 use std::alloc::{AllocError, Global};
 
 /// The definition of reference 1 as `{__name__="up"}` in 29 bytes, and a sample of it at 1000 with
@@ -36,7 +37,7 @@ impl Counter {
     }
 }
 
-impl EntrySink for Counter {
+impl Taker for Counter {
     ghost taken = { λ c. c.past };
 
     ghost Fixed = { Unit {0} };

@@ -6,7 +6,7 @@ use rw_codes::{
 use rw_relabel::{Action, Choice, Rule, RuleFault, Rules};
 use rw_series_cache::{Cache, Known, Router};
 use rw_types::{Entry, LabelFault, LabelSet, Names, Place, RawLabels, Sink, Source, Word};
-use rw_wal_tail::{Piece, SkippedType, Tail, TailFault, is_out_of_memory};
+use rw_wal_tail::{Piece, SkippedType, Tail, TailFault, Taker, is_out_of_memory, take_all};
 use rw_wal_write::{LogFault, SegmentWriter, sample_record, series_record};
 use rw_write_request::{Message, Series, WireFault, decode, encode};
 
@@ -30,7 +30,7 @@ pub fn of_the_log<R: Source, W: Sink>() {
 }
 
 /// The calls of codes and logs that the crates above need.
-pub fn of_parts<W: Sink>() {
+pub fn of_parts<W: Sink, T: Taker>() {
     let _ = (push_uvarint, uvarint_len);
     let _ = (
         SegmentWriter::<W>::resume,
@@ -39,6 +39,7 @@ pub fn of_parts<W: Sink>() {
     );
     let _ = (Tail::feed_piece, Tail::fault_place, Tail::copy);
     let _ = (TailFault::number, is_out_of_memory, Tail::skipped_of);
+    let _ = (T::take, take_all::<T>);
     let _ = (SkippedType::from_byte, SkippedType::of, SkippedType::number);
     let _ = (SkippedType::loses_samples, SkippedType::name);
 }

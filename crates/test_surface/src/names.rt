@@ -144,6 +144,7 @@ pub use rw_wal_tail::Piece;
 pub use rw_wal_tail::SkippedType;
 pub use rw_wal_tail::Tail;
 pub use rw_wal_tail::TailFault;
+pub use rw_wal_tail::Taker;
 pub use rw_wal_write::LogFault;
 pub use rw_wal_write::SegmentWriter;
 pub use rw_world::Event;

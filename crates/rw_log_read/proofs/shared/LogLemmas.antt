@@ -18,7 +18,7 @@ use Rattle.rw_log_read.specs.Left.{current, later, left_in, source_of}
 use Rattle.rw_log_read.specs.Logs.{AreRead, AreRows, IsRead, IsRow, ReadsFirst, ReadsInto, ReadsLog, ReadsTo, next_pieces, log_of}
 use Rattle.rw_log_read.specs.inner.Logs.{AreTaken, ReadsSegment, begun}
 use Rattle.rw_log_read.specs.Reading.{IsReadToEnd}
-use Rattle.rw_log_read.specs.inner.Reading.{Counted, ReadsText, counted}
+use Rattle.rw_log_read.specs.inner.Reading.{ReadsText}
 use Rattle.rw_log_read.specs.Sums.{sums_of}
 use Rattle.rw_log_read.proofs.shared.ReadingLemmas.{one_left}
 use Rattle.rw_log_read.specs.declared.log_read.Segment.{Segment}
@@ -197,25 +197,25 @@ taken_none t taken rows e c r =
     }
 
 -- a segment was read after others
-pub reads_segment : (past_fault is_first : Bool) (left_before left_after : Option (List ℕ)) (old begun_at new : Fed) (before none after here : List Entry) (found : ℕ × Option TailFault) (row : Segment)
-    → begun_at ≡ record old { pieces = begun is_first old.pieces } → none ≡ []
-    → ReadsText past_fault left_before left_after begun_at new (counted before none) (counted after here) found → row.bytes ≡ found.0 → row.sums ≡ sums_of here → length old.skipped + row.passed ≡ length new.skipped
+pub reads_segment : (past_fault is_first : Bool) (left_before left_after : Option (List ℕ)) (old begun_at new : Fed) (before first after : List Entry) (found : ℕ × Option TailFault) (row : Segment)
+    → begun_at ≡ record old { pieces = begun is_first old.pieces } → first ≡ before
+    → ReadsText past_fault left_before left_after begun_at new first after found → row.bytes ≡ found.0 → ((more : List Entry) → after ≡ first ++ more → row.sums ≡ sums_of more) → length old.skipped + row.passed ≡ length new.skipped
     → ReadsSegment past_fault is_first left_before left_after old new before after (row, found.1)
-reads_segment past_fault is_first left_before left_after old begun_at new before none after here found row b a r bytes_are sums_are passed = record {
+reads_segment past_fault is_first left_before left_after old begun_at new before first after found row b a r bytes_are sums_are passed = record {
   text = r.text;
   read = r.read;
   ended = r.ended;
   length_is = bytes_are ∙ r.counted;
   same = λ later. r.same later ∙ ap (λ (x : Fed). reading page_size (x.pieces ++ bytes r.text ∷ later)) b;
   all = r.all;
-  more = r.grows.more;
-  adds = r.grows.entries_are;
-  sums_are = sums_are ∙ ap sums_of (r.grows.here_are ∙ ap (λ (es : List Entry). es ++ r.grows.more) a);
+  more = r.begins.0;
+  adds = r.begins.1 ∙ ap (λ (es : List Entry). es ++ r.begins.0) a;
+  sums_are = sums_are r.begins.0 r.begins.1;
   passed = passed;
 }
 
 -- records that were skipped stay skipped
-pub passed_grows : (past_fault is_first : Bool) (left_before left_after : Option (List ℕ)) (old begun_at new : Fed) (before : List Entry) (anew after : Counted) (found : ℕ × Option TailFault)
+pub passed_grows : (past_fault is_first : Bool) (left_before left_after : Option (List ℕ)) (old begun_at new : Fed) (before anew after : List Entry) (found : ℕ × Option TailFault)
     → HasTakenAll old before None → begun_at ≡ record old { pieces = begun is_first old.pieces } → ReadsText past_fault left_before left_after begun_at new anew after found → length old.skipped ≤ length new.skipped
 passed_grows past_fault is_first left_before left_after old begun_at new before anew after found h b r =
     let alike : reading page_size new.pieces ≡ reading page_size (begun is_first old.pieces ++ bytes r.text ∷ []) =
@@ -237,14 +237,14 @@ found_is : (texts : List (List ℕ)) (t : Fed) (taken : List Entry) (rows : List
 found_is texts t taken rows found h = sym h.all.read.fault_is ∙ ap (λ (x : Reading). fault_at x.stop) (alike_entries texts t h.same)
 
 -- what was read into a taker
-pub reads_into : (past_fault : Bool) (before after : List (Option (List ℕ))) (texts : List (List ℕ)) (t : Fed) (taken : List Entry) (rows : List Segment) (found said : Option TailFault)
-    → ReadsLog past_fault before after texts found → AreTaken texts t taken rows found → said ≡ found → ReadsInto past_fault before after taken rows said
-reads_into past_fault before after texts t taken rows found said r h e =
+pub reads_into : (past_fault : Bool) (before after : List (Option (List ℕ))) (texts : List (List ℕ)) (t : Fed) (taken now : List Entry) (rows : List Segment) (found said : Option TailFault)
+    → ReadsLog past_fault before after texts found → AreTaken texts t taken rows found → now ≡ taken → said ≡ found → ReadsInto past_fault before after now rows said
+reads_into past_fault before after texts t taken now rows found said r h is e =
     rw e record {
       texts = texts;
       read = r;
       rows_are = h.rows_are;
-      all = h.all.read.all ∙ ap (λ (x : Reading). x.entries) (alike_entries texts t h.same);
+      all = is ∙ h.all.read.all ∙ ap (λ (x : Reading). x.entries) (alike_entries texts t h.same);
       fault_is = found_is texts t taken rows found h;
     }
 

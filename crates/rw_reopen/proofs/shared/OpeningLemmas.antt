@@ -2,7 +2,6 @@
 use Rattle.std.proofs.Common.{◌≡◌, ℕ, ◌+◌, ◌<◌, List, [], ◌∷◌, ◌++◌, length, drop, get_or, Option, Some, None, Result, Ok, Err, IfOk, IfErr, refl, sym, ap, ◌∙◌, subst, append_assoc, arith}
 use Rattle.std.specs.List.{AllByRecursion}
 use Rattle.std.proofs.lemmas.List.{get_or_append_left, length-append}
-use Rattle.std.proofs.lemmas.List.Sums.{fold-append}
 use Rattle.std.proofs.Math.Seq.{take-length, drop-nil, get_or-append_seam}
 use Rattle.rw_types.proofs.shared.AllLemmas.{AllByRecursion-append}
 use Rattle.rw_types.specs.declared.entry.Entry.{Entry}
@@ -15,7 +14,7 @@ use Rattle.rw_journal.proofs.shared.ClosingLemmas.{front_of, nothing_read}
 use Rattle.rw_journal.proofs.shared.CutLemmas.{no_fault}
 use Rattle.rw_journal.proofs.shared.OpeningLemmas.{before_of}
 use Rattle.rw_journal.specs.Torn.{end_of_page}
-use Rattle.rw_reopen.specs.Reading.{HasFault, greater, greatest_after, ended}
+use Rattle.rw_reopen.specs.Reading.{HasFault, greatest_after, ended}
 use Rattle.rw_reopen.specs.Records.{IsRecordAt, IsRecordAfter, FollowsFault}
 use Rattle.rw_reopen.proofs.RecordAtLemmas.{nothing_follows}
 use Rattle.rw_reopen.specs.Reopening.{HasRecordAfter, IsDamage, IsSegmentCut, IsEnd}
@@ -76,18 +75,16 @@ last_is (d ∷ []) t = refl
 last_is (d ∷ e ∷ ds) t = last_is (e ∷ ds) t
 
 -- before the first segment
-pub nothing_before : (ss : Segments) (now : List Entry) (high : ℕ) → (ss ≡ []) × (now ≡ []) × (high ≡ 0) → IsWholeSoFar ss now high
-nothing_before ss now high none = record {
+pub nothing_before : (ss : Segments) (now : List Entry) → (ss ≡ []) × (now ≡ []) → IsWholeSoFar ss now
+nothing_before ss now none = record {
   taken = none.1 ∙ sym (none_of ss none.0);
-  greatest = none.2 ∙ sym (ap (greatest_after 0) (none_of ss none.0));
   whole = subst (AllByRecursion (IsWholeText page_size)) (sym none.0) tt;
 }
 
 -- the last one is whole, so a next one may follow
-whole_before : (ss : Segments) (now : List Entry) (high : ℕ) (l : LastSegment) → IsReadTo ss now high l → l.fault ≡ None → IsWholeSoFar ss now high
-whole_before ss now high l h sound = record {
+whole_before : (ss : Segments) (now : List Entry) (l : LastSegment) → IsReadTo ss now l → l.fault ≡ None → IsWholeSoFar ss now
+whole_before ss now l h sound = record {
   taken = h.taken;
-  greatest = h.greatest;
   whole = subst (AllByRecursion (IsWholeText page_size)) (sym h.all)
       (AllByRecursion-append (IsWholeText page_size) h.done (h.text ∷ []) h.whole (is_whole h.text (subst (IsFaultAt h.text (length h.done)) sound h.found.fault_is), tt));
 }
@@ -100,21 +97,21 @@ count_of : (ss done : Segments) (text : List ℕ) → ss ≡ done ++ text ∷ []
 count_of ss done text all = ap length all ∙ length-append done (text ∷ [])
 
 -- the last one is not whole
-fault_in : (ss : Segments) (now : List Entry) (high : ℕ) (l : LastSegment) (d : Damage) → IsReadTo ss now high l → l.fault ≡ Some d → IsFaultIn ss d
-fault_in ss now high l d h is =
+fault_in : (ss : Segments) (now : List Entry) (l : LastSegment) (d : Damage) → IsReadTo ss now l → l.fault ≡ Some d → IsFaultIn ss d
+fault_in ss now l d h is =
     let at : IsFaultAt h.text (length h.done) (Some d) = subst (IsFaultAt h.text (length h.done)) is h.found.fault_is in
     record {
       within = omega (arith, at.0, count_of ss h.done h.text h.all);
       has = subst (λ (t : List ℕ). HasFault t d.fault d.place.offset) (sym (here ss h.done h.text d.place.segment h.all at.0)) at.1;
     }
 
-last_before : (ss : Segments) (now : List Entry) (high : ℕ) (l : LastSegment) (found : Option Damage) → l.fault ≡ found → IsReadTo ss now high l → IsReadBefore ss now high found
-last_before ss now high l None is h = whole_before ss now high l h is
-last_before ss now high l (Some d) is h = fault_in ss now high l d h is
+last_before : (ss : Segments) (now : List Entry) (l : LastSegment) (found : Option Damage) → l.fault ≡ found → IsReadTo ss now l → IsReadBefore ss now found
+last_before ss now l None is h = whole_before ss now l h is
+last_before ss now l (Some d) is h = fault_in ss now l d h is
 
 -- what was found says whether a next one may follow
-pub before_next : (ss : Segments) (now : List Entry) (high : ℕ) (l : LastSegment) → IsReadTo ss now high l → IsReadBefore ss now high l.fault
-before_next ss now high l h = last_before ss now high l l.fault refl h
+pub before_next : (ss : Segments) (now : List Entry) (l : LastSegment) → IsReadTo ss now l → IsReadBefore ss now l.fault
+before_next ss now l h = last_before ss now l l.fault refl h
 
 pub broken_before : (ss : Segments) (d : Damage) → IsFaultBefore ss d → IsFaultIn ss d
 broken_before ss d h = record { within = omega (arith, h.within); has = h.has }
@@ -127,31 +124,27 @@ stays_broken ss text d h = record {
 }
 
 -- a next segment is read after whole ones
-pub read_on : (ss : Segments) (text : List ℕ) (n : ℕ) (l : LastSegment) (now after : List Entry) (high higher : ℕ) → n ≡ length ss → IsWholeSoFar ss now high → IsLast text n l now after high higher → IsReadTo (ss ++ text ∷ []) after higher l
-read_on ss text n l now after high higher is h last =
-    let all : entries_of page_size (ss ++ text ∷ []) ≡ entries_of page_size ss ++ (segment page_size text).entries = one_more page_size ss text h.whole in
-    record {
-      done = ss;
-      text = text;
-      all = refl;
-      whole = h.whole;
-      found = subst (λ (k : ℕ). IsFoundOf text k l) is last.found;
-      taken = last.taken ∙ ap (λ (es : List Entry). es ++ (segment page_size text).entries) h.taken ∙ sym all;
-      greatest = last.greatest ∙ ap (λ (k : ℕ). greatest_after k (segment page_size text).entries) h.greatest
-          ∙ sym (ap (greatest_after 0) all ∙ fold-append greater 0 (entries_of page_size ss) (segment page_size text).entries);
-    }
+pub read_on : (ss : Segments) (text : List ℕ) (n : ℕ) (l : LastSegment) (now after : List Entry) → n ≡ length ss → IsWholeSoFar ss now → IsLast text n l now after → IsReadTo (ss ++ text ∷ []) after l
+read_on ss text n l now after is h last = record {
+  done = ss;
+  text = text;
+  all = refl;
+  whole = h.whole;
+  found = subst (λ (k : ℕ). IsFoundOf text k l) is last.found;
+  taken = last.taken ∙ ap (λ (es : List Entry). es ++ (segment page_size text).entries) h.taken ∙ sym (one_more page_size ss text h.whole);
+}
 
 -- the end of a log of no segments
-pub ends_empty : (ss : Segments) (now : List Entry) (high : ℕ) (end : LogEnd) → (ss ≡ []) × (now ≡ []) × (high ≡ 0) → end.whole ≡ 0 → end.torn.items ≡ [] → end.follows ≡ None → end.greatest ≡ high → EndsLog ss now end
-ends_empty ss now high end none at torn follows greatest = record {
+pub ends_empty : (ss : Segments) (now : List Entry) (high : ℕ) (end : LogEnd) → high ≡ greatest_after 0 now → (ss ≡ []) × (now ≡ []) → end.whole ≡ 0 → end.torn.items ≡ [] → end.follows ≡ None → end.greatest ≡ high → EndsLog ss now end
+ends_empty ss now high end most none at torn follows greatest = record {
   taken = none.1 ∙ sym (none_of ss none.0);
-  end_is = ends_nowhere ss end none.0 at torn follows (greatest ∙ none.2);
+  end_is = ends_nowhere ss end none.0 at torn follows (greatest ∙ most ∙ ap (greatest_after 0) none.1);
   whole = subst (AllBefore (IsWholeText page_size)) (sym none.0) tt;
 }
 
 -- the end of a log whose last segment is cut
-pub ends_cut : (ss : Segments) (now : List Entry) (high : ℕ) (l : LastSegment) (end : LogEnd) → IsReadTo ss now high l → l.cut ≡ Ok end.whole → end.torn.items ≡ l.torn.items → end.follows ≡ l.follows → end.greatest ≡ high → EndsLog ss now end
-ends_cut ss now high l end h cut torn follows greatest =
+pub ends_cut : (ss : Segments) (now : List Entry) (high : ℕ) (l : LastSegment) (end : LogEnd) → high ≡ greatest_after 0 now → IsReadTo ss now l → l.cut ≡ Ok end.whole → end.torn.items ≡ l.torn.items → end.follows ≡ l.follows → end.greatest ≡ high → EndsLog ss now end
+ends_cut ss now high l end most h cut torn follows greatest =
     let last : last_of ss ≡ h.text = ap last_of h.all ∙ last_is h.done h.text in
     record {
       taken = h.taken;
@@ -159,14 +152,14 @@ ends_cut ss now high l end h cut torn follows greatest =
         cut = subst (λ (t : List ℕ). IsSegmentCut t end.whole) (sym last) (subst (λ (r : Result ℕ Damage). IfOk r (IsSegmentCut h.text)) cut h.found.cut);
         torn = torn ∙ subst (λ (r : Result ℕ Damage). IsTornOf h.text r l.torn.items) cut h.found.torn_is ∙ ap (drop end.whole) (sym last);
         follows = subst (λ (t : List ℕ). FollowsFault t end.follows) (sym last) (subst (FollowsFault h.text) (sym follows) h.found.follows);
-        greatest = greatest ∙ h.greatest;
+        greatest = greatest ∙ most ∙ ap (greatest_after 0) h.taken;
       };
       whole = subst (AllBefore (IsWholeText page_size)) (sym h.all) (before_of (IsWholeText page_size) h.done h.text h.whole);
     }
 
 -- the last segment is damaged
-pub last_damaged : (ss : Segments) (now : List Entry) (high : ℕ) (l : LastSegment) (d : Damage) → IsReadTo ss now high l → l.cut ≡ Err d → IsDamage ss d
-last_damaged ss now high l d h cut =
+pub last_damaged : (ss : Segments) (now : List Entry) (l : LastSegment) (d : Damage) → IsReadTo ss now l → l.cut ≡ Err d → IsDamage ss d
+last_damaged ss now l d h cut =
     let refusal : IsRefusal h.text (length h.done) d = subst (λ (r : Result ℕ Damage). IfErr r (IsRefusal h.text (length h.done))) cut h.found.refusal in
     let is : get_or ss d.place.segment [] ≡ h.text = here ss h.done h.text d.place.segment h.all refusal.0 in
     record {
@@ -180,8 +173,8 @@ pub broken_damaged : (ss : Segments) (d : Damage) → IsFaultBefore ss d → IsD
 broken_damaged ss d h = record { within = omega (arith, h.within); has = h.has; goes_on = λ is. absurd (omega (arith, is, h.within)) }
 
 -- a whole record follows the fault of the last segment
-pub record_follows : (ss : Segments) (now : List Entry) (high : ℕ) (l : LastSegment) (d : Damage) (at : ℕ) → IsReadTo ss now high l → l.fault ≡ Some d → l.follows ≡ Some at → HasRecordAfter ss d at
-record_follows ss now high l d at h is follows =
+pub record_follows : (ss : Segments) (now : List Entry) (l : LastSegment) (d : Damage) (at : ℕ) → IsReadTo ss now l → l.fault ≡ Some d → l.follows ≡ Some at → HasRecordAfter ss d at
+record_follows ss now l d at h is follows =
     let fault_is : IsFaultAt h.text (length h.done) (Some d) = subst (IsFaultAt h.text (length h.done)) is h.found.fault_is in
     let found : IsRecordAfter h.text d.place.offset (Some at) = subst (IsRecordAfter h.text d.place.offset) follows (h.found.follows d.fault d.place.offset fault_is.1) in
     let last : last_of ss ≡ h.text = ap last_of h.all ∙ last_is h.done h.text in

@@ -9,7 +9,7 @@ use Rattle.rw_journal.specs.Torn.{end_of_page}
 use Rattle.rw_journal.specs.TornLogs.{AllBefore}
 use Rattle.rw_wal_format.specs.Pieces.{fault, page_size}
 use Rattle.rw_wal_format.specs.Segments.{segment}
-use Rattle.rw_reopen.specs.Reading.{HasFault, ended, greatest_after}
+use Rattle.rw_reopen.specs.Reading.{HasFault, ended}
 use Rattle.rw_reopen.specs.Records.{FollowsFault}
 use Rattle.rw_reopen.specs.declared.error.Damage.{Damage}
 use Rattle.rw_reopen.specs.declared.last_segment.LastSegment.{LastSegment}
@@ -43,26 +43,23 @@ pub record IsFoundOf (text : List ℕ) (n : ℕ) (l : LastSegment) : Type 0 wher
   pub follows : FollowsFault text l.follows
 
 -- a segment was read, and its entries were taken
-pub record IsLast (text : List ℕ) (n : ℕ) (l : LastSegment) (before after : List Entry) (low high : ℕ) : Type 0 where
+pub record IsLast (text : List ℕ) (n : ℕ) (l : LastSegment) (before after : List Entry) : Type 0 where
   pub found : IsFoundOf text n l
   pub taken : after ≡ before ++ (segment page_size text).entries
-  pub greatest : high ≡ greatest_after low (segment page_size text).entries
 
 -- all segments were read, and each of them is whole
-pub record IsWholeSoFar (ss : Segments) (now : List Entry) (high : ℕ) : Type 0 where
+pub record IsWholeSoFar (ss : Segments) (now : List Entry) : Type 0 where
   pub taken : now ≡ entries_of page_size ss
-  pub greatest : high ≡ greatest_after 0 (entries_of page_size ss)
   pub whole : AllByRecursion (IsWholeText page_size) ss
 
 -- all segments were read, and each of them but the last one is whole
-pub record IsReadTo (ss : Segments) (now : List Entry) (high : ℕ) (l : LastSegment) : Type 0 where
+pub record IsReadTo (ss : Segments) (now : List Entry) (l : LastSegment) : Type 0 where
   pub done : Segments
   pub text : List ℕ
   pub all : ss ≡ done ++ text ∷ []
   pub whole : AllByRecursion (IsWholeText page_size) done
   pub found : IsFoundOf text (length done) l
   pub taken : now ≡ entries_of page_size ss
-  pub greatest : high ≡ greatest_after 0 (entries_of page_size ss)
 
 -- a segment has this fault
 pub record IsFaultIn (ss : Segments) (d : Damage) : Type 0 where
@@ -75,15 +72,15 @@ pub record IsFaultBefore (ss : Segments) (d : Damage) : Type 0 where
   pub has : HasFault (get_or ss d.place.segment []) d.fault d.place.offset
 
 -- what was found of the segments, whose entries were taken as far as they were read
-abbrev pub IsFound : Segments → List Entry → ℕ → Found → Type 0
-IsFound ss now high Nothing = (ss ≡ []) × (now ≡ []) × (high ≡ 0)
-IsFound ss now high (Last l) = IsReadTo ss now high l
-IsFound ss now high (Broken d) = IsFaultBefore ss d
+abbrev pub IsFound : Segments → List Entry → Found → Type 0
+IsFound ss now Nothing = (ss ≡ []) × (now ≡ [])
+IsFound ss now (Last l) = IsReadTo ss now l
+IsFound ss now (Broken d) = IsFaultBefore ss d
 
 -- the segments before a next one are whole, or one of them has this fault
-abbrev pub IsReadBefore : Segments → List Entry → ℕ → Option Damage → Type 0
-IsReadBefore ss now high None = IsWholeSoFar ss now high
-IsReadBefore ss now high (Some d) = IsFaultIn ss d
+abbrev pub IsReadBefore : Segments → List Entry → Option Damage → Type 0
+IsReadBefore ss now None = IsWholeSoFar ss now
+IsReadBefore ss now (Some d) = IsFaultIn ss d
 
 -- a log was read to its end
 pub record EndsLog (ss : Segments) (now : List Entry) (end : LogEnd) : Type 0 where

@@ -10,7 +10,7 @@ pub loop-init : goal.loop-init
 loop-init g c = record {
   going = going_none _ _ _ _ c.requires;
   some = some_segment _ _ c.is_empty.ensures c.if-is_empty.false;
-  task = refl;
+  fixed = refl;
   room = rw c.in_ok-chunk.ensures (omega arith);
   sure = λ h. h;
 }
@@ -44,7 +44,7 @@ loop-preserved g c =
       going = going_more _ _ _ _ _ _ _ _ _ _ _ _ _ going c.loop.invariant.some first c.in_ok-row.ensures.ok c.in_ok-row.ensures.left (None-from_not_some _ (sym c.is_some.ensures ∙ c.if-is_some.false)) c.in_ok-add_row.ensures
           (c.advance.ensures.moved c.if-not-advance.false);
       some = c.advance.ensures.some c.if-not-advance.false;
-      task = c.in_ok-row.ensures.task ∙ c.loop.invariant.task;
+      fixed = c.in_ok-row.ensures.fixed ∙ c.loop.invariant.fixed;
       room = c.loop.invariant.room;
       sure = λ h. c.advance.ensures.sure_stays (c.in_ok-row.ensures.sure_stays (c.loop.invariant.sure h));
     }

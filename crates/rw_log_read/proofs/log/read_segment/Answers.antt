@@ -1,9 +1,16 @@
-use Rattle.std.proofs.Common.{refl, arith}
+use Rattle.std.proofs.Common.{List, ◌∙◌, ◌++◌, refl, sym, ap, subst, arith}
+use Rattle.rw_types.specs.declared.entry.Entry.{Entry}
+use Rattle.rw_wal_tail.specs.Taking.{HasTaken}
+use Rattle.rw_log_read.specs.inner.Counted.{Unmoved}
 use Rattle.rw_log_read.proofs.shared.LogLemmas.{passed_grows, reads_segment}
 use Rattle.rw_log_read.proofs.log.read_segment.Goals as goal
 
 pub read_text-requires : goal.read_text-requires
-read_text-requires g c = record { room = c.requires.room; some = c.requires.some; taken = c.begin_segment.ensures.taken _ c.requires.sound.taken_all }
+read_text-requires g c = record {
+  room = c.requires.room;
+  some = c.requires.some;
+  taken = subst (HasTaken c.begin_segment.new.tail) (sym (ap g.T.Taker.taken c.begin.ensures.taker)) (c.begin_segment.ensures.taken _ c.requires.sound.taken_all);
+}
 
 pub overflow_sub-found : goal.overflow_sub-found
 overflow_sub-found g c =
@@ -13,4 +20,9 @@ overflow_sub-found g c =
 pub returns-clause-ok : goal.returns-clause-ok
 returns-clause-ok g c =
     let grown = passed_grows _ _ _ _ _ _ _ _ _ _ _ c.requires.sound c.begin_segment.ensures.fed c.in_ok-bytes.ensures.ok in
-    reads_segment _ _ _ _ _ _ _ _ _ _ _ _ _ c.begin_segment.ensures.fed c.new-here.ensures c.in_ok-bytes.ensures.ok refl c.sums.ensures (omega (arith, grown, c.skipped-before.ensures, c.skipped.ensures))
+    let before = ap (λ (u : Unmoved g.T.Taker.Fixed). u.before) c.in_ok-bytes.ensures.fixed ∙ c.begin.ensures.before in
+    reads_segment _ _ _ _ _ _ _ _ _ _ _ _ c.begin_segment.ensures.fed (ap g.T.Taker.taken c.begin.ensures.taker) c.in_ok-bytes.ensures.ok refl
+    (λ more is. c.sums.ensures more (is ∙ ap (λ (es : List Entry). es ++ more) (sym before))) (omega (arith, grown, c.skipped-before.ensures, c.skipped.ensures))
+
+pub returns-clause-fixed : goal.returns-clause-fixed
+returns-clause-fixed g c = ap (λ (u : Unmoved g.T.Taker.Fixed). u.fixed) c.in_ok-bytes.ensures.fixed ∙ ap g.T.Taker.fixed c.begin.ensures.taker

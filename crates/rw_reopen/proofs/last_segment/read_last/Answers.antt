@@ -10,5 +10,4 @@ returns-clause-read g c = record {
     follows = c.find_after_fault-follows.ensures;
   };
   taken = c.in_ok-read.ensures.read.taken;
-  greatest = c.in_ok-read.ensures.read.greatest;
 }

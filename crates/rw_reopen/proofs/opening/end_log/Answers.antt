@@ -4,7 +4,7 @@ use Rattle.rw_reopen.proofs.shared.OpeningLemmas.{ends_empty, ends_cut}
 use Rattle.rw_reopen.proofs.opening.end_log.Goals as goal
 
 pub returns-in-Nothing-clause-end : goal.returns-in-Nothing-clause-end
-returns-in-Nothing-clause-end c = λ ss taken found. ends_empty ss taken c.args.greatest _ (subst (IsFound ss taken c.args.greatest) c.in-Nothing.is found) refl c.new.ensures.items refl refl
+returns-in-Nothing-clause-end c = λ ss taken high found. ends_empty ss taken c.args.greatest _ high (subst (IsFound ss taken) c.in-Nothing.is found) refl c.new.ensures.items refl refl
 
 pub returns-in-Ok-clause-end : goal.returns-in-Ok-clause-end
-returns-in-Ok-clause-end c = λ ss taken found. ends_cut ss taken c.args.greatest c.in-Last.last _ (subst (IsFound ss taken c.args.greatest) c.in-Last.is found) c.in-Ok.is refl refl refl
+returns-in-Ok-clause-end c = λ ss taken high found. ends_cut ss taken c.args.greatest c.in-Last.last _ high (subst (IsFound ss taken) c.in-Last.is found) c.in-Ok.is refl refl refl

@@ -5,10 +5,10 @@ use Rattle.rw_reopen.proofs.opening.read_next.Goals as goal
 
 pub returns-in-Some-clause-found : goal.returns-in-Some-clause-found
 returns-in-Some-clause-found g c = λ ss count found.
-    stays_broken ss c.args.text.now c.in-Some.damage (subst (IsReadBefore ss (g.S.EntrySink.taken c.args.sink.now) c.args.greatest.now) c.in-Some.is (c.damage_before.ensures ss (g.S.EntrySink.taken c.args.sink.now) c.args.greatest.now found))
+    stays_broken ss c.args.text.now c.in-Some.damage (subst (IsReadBefore ss (g.S.Taker.taken c.args.sink.now)) c.in-Some.is (c.damage_before.ensures ss (g.S.Taker.taken c.args.sink.now) found))
 
 pub returns-in_ok-read_last-in-None-clause-found : goal.returns-in_ok-read_last-in-None-clause-found
 returns-in_ok-read_last-in-None-clause-found g c = λ ss count found.
-    read_on ss c.args.text.now c.args.segment c.in_ok-read_last-in-None.field-0 (g.S.EntrySink.taken c.args.sink.now) (g.S.EntrySink.taken c.read_last.new.sink) c.args.greatest.now c.read_last.new.greatest count
-    (subst (IsReadBefore ss (g.S.EntrySink.taken c.args.sink.now) c.args.greatest.now) c.in-None.is (c.damage_before.ensures ss (g.S.EntrySink.taken c.args.sink.now) c.args.greatest.now found))
+    read_on ss c.args.text.now c.args.segment c.in_ok-read_last-in-None.field-0 (g.S.Taker.taken c.args.sink.now) (g.S.Taker.taken c.read_last.new.sink) count
+    (subst (IsReadBefore ss (g.S.Taker.taken c.args.sink.now)) c.in-None.is (c.damage_before.ensures ss (g.S.Taker.taken c.args.sink.now) found))
     c.in_ok-read_last-in-None.ensures.read

@@ -7,4 +7,4 @@ use Rattle.rw_reopen.proofs.opening.record_after.Goals as goal
 pub returns-in-Last : goal.returns-in-Last
 returns-in-Last c =
     IfSome_then c.record_after_fault.result c.record_after_fault.ensures
-    (λ r both. λ ss taken greatest found. record_follows ss taken greatest c.in-Last.last r.0 r.1 (subst (IsFound ss taken greatest) c.in-Last.is found) both.0 both.1)
+    (λ r both. λ ss taken found. record_follows ss taken c.in-Last.last r.0 r.1 (subst (IsFound ss taken) c.in-Last.is found) both.0 both.1)

@@ -4,7 +4,7 @@ use Rattle.rw_reopen.proofs.reading.feed_text.Goals as goal
 
 pub loop-rest-init : goal.loop-rest-init
 loop-rest-init g c = record {
-  some = record { read = []; parts = refl; fed = has_fed-none c.args.tail.now (g.S.EntrySink.taken c.args.sink.now) c.args.greatest.now c.requires };
+  some = record { read = []; parts = refl; fed = has_fed-none c.args.tail.now (g.S.Taker.taken c.args.sink.now) c.requires };
   fixed = refl;
 }
 
@@ -13,7 +13,6 @@ loop-rest-preserved g c =
     let cut : c.loop-rest.rest.now ≡ c.split_at.result.0.now ++ c.split_at.result.1.now =
     sym (ap (λ (f : List ℕ). f ++ c.split_at.result.1.now) c.split_at.ensures.front ∙ ap (λ (b : List ℕ). take c.if-rest-lt-CHUNK.len c.loop-rest.rest.now ++ b) c.split_at.ensures.back ∙ take-append-drop c.if-rest-lt-CHUNK.len c.loop-rest.rest.now) in
     record {
-      some = fed_more c.args.text.now c.loop-rest.rest.now c.split_at.result.0.now c.split_at.result.1.now c.loop-rest.tail c.feed.new.self c.take_all.new.tail (g.S.EntrySink.taken c.args.sink.now) (g.S.EntrySink.taken c.loop-rest.sink)
-          (g.S.EntrySink.taken c.take_all.new.sink) c.args.greatest.now c.loop-rest.greatest c.take_all.new.greatest c.in_ok-take_all.field-0 c.loop-rest.invariant.some cut c.in_ok-feed.ensures.ok c.in_ok-feed.ensures.goes_on c.in_ok-take_all.ensures.all;
+      some = fed_more _ _ _ _ _ _ _ _ _ _ _ c.loop-rest.invariant.some cut c.in_ok-feed.ensures.ok c.in_ok-feed.ensures.taken c.in_ok-take_all.ensures.all c.take_all.ensures.pieces;
       fixed = c.in_ok-take_all.ensures.fixed ∙ c.loop-rest.invariant.fixed;
     }

@@ -4,8 +4,8 @@ use Rattle.rw_reopen.proofs.reading.feed_text.Given as goal
 
 abbrev pub invariant-loop-rest : goal.invariant-loop-rest
 invariant-loop-rest g l = record {
-  some : FedSome l.text l.rest l.tail (g.S.EntrySink.taken l.fn.sink) (g.S.EntrySink.taken l.sink) l.fn.greatest l.greatest;
-  fixed : g.S.EntrySink.fixed l.sink ≡ g.S.EntrySink.fixed l.fn.sink;
+  some : FedSome l.text l.rest l.tail (g.S.Taker.taken l.fn.sink) (g.S.Taker.taken l.sink);
+  fixed : g.S.Taker.fixed l.sink ≡ g.S.Taker.fixed l.fn.sink;
 }
 
 abbrev pub decreases-loop-rest : goal.decreases-loop-rest

@@ -1,4 +1,4 @@
-use Rattle.std.proofs.Common.{◌≡◌, ap, subst}
+use Rattle.std.proofs.Common.{◌≡◌, ◌∙◌, ap, subst}
 use Rattle.rw_wal_format.specs.Pieces.{page_size}
 use Rattle.rw_journal.specs.Journal.{Segments}
 use Rattle.rw_journal.specs.Logs.{entries_of, IsWholeText}
@@ -10,22 +10,22 @@ use Rattle.rw_reopen.proofs.opening.LogReading.finish.Goals as goal
 pub returns-in-Ok-clause-entries : goal.returns-in-Ok-clause-entries
 returns-in-Ok-clause-entries g c =
     let found = c.self.invariant c.if-failed.false in
-    let ends = c.in-Ok.ensures.end c.self.inside.segments (g.S.EntrySink.taken c.self.inside.sink) found.1 in
-    subst (λ (s : Segments). g.S.EntrySink.taken c.self.inside.sink ≡ entries_of page_size s) (ap (λ (l : LogTaken _). l.segments) c.self.view_is) ends.taken
+    let ends = c.in-Ok.ensures.end c.self.inside.segments (g.S.Taker.taken c.self.inside.sink.taker) c.greatest.ensures found.1 in
+    ap g.S.Taker.taken c.into_taker.ensures ∙ subst (λ (s : Segments). g.S.Taker.taken c.self.inside.sink.taker ≡ entries_of page_size s) (ap (λ (l : LogTaken _). l.segments) c.self.view_is) ends.taken
 
 pub returns-in-Ok-clause-end : goal.returns-in-Ok-clause-end
 returns-in-Ok-clause-end g c =
     let found = c.self.invariant c.if-failed.false in
-    let ends = c.in-Ok.ensures.end c.self.inside.segments (g.S.EntrySink.taken c.self.inside.sink) found.1 in
+    let ends = c.in-Ok.ensures.end c.self.inside.segments (g.S.Taker.taken c.self.inside.sink.taker) c.greatest.ensures found.1 in
     subst (λ (s : Segments). IsEnd s c.in-Ok.end) (ap (λ (l : LogTaken _). l.segments) c.self.view_is) ends.end_is
 
 pub returns-in-Ok-clause-whole : goal.returns-in-Ok-clause-whole
 returns-in-Ok-clause-whole g c =
     let found = c.self.invariant c.if-failed.false in
-    let ends = c.in-Ok.ensures.end c.self.inside.segments (g.S.EntrySink.taken c.self.inside.sink) found.1 in
+    let ends = c.in-Ok.ensures.end c.self.inside.segments (g.S.Taker.taken c.self.inside.sink.taker) c.greatest.ensures found.1 in
     subst (AllBefore (IsWholeText page_size)) (ap (λ (l : LogTaken _). l.segments) c.self.view_is) ends.whole
 
 pub returns-clause-damaged : goal.returns-clause-damaged
 returns-clause-damaged g c =
     let found = c.self.invariant c.if-failed.false in
-    subst (λ (s : Segments). HasDamage s c.in-Err.error) (ap (λ (l : LogTaken _). l.segments) c.self.view_is) (c.in-Err.ensures.damaged c.self.inside.segments (g.S.EntrySink.taken c.self.inside.sink) found.1)
+    subst (λ (s : Segments). HasDamage s c.in-Err.error) (ap (λ (l : LogTaken _). l.segments) c.self.view_is) (c.in-Err.ensures.damaged c.self.inside.segments (g.S.Taker.taken c.self.inside.sink.taker) found.1)

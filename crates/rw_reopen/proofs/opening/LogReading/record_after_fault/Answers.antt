@@ -9,4 +9,4 @@ pub returns : goal.returns
 returns g c =
     let found = c.self.invariant c.if-self.false in
     IfSome_then c.record_after.result c.record_after.ensures
-    (λ r follows. subst (λ (s : Segments). HasRecordAfter s r.0 r.1) (ap (λ (l : LogTaken _). l.segments) c.self.view_is) (follows c.self.inside.segments (g.S.EntrySink.taken c.self.inside.sink) c.self.inside.greatest found.1))
+    (λ r follows. subst (λ (s : Segments). HasRecordAfter s r.0 r.1) (ap (λ (l : LogTaken _). l.segments) c.self.view_is) (follows c.self.inside.segments (g.S.Taker.taken c.self.inside.sink.taker) found.1))

@@ -3,7 +3,7 @@ use Rattle.std.specs.HashMap.{get}
 use Rattle.rw_types.specs.declared.entry.Entry.{Entry}
 use Rattle.rw_kept_head.specs.inner.Restoring.{accepted_next, IsRestoring}
 use Rattle.rw_kept_head.proofs.RestoringLemmas.{restoring_next}
-use Rattle.rw_kept_head.proofs.restoring.RestoringEntrySink.take.Goals as goal
+use Rattle.rw_kept_head.proofs.restoring.RestoringTaker.take.Goals as goal
 
 pub invariant_of-self-2 : goal.invariant_of-self-2
 invariant_of-self-2 c = λ whole.
