@@ -1,11 +1,12 @@
 -- The head that the entries of a log say, entry by entry.
-use Rattle.std.proofs.Common.{◌≡◌, ◌≢◌, ℕ, suc, ℤ, ◌+◌, ◌-◌, ◌^◌, min, List, [], ◌∷◌, ◌++◌, length, map, Bool, true, false, not, ◌||◌, cond, Option, Some, None, refl, sym, ap, ◌∙◌, subst, arith, append-nil, nat_eq, eqb-true}
-use Rattle.std.specs.Prelude.{is_some, MatchOption}
-use Rattle.std.proofs.lemmas.List.{length_push, take_all, take-append-le}
+use Rattle.std.proofs.Common.{◌≡◌, ◌≢◌, ℕ, suc, ◌<◌, get_or, ℤ, ◌+◌, ◌-◌, ◌^◌, min, List, [], ◌∷◌, ◌++◌, length, map, Bool, true, false, not, ◌||◌, cond, Option, Some, None, refl, sym, ap, ◌∙◌, subst, arith, append-nil, nat_eq, eqb-true}
+use Rattle.std.specs.Prelude.{is_some, IfSome, MatchOption}
+use Rattle.std.proofs.lemmas.List.{length_push, length-append, get_or_append_left, take_all, take-append-le}
 use Rattle.std.proofs.Math.Seq.{take-append_seam}
 use Rattle.rw_types.specs.Labels.{Labels, IsLabelSet, label_fault}
 use Rattle.rw_types.specs.LabelOrder.{labels_eq}
 use Rattle.rw_types.specs.inner.LabelOrder.{same_if_equal}
+use Rattle.rw_types.specs.Beginnings.{Begins}
 use Rattle.rw_types.specs.Rising.{Rises}
 use Rattle.rw_types.proofs.shared.OrderLemmas.{equal_if_same}
 use Rattle.rw_types.specs.declared.entry.Entry.{Entry}
@@ -22,6 +23,7 @@ use Rattle.rw_head.specs.declared.verdict.Verdict.TheVariants.{Stored, BadLabels
 use Rattle.rw_head.specs.Head.{State, status_of}
 use Rattle.rw_head.specs.Lists.{IsEarlier, has_samples}
 use Rattle.rw_head.specs.Order.{Point, is_later, holds}
+use Rattle.rw_head.specs.Placed.{IsPlaced, one_sample}
 use Rattle.rw_head.specs.Store.{Store, list_of, with_list, total}
 use Rattle.rw_head.specs.Verdicts.{LabelLimits, is_over_limits, refusal, accepted, taken_unless, taken, judged, apply}
 use Rattle.rw_head.proofs.shared.BodyLemmas.{taken_status}
@@ -30,7 +32,7 @@ use Rattle.rw_head.proofs.shared.StagingLemmas.{push_has}
 use Rattle.rw_wal_append.specs.Additions.{without_position, samples_of_labels}
 use Rattle.rw_wal_append.proofs.shared.AdditionLemmas.{samples_in-append, no_sample}
 use Rattle.rw_kept_head.specs.Admitted.{MayHold, IsRefusedAt}
-use Rattle.rw_kept_head.specs.inner.Restoring.{accepted_next, StandsFor, IsRestored, IsRestoring, IsRestoredOrRefused, IsSeriesOf, IsAdded, CannotFollow, AddsOne, AddsTo, Defines, AddsSample, TakesSample}
+use Rattle.rw_kept_head.specs.inner.Restoring.{accepted_next, StandsFor, IsRestored, IsRestoring, IsRestoredOrRefused, IsSeriesOf, IsAdded, CannotFollow, AddsOne, AddsTo, Defines, AddsSample, TakesSample, IsPlaceOf, HasPlace, ArePlaced}
 use Rattle.rw_kept_head.proofs.AdmittedLemmas.{begin_held}
 use Rattle.rw_kept_head.proofs.KeptLemmas.{samples_begin}
 
@@ -305,16 +307,16 @@ put_back names lookup later reference r s back true found e there labels again i
 put_back names lookup later reference r s back false found e there labels again is = subst (λ (o : Option (Option TimeSeries)). StandsFor names o found) (sym again) is
 
 takes_by : (limits : LabelLimits) (old new : Store) (lookup later : ℕ → Option (Option TimeSeries)) (reference : ℕ) (sample : ℤ × ℕ) (s back : TimeSeries) (done : Bool) → lookup reference ≡ Some (Some s)
-    → ((q : ℕ) → later q ≡ cond (nat_eq reference q) (Some (Some back)) (lookup q)) → back ≡ record { labels = s.labels; samples = (sample.1, sample.0) ∷ [] }
+    → ((r : ℕ) (found : Option (List (List ℕ × List ℕ))) → StandsFor Utf8 (lookup r) found → StandsFor Utf8 (later r) found) → back ≡ record { labels = s.labels; samples = (sample.1, sample.0) ∷ [] }
     → AddsOne limits old new (back ∷ []) done → TakesSample limits old new lookup later reference sample done
-takes_by limits old new lookup later reference sample s back true there again is adds = record {
-  same = λ r found was. put_back Utf8 lookup later reference r s back (nat_eq reference r) found refl there (ap (λ (x : TimeSeries). x.labels) is) (again r) was;
+takes_by limits old new lookup later reference sample s back true there same is adds = record {
+  same = same;
   added = λ l found was.
       let named : found ≡ Some s.labels = subst (λ (o : Option (Option TimeSeries)). StandsFor Utf8 o found) there was in
       adds s.labels sample.1 sample.0 (ap (λ (x : TimeSeries). x ∷ []) is) l
       ∙ ap (λ (o : Option (List (List ℕ × List ℕ))). list_of old l ++ cond (has_labels l o) (sample ∷ []) []) (sym named);
 }
-takes_by limits old new lookup later reference sample s back false there again is adds = λ found was.
+takes_by limits old new lookup later reference sample s back false there same is adds = λ found was.
     let named : found ≡ Some s.labels = subst (λ (o : Option (Option TimeSeries)). StandsFor Utf8 o found) there was in
     (s.labels, named, adds s.labels sample.1 sample.0 (ap (λ (x : TimeSeries). x ∷ []) is))
 
@@ -325,11 +327,58 @@ pub takes_to : TakesLegacy → (limits : LabelLimits) (old new : Store) (lookup 
 takes_to law limits old new lookup later reference sample None after done there again adds =
     subst (λ (b : Bool). TakesSample limits old new lookup later reference sample b) (sym adds.1) (takes_none law limits old new lookup later reference sample there)
 takes_to law limits old new lookup later reference sample (Some s) after done there again adds =
-    takes_by limits old new lookup later reference sample s (record { labels = s.labels; samples = (sample.1, sample.0) ∷ [] }) done there
-    (λ q. again q ∙ ap (λ (o : Option TimeSeries). cond (nat_eq reference q) (Some o) (lookup q)) adds.0) refl adds.1
+    let back : TimeSeries = record { labels = s.labels; samples = (sample.1, sample.0) ∷ [] } in
+    takes_by limits old new lookup later reference sample s back done there
+    (λ r found was. put_back Utf8 lookup later reference r s back (nat_eq reference r) found refl there refl (again r ∙ ap (λ (o : Option TimeSeries). cond (nat_eq reference r) (Some o) (lookup r)) adds.0) was) refl adds.1
 
--- the only one of a list is its last one
-pub only_one : (rest : List TimeSeries) (a b : TimeSeries) (all : List TimeSeries) → all ≡ a ∷ [] → all ≡ rest ++ b ∷ [] → b ≡ a
-only_one [] a b all first last = let both : b ∷ [] ≡ a ∷ [] = sym last ∙ first in cc
-only_one (x ∷ []) a b all first last = let both : x ∷ b ∷ [] ≡ a ∷ [] = sym last ∙ first in absurd cc
-only_one (x ∷ y ∷ rest) a b all first last = let both : x ∷ y ∷ (rest ++ b ∷ []) ≡ a ∷ [] = sym last ∙ first in absurd cc
+-- ---- the places in the head
+
+placed_begins : (n : ℕ) (l : Labels) (old new : List Labels) → Begins old new → IsPlaced n l old → IsPlaced n l new
+placed_begins n l old new b is = (
+  omega (arith, is.0, ap length b.1, length-append old b.0),
+  ap (λ (ns : List Labels). get_or ns n []) b.1 ∙ get_or_append_left old b.0 [] n is.0 ∙ is.1,
+)
+
+has_place_still : (o : Option (Option ℕ)) (found : Option (Option TimeSeries)) (old new : List Labels) → Begins old new → HasPlace o found old → HasPlace o found new
+has_place_still None found old new b is = tt
+has_place_still (Some None) found old new b is = tt
+has_place_still (Some (Some n)) None old new b is = is
+has_place_still (Some (Some n)) (Some None) old new b is = is
+has_place_still (Some (Some n)) (Some (Some s)) old new b is = placed_begins n s.labels old new b is
+
+-- label sets keep their places
+pub placed_still : (places : ℕ → Option (Option ℕ)) (lookup : ℕ → Option (Option TimeSeries)) (old new : List Labels) → Begins old new → ArePlaced places lookup old → ArePlaced places lookup new
+placed_still places lookup old new b h = λ r. has_place_still (places r) (lookup r) old new b (h r)
+
+-- something is noted of a reference, and its place
+pub placed_next : (places placed : ℕ → Option (Option ℕ)) (lookup later : ℕ → Option (Option TimeSeries)) (reference : ℕ) (p : Option ℕ) (o : Option TimeSeries) (old new : List Labels) → Begins old new
+    → ((q : ℕ) → placed q ≡ cond (nat_eq reference q) (Some p) (places q)) → ((q : ℕ) → later q ≡ cond (nat_eq reference q) (Some o) (lookup q)) → HasPlace (Some p) (Some o) new
+    → ArePlaced places lookup old → ArePlaced placed later new
+placed_next places placed lookup later reference p o old new b up again is h = λ r.
+    subst (λ (x : Option (Option ℕ)). HasPlace x (later r) new) (sym (up r))
+    (subst (λ (x : Option (Option TimeSeries)). HasPlace (cond (nat_eq reference r) (Some p) (places r)) x new) (sym (again r)) (by_test r (nat_eq reference r)))
+  where
+    by_test : (r : ℕ) (same : Bool) → HasPlace (cond same (Some p) (places r)) (cond same (Some o) (lookup r)) new
+    by_test r true = is
+    by_test r false = has_place_still (places r) (lookup r) old new b (h r)
+
+pub place_said : (o : Option ℕ) (s : TimeSeries) (names : List Labels) → IfSome o (λ n. IsPlaced n s.labels names) → HasPlace (Some o) (Some (Some s)) names
+place_said None s names is = tt
+place_said (Some n) s names is = is
+
+pub place_of_noted : (places : ℕ → Option (Option ℕ)) (lookup : ℕ → Option (Option TimeSeries)) (names : List Labels) (r n : ℕ) → ArePlaced places lookup names → places r ≡ Some (Some n) → IsPlaceOf n (lookup r) names
+place_of_noted places lookup names r n h e = subst (λ (x : Option (Option ℕ)). HasPlace x (lookup r) names) e (h r)
+
+pub place_within : (n : ℕ) (o : Option (Option TimeSeries)) (names : List Labels) → IsPlaceOf n o names → n < length names
+place_within n None names is = absurd is
+place_within n (Some None) names is = absurd is
+place_within n (Some (Some s)) names is = is.0
+
+-- a sample of the label set at a place
+pub takes_at : (limits : LabelLimits) (old new : Store) (lookup : ℕ → Option (Option TimeSeries)) (reference n : ℕ) (sample : ℤ × ℕ) (names : List Labels) (o : Option (Option TimeSeries)) (done : Bool)
+    → lookup reference ≡ o → IsPlaceOf n o names → AddsOne limits old new (one_sample (get_or names n []) sample.0 sample.1) done → TakesSample limits old new lookup lookup reference sample done
+takes_at limits old new lookup reference n sample names None done there is adds = absurd is
+takes_at limits old new lookup reference n sample names (Some None) done there is adds = absurd is
+takes_at limits old new lookup reference n sample names (Some (Some s)) done there is adds =
+    takes_by limits old new lookup lookup reference sample s (record { labels = s.labels; samples = (sample.1, sample.0) ∷ [] }) done there (λ r found was. was) refl
+    (subst (λ (l : Labels). AddsOne limits old new (one_sample l sample.0 sample.1) done) is.1 adds)

@@ -1,24 +1,26 @@
 //! The head that a log says.
 
-ghost use Rattle.std.specs.Prelude.{◌≡◌, ◌≢◌, ◌∷◌, ◌++◌, [], List, true, false, not, ◌||◌, nat_eq, map, IfOk, OnOk, IfSome, None};
+ghost use Rattle.std.specs.Prelude.{◌≡◌, ◌≢◌, ◌∷◌, ◌++◌, [], List, true, false, not, ◌||◌, nat_eq, map, ◌<◌, length, slice_index_or, Some, IfOk, OnOk, IfSome, None};
 ghost use Rattle.std.specs.HashMap.{get};
+ghost use Rattle.rw_types.specs.Beginnings.{Begins};
 ghost use Rattle.rw_types.specs.Labels.{Labels, text_label};
 ghost use Rattle.rw_types.specs.declared.entry.Entry.{Entry};
 ghost use Rattle.rw_types.specs.declared.names.Names.TheVariants.{Utf8};
 ghost use Rattle.rw_wal_append.specs.Additions.{samples_of_labels};
 ghost use Rattle.rw_head.specs.declared.verdict.Verdict.TheVariants.{Stored};
+ghost use Rattle.rw_head.specs.Placed.{one_sample};
 ghost use Rattle.rw_head.specs.Store.{list_of};
 ghost use Rattle.rw_kept_head.specs.Admitted.{MayHold, IsRefusedAt, label_limits};
 ghost use Rattle.rw_kept_head.specs.inner.Noting.{AreNames};
-ghost use Rattle.rw_kept_head.specs.inner.Restoring.{accepted_next, AddsOne, AddsTo, Defines, TakesSample, IsRestored, IsRestoredOrRefused, IsSeriesOf};
+ghost use Rattle.rw_kept_head.specs.inner.Restoring.{accepted_next, AddsOne, AddsTo, Defines, TakesSample, IsRestored, IsRestoredOrRefused, IsSeriesOf, HasPlace, ArePlaced};
 
 use crate::oddities::Oddities;
 use indexmap::IndexMap;
-use rw_head::{Head, Limits, Verdict};
+use rw_head::{Head, Limits, PlacedHead, Verdict};
 use rw_history::History;
 use rw_types::{Entry, LabelFault, LabelSet, Names, RawLabels, Word, utf8_takes_any_name};
 use rw_wal_tail::Taker;
-use rw_write_request::{Message, Series};
+use rw_write_request::Series;
 use std::alloc::{AllocError, Global};
 use std::marker::Model;
 
@@ -70,88 +72,127 @@ fn is_new(verdict: Verdict) -> bool
     }
 }
 
-/// Appends the one sample of a message of one series to what a head holds, and returns whether it
-/// did. A sample that the head holds already, or refuses, is not appended.
-fn append_one(head: &mut Head, message: &Message) -> Result<bool, AllocError>
-    ensures done { IfOk result
-        (AddsOne head.old.limits head.old.store head.new.store message.now) }
-    ensures held { OnOk result (MayHold head.old.limits (list_of head.old.store)
-        → MayHold head.old.limits (list_of head.new.store)) }
-    ensures limits { head.new.limits ≡ head.old.limits }
-    ensures busy { head.new.busy ≡ head.old.busy }
+/// Appends the one sample of a series to what a head holds, and returns whether it did. A sample
+/// that the head holds already, or refuses, is not appended.
+fn append_series(head: &mut PlacedHead, series: &Series) -> Result<bool, AllocError>
+    ensures done { IfOk result (AddsOne head.old.head.limits head.old.head.store
+        head.new.head.store (series.now ∷ [])) }
+    ensures held { OnOk result (MayHold head.old.head.limits (list_of head.old.head.store)
+        → MayHold head.old.head.limits (list_of head.new.head.store)) }
+    ensures limits { head.new.head.limits ≡ head.old.head.limits }
+    ensures busy { head.new.head.busy ≡ head.old.head.busy }
+    ensures places { Begins head.old.places head.new.places }
 {
-    match head.apply(message) {
+    match head.apply(series) {
         Verdict::NoMemory => Err(AllocError),
         verdict => Ok(is_new(verdict)),
     }
 }
 
+/// Appends a sample of the label set at a place, as `append_series` does.
+fn append_at(head: &mut PlacedHead, place: usize, sample: (i64, Word)) -> Result<bool, AllocError>
+    requires { place < length head.old.places }
+    ensures done { IfOk result (AddsOne head.old.head.limits head.old.head.store
+        head.new.head.store
+        (one_sample (slice_index_or head.old.places place []) sample.0 sample.1)) }
+    ensures held { OnOk result (MayHold head.old.head.limits (list_of head.old.head.store)
+        → MayHold head.old.head.limits (list_of head.new.head.store)) }
+    ensures limits { head.new.head.limits ≡ head.old.head.limits }
+    ensures busy { head.new.head.busy ≡ head.old.head.busy }
+    ensures places { Begins head.old.places head.new.places }
+{
+    match head.apply_at(place, sample.0, sample.1) {
+        Verdict::NoMemory => Err(AllocError),
+        verdict => Ok(is_new(verdict)),
+    }
+}
+
+/// Returns the place that is noted of a reference.
+fn place_of(places: &IndexMap<u64, Option<usize>>, reference: u64) -> Option<usize>
+    ensures { IfSome result (λ n. get nat_eq places.now reference ≡ Some (Some n)) }
+{
+    match places.get(&reference) {
+        Some(place) => *place,
+        None => None,
+    }
+}
+
 /// Takes a definition, and returns whether the reference had none. If its labels are not a label
-/// set, no head can hold samples of the reference.
+/// set, no head can hold samples of the reference. Nothing is noted of its place.
 fn define(
     alloc: Global,
     series: &mut IndexMap<u64, Option<Series>>,
+    places: &mut IndexMap<u64, Option<usize>>,
     reference: u64,
     labels: &RawLabels,
 ) -> Result<bool, AllocError>
-    ensures { OnOk result (Defines Utf8 (λ n. get nat_eq series.old n)
+    ensures defined { OnOk result (Defines Utf8 (λ n. get nat_eq series.old n)
         (λ n. get nat_eq series.new n) reference labels.now) }
+    ensures places { OnOk result ((names : List Labels) → ArePlaced (λ n. get nat_eq places.old n)
+        (λ n. get nat_eq series.old n) names
+        → ArePlaced (λ n. get nat_eq places.new n) (λ n. get nat_eq series.new n) names) }
 {
     let found = empty_series(alloc, labels)?;
+    places.insert(reference, None)?;
     let before = series.insert(reference, found)?;
     Ok(before.is_none())
 }
 
 /// Takes a sample of a reference of which this series is noted, and returns whether the head
-/// appended it. Without a series the head cannot hold it.
+/// appended it, and the place of the label set if it is known. Without a series the head cannot
+/// hold it.
 fn add_to(
-    head: &mut Head,
+    head: &mut PlacedHead,
     known: &mut Option<Series>,
-    message: &mut Message,
     sample: (i64, Word),
-) -> Result<bool, AllocError>
-    ensures done { IfOk result (AddsTo head.old.limits head.old.store head.new.store known.old
-        known.new sample) }
-    ensures held { OnOk result (MayHold head.old.limits (list_of head.old.store)
-        → MayHold head.old.limits (list_of head.new.store)) }
-    ensures limits { head.new.limits ≡ head.old.limits }
-    ensures busy { head.new.busy ≡ head.old.busy }
+) -> Result<(bool, Option<usize>), AllocError>
+    ensures done { IfOk result (λ x. AddsTo head.old.head.limits head.old.head.store
+        head.new.head.store known.old known.new sample x.0) }
+    ensures place { IfOk result (λ x.
+        HasPlace (Some x.1) (Some known.new) head.new.places) }
+    ensures held { OnOk result (MayHold head.old.head.limits (list_of head.old.head.store)
+        → MayHold head.old.head.limits (list_of head.new.head.store)) }
+    ensures limits { head.new.head.limits ≡ head.old.head.limits }
+    ensures busy { head.new.head.busy ≡ head.old.head.busy }
+    ensures places { Begins head.old.places head.new.places }
 {
     let Some(mut found) = known.take() else {
-        return Ok(false);
+        return Ok((false, None));
     };
     set_sample(&mut found, sample.0, sample.1)?;
-    message.series.clear();
-    message.series.push(found)?;
-    let done = append_one(head, message)?;
-    let Some(found) = message.series.pop() else {
-        return Err(AllocError);
-    };
+    let done = append_series(head, &found)?;
+    let place = head.place_of(&found.labels);
     *known = Some(found);
-    Ok(done)
+    Ok((done, place))
 }
 
-/// Takes a sample, and returns whether the head appended it. One without a definition is passed
-/// over.
-fn add_sample(
-    head: &mut Head,
+/// Takes a sample of a reference whose place is not known, and returns whether the head appended
+/// it. The place is then noted. A sample without a definition is passed over.
+fn add_first(
+    head: &mut PlacedHead,
     series: &mut IndexMap<u64, Option<Series>>,
-    message: &mut Message,
+    places: &mut IndexMap<u64, Option<usize>>,
     oddities: &mut Oddities,
     reference: u64,
     sample: (i64, Word),
 ) -> Result<bool, AllocError>
-    ensures done { IfOk result (TakesSample head.old.limits head.old.store head.new.store
-        (λ n. get nat_eq series.old n) (λ n. get nat_eq series.new n) reference sample) }
-    ensures held { OnOk result (MayHold head.old.limits (list_of head.old.store)
-        → MayHold head.old.limits (list_of head.new.store)) }
-    ensures limits { head.new.limits ≡ head.old.limits }
-    ensures busy { head.new.busy ≡ head.old.busy }
+    ensures done { IfOk result (TakesSample head.old.head.limits head.old.head.store
+        head.new.head.store (λ n. get nat_eq series.old n) (λ n. get nat_eq series.new n)
+        reference sample) }
+    ensures held { OnOk result (MayHold head.old.head.limits (list_of head.old.head.store)
+        → MayHold head.old.head.limits (list_of head.new.head.store)) }
+    ensures limits { head.new.head.limits ≡ head.old.head.limits }
+    ensures busy { head.new.head.busy ≡ head.old.head.busy }
+    ensures places { OnOk result (ArePlaced (λ n. get nat_eq places.old n)
+        (λ n. get nat_eq series.old n) head.old.places
+        → ArePlaced (λ n. get nat_eq places.new n) (λ n. get nat_eq series.new n)
+        head.new.places) }
 {
     utf8_takes_any_name();
     match series.get_mut(&reference) {
         Some(known) => {
-            let done = add_to(head, known, message, sample)?;
+            let (done, place) = add_to(head, known, sample)?;
+            places.insert(reference, place)?;
             Ok(done)
         }
         None => {
@@ -161,32 +202,71 @@ fn add_sample(
     }
 }
 
+/// Takes a sample, and returns whether the head appended it. If the place of its label set is
+/// known, its labels are not looked at.
+fn add_sample(
+    head: &mut PlacedHead,
+    series: &mut IndexMap<u64, Option<Series>>,
+    places: &mut IndexMap<u64, Option<usize>>,
+    oddities: &mut Oddities,
+    reference: u64,
+    sample: (i64, Word),
+) -> Result<bool, AllocError>
+    requires { ArePlaced (λ n. get nat_eq places.old n) (λ n. get nat_eq series.old n)
+        head.old.places }
+    ensures done { IfOk result (TakesSample head.old.head.limits head.old.head.store
+        head.new.head.store (λ n. get nat_eq series.old n) (λ n. get nat_eq series.new n)
+        reference sample) }
+    ensures held { OnOk result (MayHold head.old.head.limits (list_of head.old.head.store)
+        → MayHold head.old.head.limits (list_of head.new.head.store)) }
+    ensures limits { head.new.head.limits ≡ head.old.head.limits }
+    ensures busy { head.new.head.busy ≡ head.old.head.busy }
+    ensures places { OnOk result (ArePlaced (λ n. get nat_eq places.new n)
+        (λ n. get nat_eq series.new n) head.new.places) }
+{
+    match place_of(places, reference) {
+        Some(place) => {
+            let done = append_at(head, place, sample)?;
+            Ok(done)
+        }
+        None => {
+            let done = add_first(head, series, places, oddities, reference, sample)?;
+            Ok(done)
+        }
+    }
+}
+
 /// Takes an entry, and returns whether a head like this one could be given it.
 fn take_entry(
     alloc: Global,
-    head: &mut Head,
+    head: &mut PlacedHead,
     series: &mut IndexMap<u64, Option<Series>>,
-    message: &mut Message,
+    places: &mut IndexMap<u64, Option<usize>>,
     oddities: &mut Oddities,
     entry: &Entry,
 ) -> Result<bool, AllocError>
+    requires { ArePlaced (λ n. get nat_eq places.old n) (λ n. get nat_eq series.old n)
+        head.old.places }
     ensures done { IfOk result (λ done. (taken : List Entry)
-        → IsRestored Utf8 taken (λ n. get nat_eq series.old n) head.old.store
-        → IsRestoredOrRefused head.old.limits (taken ++ entry.now ∷ [])
-        (λ n. get nat_eq series.new n) head.new.store done) }
-    ensures held { OnOk result (MayHold head.old.limits (list_of head.old.store)
-        → MayHold head.old.limits (list_of head.new.store)) }
-    ensures limits { head.new.limits ≡ head.old.limits }
-    ensures busy { head.new.busy ≡ head.old.busy }
+        → IsRestored Utf8 taken (λ n. get nat_eq series.old n) head.old.head.store
+        → IsRestoredOrRefused head.old.head.limits (taken ++ entry.now ∷ [])
+        (λ n. get nat_eq series.new n) head.new.head.store done) }
+    ensures held { OnOk result (MayHold head.old.head.limits (list_of head.old.head.store)
+        → MayHold head.old.head.limits (list_of head.new.head.store)) }
+    ensures limits { head.new.head.limits ≡ head.old.head.limits }
+    ensures busy { head.new.head.busy ≡ head.old.head.busy }
+    ensures places { OnOk result (ArePlaced (λ n. get nat_eq places.new n)
+        (λ n. get nat_eq series.new n) head.new.places) }
 {
     match entry {
         Entry::Def { reference, labels } => {
-            let first = define(alloc, series, *reference, labels)?;
+            let first = define(alloc, series, places, *reference, labels)?;
             oddities.count_definition(first);
             Ok(true)
         }
         Entry::Sample { reference, t, word } => {
-            let done = add_sample(head, series, message, oddities, *reference, (*t, *word))?;
+            let sample = (*t, *word);
+            let done = add_sample(head, series, places, oddities, *reference, sample)?;
             Ok(done)
         }
     }
@@ -224,9 +304,10 @@ pub(crate) struct RestoredParts {
 pub(crate) struct Restoring {
     alloc: Global,
     taken: History<Entry>,
-    head: Head,
+    head: PlacedHead,
     series: IndexMap<u64, Option<Series>>,
-    message: Message,
+    /// The places in the head of the label sets of which samples came.
+    places: IndexMap<u64, Option<usize>>,
     oddities: Oddities,
     /// How many entries came before the first one that was refused.
     accepted: u64,
@@ -241,7 +322,7 @@ impl Model for Restoring {
     ghost use Rattle.std.specs.Coded.{codes};
     ghost use Rattle.std.specs.FinMap as map;
     ghost use Rattle.std.specs.HashMap.{get};
-    ghost use Rattle.rw_kept_head.specs.inner.Restoring.{Restored, IsRestoring};
+    ghost use Rattle.rw_kept_head.specs.inner.Restoring.{Restored, IsRestoring, ArePlaced};
 
     ghost Value = { Restored };
 
@@ -249,14 +330,15 @@ impl Model for Restoring {
 
     ghost view = { λ r. record {
       taken = r.taken;
-      head = r.head;
+      head = r.head.head;
       accepted = r.accepted;
       refused = r.refused;
       failed = r.failed;
     } };
 
     ghost invariant = { λ r. r.failed ≡ false
-        → IsRestoring r.taken (λ n. get nat_eq r.series n) r.head r.accepted r.refused };
+        → IsRestoring r.taken (λ n. get nat_eq r.series n) r.head.head r.accepted r.refused
+        × ArePlaced (λ n. get nat_eq r.places n) (λ n. get nat_eq r.series n) r.head.places };
 }
 
 impl Restoring {
@@ -270,11 +352,9 @@ impl Restoring {
         Restoring {
             alloc,
             taken: History::new(),
-            head: Head::new(alloc, limits),
+            head: PlacedHead::new(alloc, limits),
             series: IndexMap::new(alloc),
-            message: Message {
-                series: Vec::new(alloc),
-            },
+            places: IndexMap::new(alloc),
             oddities: Oddities::none(),
             accepted: 0,
             refused: false,
@@ -306,7 +386,7 @@ impl Restoring {
             taken: _,
             head,
             series,
-            message: _,
+            places: _,
             oddities,
             accepted: _,
             refused,
@@ -317,7 +397,7 @@ impl Restoring {
             return None;
         }
         Some(RestoredParts {
-            head,
+            head: head.into_head(),
             series,
             oddities,
         })
@@ -338,20 +418,22 @@ impl Taker for Restoring {
     } };
 
     fn take(&mut self, entry: Entry) -> Result<(), AllocError> {
-        let had_failed = self.failed;
+        if self.failed {
+            return Err(AllocError);
+        }
         self.failed = true;
         let done = take_entry(
             self.alloc,
             &mut self.head,
             &mut self.series,
-            &mut self.message,
+            &mut self.places,
             &mut self.oddities,
             &entry,
         )?;
         self.taken.push(&entry);
         self.refused = is_refused(self.refused, done);
         self.accepted = count_accepted(self.accepted, self.refused);
-        self.failed = had_failed;
+        self.failed = false;
         Ok(())
     }
 }

@@ -11,6 +11,7 @@ use Rattle.rw_write_request.specs.Message.{TimeSeries, WriteRequest}
 use Rattle.rw_wal_append.specs.Additions.{samples_of_labels}
 use Rattle.rw_head.specs.Head.{State}
 use Rattle.rw_head.specs.Lists.{IsEarlier}
+use Rattle.rw_head.specs.Placed.{IsPlaced}
 use Rattle.rw_head.specs.Store.{Store, list_of}
 use Rattle.rw_head.specs.Verdicts.{LabelLimits, refusal}
 use Rattle.rw_kept_head.specs.Admitted.{MayHold, IsRefusedAt}
@@ -90,6 +91,22 @@ TakesSample limits old new lookup later reference sample true = AddsSample Utf8 
 TakesSample limits old new lookup later reference sample false =
     (found : Option (List (List ℕ × List ℕ))) → StandsFor Utf8 (lookup reference) found
     → (l : Labels) × (found ≡ Some l) × CannotFollow limits old l sample
+
+-- the label set of what is noted of a reference has this place
+abbrev pub IsPlaceOf : ℕ → Option (Option TimeSeries) → List Labels → Type 0
+IsPlaceOf n None names = ⊥
+IsPlaceOf n (Some None) names = ⊥
+IsPlaceOf n (Some (Some s)) names = IsPlaced n s.labels names
+
+-- the same of a place that may be unknown
+abbrev pub HasPlace : Option (Option ℕ) → Option (Option TimeSeries) → List Labels → Type 0
+HasPlace None found names = Unit {0}
+HasPlace (Some None) found names = Unit {0}
+HasPlace (Some (Some n)) found names = IsPlaceOf n found names
+
+-- each place that is noted of a reference is that of its label set
+abbrev pub ArePlaced : (ℕ → Option (Option ℕ)) → (ℕ → Option (Option TimeSeries)) → List Labels → Type 0
+ArePlaced places lookup names = (r : ℕ) → HasPlace (places r) (lookup r) names
 
 -- the store has what these entries say, or no head with these limits takes them
 abbrev pub IsRestoredOrRefused : LabelLimits → List Entry → (ℕ → Option (Option TimeSeries)) → Store → Bool → Type 0

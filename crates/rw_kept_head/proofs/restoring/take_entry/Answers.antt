@@ -11,15 +11,15 @@ use Rattle.rw_kept_head.proofs.restoring.take_entry.Goals as goal
 
 pub returns-in_ok-first-in-Def-clause-done : goal.returns-in_ok-first-in-Def-clause-done
 returns-in_ok-first-in-Def-clause-done c = λ taken restored.
-    subst (λ (e : Entry). IsRestored Utf8 (taken ++ e ∷ []) (λ n. get nat_eq c.define.new.series n) c.args.head.now.store) (sym c.in-Def.is)
-    (defined_next Utf8 taken (λ n. get nat_eq c.args.series.now n) (λ n. get nat_eq c.define.new.series n) c.args.head.now.store _ _ c.in_ok-first-in-Def.ensures restored)
+    subst (λ (e : Entry). IsRestored Utf8 (taken ++ e ∷ []) (λ n. get nat_eq c.define.new.series n) c.args.head.now.head.store) (sym c.in-Def.is)
+    (defined_next Utf8 taken (λ n. get nat_eq c.args.series.now n) (λ n. get nat_eq c.define.new.series n) c.args.head.now.head.store _ _ c.in_ok-first-in-Def.ensures.defined restored)
 
 pub returns-in_ok-done-in-Sample-clause-done : goal.returns-in_ok-done-in-Sample-clause-done
 returns-in_ok-done-in-Sample-clause-done c =
     let fits : FitsSigned w64 c.in-Sample.t = search rules in
     λ taken restored.
-    subst (λ (e : Entry). IsRestoredOrRefused c.args.head.now.limits (taken ++ e ∷ []) (λ n. get nat_eq c.add_sample.new.series n) c.add_sample.new.head.store c.in_ok-done-in-Sample.done) (sym c.in-Sample.is)
+    subst (λ (e : Entry). IsRestoredOrRefused c.args.head.now.head.limits (taken ++ e ∷ []) (λ n. get nat_eq c.add_sample.new.series n) c.add_sample.new.head.head.store c.in_ok-done-in-Sample.done) (sym c.in-Sample.is)
     (subst
-    (λ (z : ℤ). IsRestoredOrRefused c.args.head.now.limits (taken ++ Sample c.in-Sample.reference z c.in-Sample.word ∷ []) (λ n. get nat_eq c.add_sample.new.series n) c.add_sample.new.head.store c.in_ok-done-in-Sample.done)
+    (λ (z : ℤ). IsRestoredOrRefused c.args.head.now.head.limits (taken ++ Sample c.in-Sample.reference z c.in-Sample.word ∷ []) (λ n. get nat_eq c.add_sample.new.series n) c.add_sample.new.head.head.store c.in_ok-done-in-Sample.done)
     (to_z-of_z w64 c.in-Sample.t fits)
-    (sample_taken c.args.head.now.limits taken (λ n. get nat_eq c.args.series.now n) (λ n. get nat_eq c.add_sample.new.series n) c.args.head.now.store c.add_sample.new.head.store _ _ _ c.in_ok-done-in-Sample.done c.in_ok-done-in-Sample.ensures.done restored))
+    (sample_taken c.args.head.now.head.limits taken (λ n. get nat_eq c.args.series.now n) (λ n. get nat_eq c.add_sample.new.series n) c.args.head.now.head.store c.add_sample.new.head.head.store _ _ _ c.in_ok-done-in-Sample.done c.in_ok-done-in-Sample.ensures.done restored))
