@@ -1,12 +1,16 @@
-use Rattle.std.proofs.Common.{◌≡◌, ◌+◌, ℕ, List, refl, ap, sym, subst, ◌∙◌, rules}
+use Rattle.std.proofs.Common.{◌≡◌, ◌+◌, ℕ, List, None, refl, ap, sym, subst, ◌∙◌, rules}
 use Rattle.rw_types.specs.declared.entry.Entry.{Entry}
 use Rattle.rw_wal_format.specs.Pieces.{page_size}
 use Rattle.rw_journal.specs.Journal.{Segments}
-use Rattle.rw_journal.specs.Logs.{entries_of}
+use Rattle.rw_journal.specs.Logs.{entries_of, IsWholeText}
+use Rattle.rw_journal.specs.TornLogs.{AllBefore}
 use Rattle.rw_journal.proofs.shared.Moments.{started}
 use Rattle.rw_reopen.specs.Reading.{greatest_after}
 use Rattle.rw_wal_append.specs.Additions.{samples_of_labels}
+use Rattle.rw_wal_append.specs.Ends.{EndsAt}
+use Rattle.rw_head.specs.Verdicts.{LabelLimits}
 use Rattle.rw_wal_append.specs.References.{ReferenceTable, IsNoted}
+use Rattle.rw_kept_head.specs.Admitted.{IsRefusedAt}
 use Rattle.rw_kept_head.specs.Opening.{HasSameEntries}
 use Rattle.rw_kept_head.specs.Reading.{HeadTaken}
 use Rattle.rw_kept_head.specs.inner.Noting.{AreNames, no_references, noted_from}
@@ -71,3 +75,20 @@ pub returns-in_default-note_all-clause-any_moment : goal.returns-in_default-note
 returns-in_default-note_all-clause-any_moment g c =
     let journal = c.args.journal.now in
     started g.J.Journal.moment g.J.Journal.left_since journal (HasSameEntries (g.J.Journal.seen journal)) (λ x left. ap (entries_of page_size) (c.requires.synced x (g.met.J.Journal.only_now journal x left)))
+
+pub returns-in_default-clause-place : goal.returns-in_default-clause-place
+returns-in_default-clause-place g c =
+    let read = entries_of page_size (g.J.Journal.seen c.args.journal.now) in
+    let is : c.reading.inside.log.segments ≡ g.J.Journal.seen c.args.journal.now = ap (λ (h : HeadTaken). h.segments) c.reading.view_is ∙ c.requires.read in
+    let taken : c.in_ok-restoring.restoring.taken ≡ read = c.in_ok-restoring.ensures.entries ∙ ap (entries_of page_size) is in
+    let none : c.into_parts.result ≡ None = search rules in
+    let limits : c.in_ok-restoring.restoring.head.limits ≡ c.args.reading.setup.limits = search rules in
+    let first : IsRefusedAt c.in_ok-restoring.restoring.head.limits c.in_ok-restoring.restoring.taken c.in_ok-restoring.restoring.accepted = c.into_parts.ensures.first none in
+    subst (λ (n : ℕ). IsRefusedAt c.args.reading.setup.limits read n) (sym c.accepted-accepted.ensures)
+    (subst (λ (m : LabelLimits). IsRefusedAt m read c.in_ok-restoring.restoring.accepted) limits
+    (subst (λ (es : List Entry). IsRefusedAt c.in_ok-restoring.restoring.head.limits es c.in_ok-restoring.restoring.accepted) taken first))
+
+pub returns-clause-ends : goal.returns-clause-ends
+returns-clause-ends g c =
+    let added = c.in_ok-close_torn.ensures.segments in
+    subst (λ (ss : Segments). EndsAt ss 0) (sym added) (c.an_empty_segment_ends_at_0.ensures _ (subst (AllBefore (IsWholeText page_size)) added c.in_ok-close_torn.ensures.whole))
