@@ -29,8 +29,8 @@ loop-shard-preserved g c =
     let given = c.part_and_seat-part in record {
       part_room = search rules;
       seat_room = search rules;
-      parts = c.push_reserved.ensures.items ∙ ap (λ l. l ++ given.result.0 ∷ []) i.parts ∙ ap (λ p. c.args.dropped ∷ (map part_of more ++ p ∷ [])) given.ensures.part ∙ ap (λ l. c.args.dropped ∷ l) (sym (map-append part_of more (j ∷ [])));
-      seats = c.push_reserved-2.ensures.items ∙ ap (λ l. l ++ given.result.1 ∷ []) i.seats ∙ ap (λ s. map seat_of (map finished_of more) ++ s ∷ []) given.ensures.seat
+      parts = c.push_reserved-in-loop-shard.ensures.items ∙ ap (λ l. l ++ given.result.0 ∷ []) i.parts ∙ ap (λ p. c.args.dropped ∷ (map part_of more ++ p ∷ [])) given.ensures.part ∙ ap (λ l. c.args.dropped ∷ l) (sym (map-append part_of more (j ∷ [])));
+      seats = c.push_reserved-in-loop-shard-2.ensures.items ∙ ap (λ l. l ++ given.result.1 ∷ []) i.seats ∙ ap (λ s. map seat_of (map finished_of more) ++ s ∷ []) given.ensures.seat
           ∙ sym (ap (map seat_of) (map-append finished_of more (j ∷ [])) ∙ map-append seat_of (map finished_of more) (finished_of j ∷ []));
       lines = subst (All (λ (x : Finished SeatLine). IsSeatLine g.L.Naming.opening g.L.Endpoint.path g.L.Endpoint.limit x.transport)) (sym (map-append finished_of more (j ∷ [])))
           (All-push (λ (x : Finished SeatLine). IsSeatLine g.L.Naming.opening g.L.Endpoint.path g.L.Endpoint.limit x.transport) (map finished_of more) (finished_of j) i.lines given.ensures.line);
