@@ -10,11 +10,12 @@ import os
 import re
 import shutil
 import signal
+import socket
 import subprocess
 import tempfile
 import time
 
-from common import free_port, is_listened_on
+from common import free_port
 from over_folder import FAULTS, Different, same_samples
 
 WAIT = 60
@@ -29,6 +30,16 @@ def run(*words):
     if ran.returncode:
         raise OSError(f"{' '.join(words)}: {ran.stdout.decode(errors='replace').strip()}")
     return ran.stdout.decode(errors="replace")
+
+
+def is_answered(port):
+    """Whether a receiver answers there, as it does once it has read its folder; it listens before."""
+    try:
+        with socket.create_connection(("127.0.0.1", port), timeout=WAIT) as it:
+            it.sendall(b"GET / HTTP/1.1\r\nConnection: close\r\n\r\n")
+            return bool(it.recv(1))
+    except OSError:
+        return False
 
 
 class Disk:
@@ -127,14 +138,14 @@ class Round:
         return self.started[-1]
 
     def receiver(self, *more, starts=1):
-        """Starts a receiver, and waits until it listens. Returns None if it does not, in this number of starts."""
+        """Starts a receiver, and waits until it answers. Returns None if it does not, in this number of starts."""
         words = ["receive", "--listen", f"127.0.0.1:{self.port}", "--until-eof", "--stop-file", f"{self.room}/stop", "--quiet"]
         for _ in range(starts):
             with open(self.errors, "wb") as errors:
                 it = self.begun(*words, "--dir", f"{self.disk.folder}/kept", *more, stdout=subprocess.DEVNULL, stderr=errors)
             ends = time.time() + WAIT
             while it.poll() is None and time.time() < ends:
-                if is_listened_on(self.port):
+                if is_answered(self.port):
                     return it
                 time.sleep(0.01)
             time.sleep(0.2)
@@ -183,7 +194,7 @@ class Round:
         self.stop(receiver)
         self.disk.make_holes()
         receiver = self.restarted(*more)
-        self.ended(self.sender("first"))  # (it listens before it has read its folder, and answers after that)
+        self.ended(self.sender("first"))
         return receiver
 
     def held(self, folder):
