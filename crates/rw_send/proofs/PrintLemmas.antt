@@ -1,11 +1,13 @@
 -- A report is printed.
-use Rattle.std.proofs.Common.{◌≡◌, ℕ, Bool, List, Option, Result, Ok, Err, OnOk, sym, ap, subst}
+use Rattle.std.proofs.Common.{◌≡◌, ◌⊎◌, inl, inr, ℕ, Bool, List, Option, Result, Ok, Err, OnOk, ⊥, sym, ap, subst}
 use Rattle.std.specs.Result.{IsErrAnd}
 use Rattle.std.specs.Io.KnownBytes.{Appends}
 use Rattle.rw_shard_core.specs.declared.config.ConfigFields.{ConfigFields}
 use Rattle.rw_worker.specs.Transcript.{Exchange}
 use Rattle.rw_sender.specs.declared.report.Report.{Report}
+use Rattle.rw_wal_format.specs.declared.tail_fault.TailFault.{TailFault}
 use Rattle.rw_text.specs.declared.tool_fault.ToolFault.{ToolFault}
+use Rattle.rw_text.specs.declared.tool_fault.ToolFault.TheVariants.{OutOfMemory, Log, Device}
 use Rattle.rw_send.specs.ReportText.{IsTextOf, WritesReportPart}
 use Rattle.rw_send.specs.Sending.{IsSent, IsPrinted, IsPrintedPart}
 
@@ -34,3 +36,13 @@ pub same_fault : (r : Result (Unit {0}) ToolFault) (fault other : ToolFault) →
 same_fault r fault other h e =
     let there : IsErrAnd (failed other) (λ e. e ≡ fault) = subst (λ (q : Result (Unit {0}) ToolFault). IsErrAnd q (λ e. e ≡ fault)) e h in
     ap failed (sym there)
+
+-- printing meets no fault of a log
+pub no_log : (fault : ToolFault) (f : TailFault) → (fault ≡ OutOfMemory) ⊎ (fault ≡ Device) → failed fault ≡ failed (Log f) → ⊥
+no_log fault f (inl h) e = cc
+no_log fault f (inr h) e = cc
+
+-- what holds at any rate holds at `Ok`
+pub if_ok : {T E P : Type 0} (r : Result T E) → P → OnOk r P
+if_ok (Ok x) p = p
+if_ok (Err e) p = tt

@@ -1,6 +1,6 @@
-use Rattle.std.proofs.Common.{Err, inl, inr}
+use Rattle.std.proofs.Common.{Err, absurd, inl, inr}
 use Rattle.rw_text.specs.declared.tool_fault.ToolFault.TheVariants.{OutOfMemory, Log, Device}
-use Rattle.rw_send.proofs.PrintLemmas.{printed, printed_part, printed_so, printed_whole, same_fault}
+use Rattle.rw_send.proofs.PrintLemmas.{if_ok, no_log, printed, printed_part, printed_so, printed_whole, same_fault}
 use Rattle.rw_send.proofs.send.run_send.Goals as goal
 
 pub returns-in_err-print_report-clause-device : goal.returns-in_err-print_report-clause-device
@@ -19,3 +19,10 @@ returns-clause-memory g c = λ e. inr (printed_so (Err OutOfMemory) e (printed _
 
 pub returns-clause-device : goal.returns-clause-device
 returns-clause-device g c = λ e. inl (printed_so (Err Device) e (printed _ _ c.in_ok-report.ensures c.in_ok-print_report.ensures.ok))
+
+pub returns-in_err-print_report-clause-damaged : goal.returns-in_err-print_report-clause-damaged
+returns-in_err-print_report-clause-damaged g c = λ f e.
+    absurd (no_log _ f c.in_err-print_report.ensures.faults (same_fault _ _ _ c.from_residual-in_err-print_report.ensures.1 e))
+
+pub returns-clause-sound : goal.returns-clause-sound
+returns-clause-sound g c = if_ok _ c.in_ok-print_report.ensures.sound
