@@ -1,4 +1,4 @@
-use Rattle.std.proofs.Common.{Err, absurd, inl, inr}
+use Rattle.std.proofs.Common.{Err, inl, inr}
 use Rattle.rw_text.specs.declared.tool_fault.ToolFault.TheVariants.{OutOfMemory, Log, Device}
 use Rattle.rw_send.specs.declared.follow_fault.FollowFault.TheVariants.{Tool, Missing, Stopped}
 use Rattle.rw_send.proofs.FollowLemmas.{printed, printed_part, printed_so, printed_whole, same_tool}

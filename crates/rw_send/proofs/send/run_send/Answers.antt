@@ -1,4 +1,4 @@
-use Rattle.std.proofs.Common.{Err, absurd, inl, inr}
+use Rattle.std.proofs.Common.{Err, inl, inr}
 use Rattle.rw_text.specs.declared.tool_fault.ToolFault.TheVariants.{OutOfMemory, Log, Device}
 use Rattle.rw_send.proofs.PrintLemmas.{if_ok, no_log, printed, printed_part, printed_so, printed_whole, same_fault}
 use Rattle.rw_send.proofs.send.run_send.Goals as goal
