@@ -1,4 +1,4 @@
-//! The floor of `tools/bench`: the same bytes over the same kind of connections, and no other work.
+//! The floor of `bench/run`: the same bytes over the same kind of connections, and no other work.
 //!
 //!     floor send FILE HOST:PORT       sends each body of FILE over a connection of its own
 //!     floor receive HOST:PORT [FILE]  answers each request with 204, and keeps nothing, or the

@@ -1,4 +1,4 @@
-//! The yardstick of `tools/bench`: shipping in plain Rust, unproved, as one writes it in an afternoon.
+//! The yardstick of `bench/run`: shipping in plain Rust, unproved, as one writes it in an afternoon.
 //!
 //!     plain send DIR SHARDS BATCH HOST:PORT [snappy]
 //!     plain receive HOST:PORT [count]

@@ -1,5 +1,5 @@
 //! Blocks of the Snappy format. Where a comment says so, a block was written by libsnappy 1.1.9, or
-//! libsnappy decodes it to the same bytes or refuses it. tools/try-snappy plays random blocks.
+//! libsnappy decodes it to the same bytes or refuses it. trials/try-snappy plays random blocks.
 
 use crate::rows::{holds, none_is_wrong};
 use rw_snappy::{Encoder, SnappyFault, check, decode};

@@ -56,8 +56,14 @@ fn logs<W: Sink>(
     }
 }
 
-/// A name, a run that is logged, the result, and where the writer then is.
-type Step = (&'static str, u8, usize, Result<(), LogFault>, usize);
+/// A run of a byte that is logged, the result, and where the writer then is.
+struct Step {
+    name: &'static str,
+    byte: u8,
+    len: usize,
+    want: Result<(), LogFault>,
+    offset: usize,
+}
 
 /// Returns the first step that differs.
 fn wrong_step(
@@ -65,9 +71,10 @@ fn wrong_step(
     writer: &mut SegmentWriter<Room>,
     steps: &[Step],
 ) -> Option<&'static str> {
-    for (name, byte, len, want, offset) in steps {
-        if !logs(alloc, writer, *byte, *len, *want) || writer.offset() != *offset {
-            return Some(name);
+    for step in steps {
+        let is_so = logs(alloc, writer, step.byte, step.len, step.want);
+        if !is_so || writer.offset() != step.offset {
+            return Some(step.name);
         }
     }
     None
@@ -197,15 +204,51 @@ fn fills_and_ends_pages(rt: HostRuntime) {
 }
 
 static ONE_PAGE: [Step; 4] = [
-    ("above a page", 3, 32_762, Err(LogFault::SegmentFull), 0),
-    ("too long", 3, 16_777_217, Err(LogFault::RecordTooLong), 0),
-    ("a full page", 3, 32_761, Ok(()), 32_768),
-    ("a byte more", 2, 1, Err(LogFault::SegmentFull), 32_768),
+    Step {
+        name: "above a page",
+        byte: 3,
+        len: 32_762,
+        want: Err(LogFault::SegmentFull),
+        offset: 0,
+    },
+    Step {
+        name: "too long",
+        byte: 3,
+        len: 16_777_217,
+        want: Err(LogFault::RecordTooLong),
+        offset: 0,
+    },
+    Step {
+        name: "a full page",
+        byte: 3,
+        len: 32_761,
+        want: Ok(()),
+        offset: 32_768,
+    },
+    Step {
+        name: "a byte more",
+        byte: 2,
+        len: 1,
+        want: Err(LogFault::SegmentFull),
+        offset: 32_768,
+    },
 ];
 
 static TWO_PAGES: [Step; 2] = [
-    ("above two pages", 3, 65_523, Err(LogFault::SegmentFull), 0),
-    ("two full pages", 3, 65_522, Ok(()), 65_536),
+    Step {
+        name: "above two pages",
+        byte: 3,
+        len: 65_523,
+        want: Err(LogFault::SegmentFull),
+        offset: 0,
+    },
+    Step {
+        name: "two full pages",
+        byte: 3,
+        len: 65_522,
+        want: Ok(()),
+        offset: 65_536,
+    },
 ];
 
 /// Returns the first step that differs in a segment of this many pages, for which there is room.

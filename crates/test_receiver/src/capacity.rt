@@ -8,164 +8,172 @@ use std::alloc::Global;
 
 const IDLE: Labels<'static> = &[("__name__", "idle")];
 
-/// A name for the request, its series, the most samples and series that the head may hold, whether
-/// it is full, its status, and how many samples and series it holds then. The requests come one
+/// A request to a head with a capacity, and what becomes of it. The requests of a table come one
 /// after the other to one head.
-type Row = (
-    &'static str,
-    Parts<'static>,
-    (u64, u64),
-    bool,
-    u16,
-    (u64, usize),
-);
+struct Row {
+    name: &'static str,
+    series: Parts<'static>,
+    /// The most samples and the most series that the head may hold.
+    limits: (u64, u64),
+    is_full: bool,
+    status: u16,
+    /// How many samples and series the head holds then.
+    held: (u64, usize),
+}
 
 static ROWS: [Row; 19] = [
-    (
-        "one sample to a head for none",
-        &[(UP, &[(10, 1)])],
-        (0, 9),
-        true,
-        503,
-        (0, 0),
-    ),
-    (
-        "one series to a head for none",
-        &[(UP, &[(10, 1)])],
-        (9, 0),
-        true,
-        503,
-        (0, 0),
-    ),
-    ("no series", &[], (0, 0), false, 204, (0, 0)),
-    (
-        "a series without samples",
-        &[(UP, &[])],
-        (0, 0),
-        false,
-        204,
-        (0, 0),
-    ),
-    (
-        "up to both limits",
-        &[(UP, &[(10, 1), (20, 2)]), (DOWN, &[(10, 3)])],
-        (3, 2),
-        false,
-        204,
-        (3, 2),
-    ),
-    (
-        "a repeat at both limits",
-        &[(UP, &[(10, 1), (20, 2)]), (DOWN, &[(10, 3)])],
-        (3, 2),
-        false,
-        204,
-        (3, 2),
-    ),
-    (
-        "a repeat above both limits",
-        &[(DOWN, &[(10, 3)]), (UP, &[(10, 1), (20, 2)])],
-        (1, 1),
-        false,
-        204,
-        (3, 2),
-    ),
-    (
-        "one sample above the limit",
-        &[(UP, &[(30, 3)])],
-        (3, 2),
-        true,
-        503,
-        (3, 2),
-    ),
-    (
-        "a repeat and one sample above the limit",
-        &[(DOWN, &[(10, 3)]), (UP, &[(20, 2), (30, 3)])],
-        (3, 2),
-        true,
-        503,
-        (3, 2),
-    ),
-    (
-        "two samples for the room of one",
-        &[(UP, &[(30, 3)]), (DOWN, &[(20, 4)])],
-        (4, 2),
-        true,
-        503,
-        (3, 2),
-    ),
-    (
-        "repeats and one sample up to the limit",
-        &[(DOWN, &[(10, 3)]), (UP, &[(10, 1), (20, 2), (30, 3)])],
-        (4, 2),
-        false,
-        204,
-        (4, 2),
-    ),
-    (
-        "one series above the limit",
-        &[(IDLE, &[(10, 7)])],
-        (9, 2),
-        true,
-        503,
-        (4, 2),
-    ),
-    (
-        "a later sample and one series above the limit",
-        &[(UP, &[(40, 4)]), (IDLE, &[(10, 7)])],
-        (9, 2),
-        true,
-        503,
-        (4, 2),
-    ),
-    (
-        "a later sample above the limit of series",
-        &[(DOWN, &[(20, 4)])],
-        (9, 1),
-        false,
-        204,
-        (5, 2),
-    ),
-    (
-        "one series up to the limit, twice in one request",
-        &[(IDLE, &[(10, 7)]), (IDLE, &[(10, 7)])],
-        (6, 3),
-        false,
-        204,
-        (6, 3),
-    ),
-    (
-        "a sample out of order to a full head",
-        &[(UP, &[(35, 4)]), (UP, &[(5, 1)])],
-        (1, 1),
-        false,
-        400,
-        (6, 3),
-    ),
-    (
-        "labels that do not rise to a full head",
-        &[(FALLING, &[(10, 1)])],
-        (1, 1),
-        false,
-        400,
-        (6, 3),
-    ),
-    (
-        "all that did not fit, at last",
-        &[(UP, &[(40, 4), (50, 5)]), (DOWN, &[(30, 5)])],
-        (9, 3),
-        false,
-        204,
-        (9, 3),
-    ),
-    (
-        "no limits",
-        &[(UP, &[(60, 6)]), (&[("__name__", "new")], &[(10, 8)])],
-        (u64::MAX, u64::MAX),
-        false,
-        204,
-        (11, 4),
-    ),
+    Row {
+        name: "one sample to a head for none",
+        series: &[(UP, &[(10, 1)])],
+        limits: (0, 9),
+        is_full: true,
+        status: 503,
+        held: (0, 0),
+    },
+    Row {
+        name: "one series to a head for none",
+        series: &[(UP, &[(10, 1)])],
+        limits: (9, 0),
+        is_full: true,
+        status: 503,
+        held: (0, 0),
+    },
+    Row {
+        name: "no series",
+        series: &[],
+        limits: (0, 0),
+        is_full: false,
+        status: 204,
+        held: (0, 0),
+    },
+    Row {
+        name: "a series without samples",
+        series: &[(UP, &[])],
+        limits: (0, 0),
+        is_full: false,
+        status: 204,
+        held: (0, 0),
+    },
+    Row {
+        name: "up to both limits",
+        series: &[(UP, &[(10, 1), (20, 2)]), (DOWN, &[(10, 3)])],
+        limits: (3, 2),
+        is_full: false,
+        status: 204,
+        held: (3, 2),
+    },
+    Row {
+        name: "a repeat at both limits",
+        series: &[(UP, &[(10, 1), (20, 2)]), (DOWN, &[(10, 3)])],
+        limits: (3, 2),
+        is_full: false,
+        status: 204,
+        held: (3, 2),
+    },
+    Row {
+        name: "a repeat above both limits",
+        series: &[(DOWN, &[(10, 3)]), (UP, &[(10, 1), (20, 2)])],
+        limits: (1, 1),
+        is_full: false,
+        status: 204,
+        held: (3, 2),
+    },
+    Row {
+        name: "one sample above the limit",
+        series: &[(UP, &[(30, 3)])],
+        limits: (3, 2),
+        is_full: true,
+        status: 503,
+        held: (3, 2),
+    },
+    Row {
+        name: "a repeat and one sample above the limit",
+        series: &[(DOWN, &[(10, 3)]), (UP, &[(20, 2), (30, 3)])],
+        limits: (3, 2),
+        is_full: true,
+        status: 503,
+        held: (3, 2),
+    },
+    Row {
+        name: "two samples for the room of one",
+        series: &[(UP, &[(30, 3)]), (DOWN, &[(20, 4)])],
+        limits: (4, 2),
+        is_full: true,
+        status: 503,
+        held: (3, 2),
+    },
+    Row {
+        name: "repeats and one sample up to the limit",
+        series: &[(DOWN, &[(10, 3)]), (UP, &[(10, 1), (20, 2), (30, 3)])],
+        limits: (4, 2),
+        is_full: false,
+        status: 204,
+        held: (4, 2),
+    },
+    Row {
+        name: "one series above the limit",
+        series: &[(IDLE, &[(10, 7)])],
+        limits: (9, 2),
+        is_full: true,
+        status: 503,
+        held: (4, 2),
+    },
+    Row {
+        name: "a later sample and one series above the limit",
+        series: &[(UP, &[(40, 4)]), (IDLE, &[(10, 7)])],
+        limits: (9, 2),
+        is_full: true,
+        status: 503,
+        held: (4, 2),
+    },
+    Row {
+        name: "a later sample above the limit of series",
+        series: &[(DOWN, &[(20, 4)])],
+        limits: (9, 1),
+        is_full: false,
+        status: 204,
+        held: (5, 2),
+    },
+    Row {
+        name: "one series up to the limit, twice in one request",
+        series: &[(IDLE, &[(10, 7)]), (IDLE, &[(10, 7)])],
+        limits: (6, 3),
+        is_full: false,
+        status: 204,
+        held: (6, 3),
+    },
+    Row {
+        name: "a sample out of order to a full head",
+        series: &[(UP, &[(35, 4)]), (UP, &[(5, 1)])],
+        limits: (1, 1),
+        is_full: false,
+        status: 400,
+        held: (6, 3),
+    },
+    Row {
+        name: "labels that do not rise to a full head",
+        series: &[(FALLING, &[(10, 1)])],
+        limits: (1, 1),
+        is_full: false,
+        status: 400,
+        held: (6, 3),
+    },
+    Row {
+        name: "all that did not fit, at last",
+        series: &[(UP, &[(40, 4), (50, 5)]), (DOWN, &[(30, 5)])],
+        limits: (9, 3),
+        is_full: false,
+        status: 204,
+        held: (9, 3),
+    },
+    Row {
+        name: "no limits",
+        series: &[(UP, &[(60, 6)]), (&[("__name__", "new")], &[(10, 8)])],
+        limits: (u64::MAX, u64::MAX),
+        is_full: false,
+        status: 204,
+        held: (11, 4),
+    },
 ];
 
 /// Returns the head, and whether it finds as `admit` does whether it is full when it stages the
@@ -182,23 +190,23 @@ fn stages(head: Head, body: &[u8], capacity: &Capacity, is_full: bool) -> (Head,
 
 /// Gives the body of a row to a head. Returns the head, and whether it did what the row says.
 fn is_admitted(alloc: Global, head: Head, row: &Row) -> (Head, bool) {
-    let Ok(message) = message(alloc, row.1) else {
+    let Ok(message) = message(alloc, row.series) else {
         return (head, false);
     };
     let Ok(body) = encode(alloc, &message) else {
         return (head, false);
     };
     let capacity = Capacity {
-        max_samples: row.2.0,
-        max_series: row.2.1,
+        max_samples: row.limits.0,
+        max_series: row.limits.1,
     };
-    let (mut head, is_staged) = stages(head, &body, &capacity, row.3);
+    let (mut head, is_staged) = stages(head, &body, &capacity, row.is_full);
     let admission = head.admit(&body, &capacity);
     let is_full = admission == Admission::Full;
-    let counts = head.total() == row.5.0 && head.places() == row.5.1;
+    let counts = head.total() == row.held.0 && head.places() == row.held.1;
     (
         head,
-        is_staged && is_full == row.3 && admission.status() == row.4 && counts,
+        is_staged && is_full == row.is_full && admission.status() == row.status && counts,
     )
 }
 
@@ -211,7 +219,7 @@ fn wrong_row(alloc: Global) -> Option<&'static str> {
         let (next, is_right) = is_admitted(alloc, head, row);
         head = next;
         if !is_right {
-            return Some(row.0);
+            return Some(row.name);
         }
     }
     None

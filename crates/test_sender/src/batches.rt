@@ -184,15 +184,15 @@ const TWO: &[Row] = &[("a", 0, 1), ("b", 0, 2)];
 
 const THREE: &[Row] = &[("a", 0, 1), ("b", 0, 2), ("b", 0, 3)];
 
-/// A name, samples that a builder of three took, a sample with its number, and whether that can be
+/// A name, samples that a builder of three took, a number with its sample, and whether that can be
 /// taken next.
-type Next = (&'static str, &'static [Row], u64, Row, bool);
+type Next = (&'static str, &'static [Row], (u64, Row), bool);
 
 static NEXT: [Next; 4] = [
-    ("the last one again", TWO, 8, ("a", 0, 3), false),
-    ("the next one", TWO, 9, ("a", 0, 3), true),
-    ("a later one", TWO, 10, ("a", 0, 3), false),
-    ("one too many", THREE, 10, ("a", 0, 4), false),
+    ("the last one again", TWO, (8, ("a", 0, 3)), false),
+    ("the next one", TWO, (9, ("a", 0, 3)), true),
+    ("a later one", TWO, (10, ("a", 0, 3)), false),
+    ("one too many", THREE, (10, ("a", 0, 4)), false),
 ];
 
 /// Returns whether a builder of three has this many samples, is full or not, and takes no mark.
@@ -224,7 +224,7 @@ fn nexts() -> &'static [Next] {
 }
 
 fn wrong_next(alloc: Global, rows: &[Next]) -> Option<&'static str> {
-    for (name, samples, seq, row, can) in rows {
+    for (name, samples, (seq, row), can) in rows {
         if !takes_row(alloc, samples, *seq, *row, *can) {
             return Some(name);
         }

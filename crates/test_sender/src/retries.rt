@@ -48,21 +48,21 @@ fn wrong_judgement(rows: &[Judged]) -> Option<&'static str> {
 }
 
 /// The least and the longest wait, the number of the retry, and the wait before it.
-static DELAYS: [(&str, u64, u64, u64, u64); 10] = [
-    ("the first retry", 30, 5000, 0, 30),
-    ("the second retry", 30, 5000, 1, 60),
-    ("the third retry", 30, 5000, 2, 120),
-    ("below the most", 30, 5000, 7, 3840),
-    ("the most", 30, 5000, 8, 5000),
-    ("shifted out", 30, 5000, 64, 5000),
-    ("the last retry", 30, 5000, u64::MAX, 5000),
-    ("no wait", 0, 0, 9, 0),
-    ("2 to the 63rd", 1, u64::MAX, 63, 1 << 63),
-    ("2 to the 64th", 2, u64::MAX, 63, u64::MAX),
+static DELAYS: [(&str, (u64, u64), u64, u64); 10] = [
+    ("the first retry", (30, 5000), 0, 30),
+    ("the second retry", (30, 5000), 1, 60),
+    ("the third retry", (30, 5000), 2, 120),
+    ("below the most", (30, 5000), 7, 3840),
+    ("the most", (30, 5000), 8, 5000),
+    ("shifted out", (30, 5000), 64, 5000),
+    ("the last retry", (30, 5000), u64::MAX, 5000),
+    ("no wait", (0, 0), 9, 0),
+    ("2 to the 63rd", (1, u64::MAX), 63, 1 << 63),
+    ("2 to the 64th", (2, u64::MAX), 63, u64::MAX),
 ];
 
 fn wrong_delay() -> Option<&'static str> {
-    for (name, least, most, retry, wait) in &DELAYS {
+    for (name, (least, most), retry, wait) in &DELAYS {
         if least > most || delay(*least, *most, *retry) != *wait {
             return Some(name);
         }

@@ -681,18 +681,23 @@ const SHORT: &[Call<'static>] = &[Feed(&[UP], &[(1, 10, ONE), (1, 20, TWO)], Non
 /// A sample of each of three metrics whose names have 200 bytes: each counts 232 bytes.
 const LARGE: &[Call<'static>] = &[Feed(&LONG, &[(1, 10, ONE), (2, 10, ONE), (3, 10, ONE)], None)];
 
-/// What is called, how many entries that places, how many bytes a batch may take, and how many each
-/// body takes.
-static LIMITED: [(&str, &[Call<'static>], u64, Option<u64>, &[usize]); 9] = [
-    ("no limit", SHORT, 3, None, &[44]),
-    ("both samples", SHORT, 3, Some(62), &[44]),
-    ("a byte less than both", SHORT, 3, Some(61), &[31, 31]),
-    ("a byte", SHORT, 3, Some(1), &[31, 31]),
-    ("large, no limit", LARGE, 6, None, &[696]),
-    ("large, all three", LARGE, 6, Some(696), &[696]),
-    ("large, all less one", LARGE, 6, Some(695), &[464, 232]),
-    ("large, two less one", LARGE, 6, Some(463), &[232, 232, 232]),
-    ("large, a byte", LARGE, 6, Some(1), &[232, 232, 232]),
+/// What is called and how many entries that places, how many bytes a batch may take, and how many
+/// each body takes.
+static LIMITED: [(&str, (&[Call<'static>], u64), Option<u64>, &[usize]); 9] = [
+    ("no limit", (SHORT, 3), None, &[44]),
+    ("both samples", (SHORT, 3), Some(62), &[44]),
+    ("a byte less than both", (SHORT, 3), Some(61), &[31, 31]),
+    ("a byte", (SHORT, 3), Some(1), &[31, 31]),
+    ("large, no limit", (LARGE, 6), None, &[696]),
+    ("large, all three", (LARGE, 6), Some(696), &[696]),
+    ("large, all less one", (LARGE, 6), Some(695), &[464, 232]),
+    (
+        "large, two less one",
+        (LARGE, 6),
+        Some(463),
+        &[232, 232, 232],
+    ),
+    ("large, a byte", (LARGE, 6), Some(1), &[232, 232, 232]),
 ];
 
 /// Returns how many bytes are after the empty line of a request.
@@ -741,7 +746,7 @@ fn wrong_limit<R: Threads + Wait + Copy + Send + 'static>(
     rt: &R,
     alloc: Global,
 ) -> Option<&'static str> {
-    for (name, calls, placed, limit, lens) in &LIMITED {
+    for (name, (calls, placed), limit, lens) in &LIMITED {
         let task = Task {
             shards: 1,
             batch: 2_000,

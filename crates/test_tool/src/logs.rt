@@ -340,31 +340,46 @@ fn logs_into(
     is_put && run_log_dir(rt, rt.alloc(), &mut reader, dir, pages).err() == wanted
 }
 
-/// Lengths of `raw` lines, the pages of a segment, the fault, and then the lengths of the first
-/// three files of the folder.
-static FOLDERS: [(&str, &[usize], usize, Option<ToolFault>, [Option<usize>; 3]); 4] = [
-    ("no lines", &[], 1, None, [Some(0), None, None]),
-    (
-        "three segments",
-        &[32_760, 32_754, 1],
-        1,
-        None,
-        [Some(32_768), Some(32_761), Some(8)],
-    ),
-    (
-        "a record that is too long",
-        &[1, 32_762],
-        1,
-        FULL,
-        [Some(32_768), Some(32_761), Some(8)],
-    ),
-    (
-        "larger segments",
-        &[32_760, 32_754, 1],
-        3,
-        None,
-        [Some(65_544), Some(32_761), Some(8)],
-    ),
+/// `raw` lines of these lengths, and what they become.
+struct Folder {
+    name: &'static str,
+    lens: &'static [usize],
+    /// The pages of a segment.
+    pages: usize,
+    fault: Option<ToolFault>,
+    /// The lengths of the first three files of the folder.
+    files: [Option<usize>; 3],
+}
+
+static FOLDERS: [Folder; 4] = [
+    Folder {
+        name: "no lines",
+        lens: &[],
+        pages: 1,
+        fault: None,
+        files: [Some(0), None, None],
+    },
+    Folder {
+        name: "three segments",
+        lens: &[32_760, 32_754, 1],
+        pages: 1,
+        fault: None,
+        files: [Some(32_768), Some(32_761), Some(8)],
+    },
+    Folder {
+        name: "a record that is too long",
+        lens: &[1, 32_762],
+        pages: 1,
+        fault: FULL,
+        files: [Some(32_768), Some(32_761), Some(8)],
+    },
+    Folder {
+        name: "larger segments",
+        lens: &[32_760, 32_754, 1],
+        pages: 3,
+        fault: None,
+        files: [Some(65_544), Some(32_761), Some(8)],
+    },
 ];
 
 /// Returns whether the first three files of a folder have these lengths.
@@ -374,9 +389,9 @@ fn has_files(rt: &HostRuntime, dir: &str, lens: [Option<usize>; 3]) -> bool {
 
 /// Returns the first row after which the folder has other files, or another fault.
 fn wrong_folder(rt: &HostRuntime, dir: &str) -> Option<&'static str> {
-    for (name, lens, pages, wanted, files) in &FOLDERS {
-        if !logs_into(rt, dir, lens, *pages, *wanted) || !has_files(rt, dir, *files) {
-            return Some(name);
+    for it in &FOLDERS {
+        if !logs_into(rt, dir, it.lens, it.pages, it.fault) || !has_files(rt, dir, it.files) {
+            return Some(it.name);
         }
     }
     None

@@ -131,61 +131,79 @@ enum Input {
 
 use Input::{Damaged, Digits, Log};
 
-/// A name, settings, an input, how the run over it ends, and what it writes.
-type Row = (
-    &'static str,
-    &'static [u8],
-    Input,
-    Result<(), ToolFault>,
-    &'static str,
-);
+/// Settings and an input, how the run over them ends, and what it writes.
+struct Row {
+    name: &'static str,
+    settings: &'static [u8],
+    input: Input,
+    outcome: Result<(), ToolFault>,
+    plan: &'static str,
+}
 
 static ROWS: [Row; 9] = [
-    ("five series", RULES, Log(FIVE), Ok(()), PLAN_OF_FIVE),
-    (
-        "a damaged segment",
-        RULES,
-        Damaged(FIVE),
-        Err(ToolFault::Log(TailFault::BadCrc)),
-        "",
-    ),
-    ("renamed", RULES, Log(REDEFINED), Ok(()), PLAN_OF_REDEFINED),
-    ("no settings", b"", Log(NAMES), Ok(()), LEGACY_PLAN),
-    (
-        "legacy names",
-        b"[send]\nnames = 'legacy'",
-        Log(NAMES),
-        Ok(()),
-        LEGACY_PLAN,
-    ),
-    (
-        "names for a receiver",
-        b"[receive]\nnames = 'utf8'",
-        Log(NAMES),
-        Ok(()),
-        LEGACY_PLAN,
-    ),
-    (
-        "any names",
-        b"[send]\nnames = 'utf8'",
-        Log(NAMES),
-        Ok(()),
-        UTF8_PLAN,
-    ),
-    (
-        "digits",
-        b"",
-        Digits(b"0100 01b3\n4623a6 02\n"),
-        Ok(()),
-        "samples kept 0 filtered 0 bad 0 noseries 0\n",
-    ),
-    (
-        "a bad digit",
-        b"",
-        Digits(b"01\n0g"),
-        Err(ToolFault::Line(2)),
-        "",
-    ),
+    Row {
+        name: "five series",
+        settings: RULES,
+        input: Log(FIVE),
+        outcome: Ok(()),
+        plan: PLAN_OF_FIVE,
+    },
+    Row {
+        name: "a damaged segment",
+        settings: RULES,
+        input: Damaged(FIVE),
+        outcome: Err(ToolFault::Log(TailFault::BadCrc)),
+        plan: "",
+    },
+    Row {
+        name: "renamed",
+        settings: RULES,
+        input: Log(REDEFINED),
+        outcome: Ok(()),
+        plan: PLAN_OF_REDEFINED,
+    },
+    Row {
+        name: "no settings",
+        settings: b"",
+        input: Log(NAMES),
+        outcome: Ok(()),
+        plan: LEGACY_PLAN,
+    },
+    Row {
+        name: "legacy names",
+        settings: b"[send]\nnames = 'legacy'",
+        input: Log(NAMES),
+        outcome: Ok(()),
+        plan: LEGACY_PLAN,
+    },
+    Row {
+        name: "names for a receiver",
+        settings: b"[receive]\nnames = 'utf8'",
+        input: Log(NAMES),
+        outcome: Ok(()),
+        plan: LEGACY_PLAN,
+    },
+    Row {
+        name: "any names",
+        settings: b"[send]\nnames = 'utf8'",
+        input: Log(NAMES),
+        outcome: Ok(()),
+        plan: UTF8_PLAN,
+    },
+    Row {
+        name: "digits",
+        settings: b"",
+        input: Digits(b"0100 01b3\n4623a6 02\n"),
+        outcome: Ok(()),
+        plan: "samples kept 0 filtered 0 bad 0 noseries 0\n",
+    },
+    Row {
+        name: "a bad digit",
+        settings: b"",
+        input: Digits(b"01\n0g"),
+        outcome: Err(ToolFault::Line(2)),
+        plan: "",
+    },
 ];
 
 /// Returns the segment of log text with another last byte.
@@ -198,17 +216,16 @@ fn damaged_segment_of(alloc: Global, log: &str) -> Vec<u8> {
 }
 
 fn is_so(alloc: Global, row: &Row) -> bool {
-    let (_, settings, input, outcome, plan) = row;
-    match input {
+    match row.input {
         Log(log) => {
             let segment = segment_of(alloc, log);
-            plans(alloc, settings, &segment, false, *outcome, plan)
+            plans(alloc, row.settings, &segment, false, row.outcome, row.plan)
         }
         Damaged(log) => {
             let segment = damaged_segment_of(alloc, log);
-            plans(alloc, settings, &segment, false, *outcome, plan)
+            plans(alloc, row.settings, &segment, false, row.outcome, row.plan)
         }
-        Digits(digits) => plans(alloc, settings, digits, true, *outcome, plan),
+        Digits(digits) => plans(alloc, row.settings, digits, true, row.outcome, row.plan),
     }
 }
 
@@ -219,7 +236,7 @@ fn rows() -> &'static [Row] {
 fn wrong_row(alloc: Global, rows: &[Row]) -> Option<&'static str> {
     for row in rows {
         if !is_so(alloc, row) {
-            return Some(row.0);
+            return Some(row.name);
         }
     }
     None

@@ -1,4 +1,4 @@
-"""Three rounds of a disk that fails behind the writes of a receiver: tools/kill-receiver --failing-disk.
+"""Three rounds of a disk that fails behind the writes of a receiver: trials/kill-receiver --failing-disk.
 
 The file system is ext4 on a loop device. The file of that device lies in a small file system in memory, and has holes
 where the ext4 has its free blocks. Once the one in memory is full, a `write` of the receiver still succeeds, but no block

@@ -1,5 +1,5 @@
 //! Plays the cases of the file `cases` against rw_snappy, and writes the answers to `answers`, for
-//! tools/try-snappy. A case is a letter, how often it is played, a limit and a length of four bytes
+//! trials/try-snappy. A case is a letter, how often it is played, a limit and a length of four bytes
 //! each, the least significant first, and as many bytes. An answer is a status (0, or the number of
 //! a fault), a length of eight bytes, and as many bytes.
 #![tactic(auto)]
