@@ -2,7 +2,7 @@
 use Rattle.std.proofs.Common.{◌≡◌, ℕ, ◌+◌, List, [], ◌∷◌, ◌++◌, length, Option, Some, None, Vec, refl, sym, ap, ◌∙◌, subst, append_assoc, length-append, arith}
 use Rattle.std.proofs.lemmas.List.{map-append}
 use Rattle.std.specs.declared.alloc.Global.{Global}
-use Rattle.rw_journal.specs.Journal.{Segments, Only}
+use Rattle.rw_kept_log.specs.Journal.{Segments, Only}
 use Rattle.rw_kept_folder.specs.declared.file_call.FileCall.{FileCall}
 use Rattle.rw_kept_folder.specs.declared.file_call.FileCall.TheVariants.{Load, WriteCopy, SyncCopy, RenameCopy, SyncFolder}
 use Rattle.rw_kept_folder.specs.Noted.{Noted, UnderWay, Nothing, Loaded, FolderState, seen_in, LeftIn, step, after_calls, no_segments, state_of, seen_of, MayLeave}

@@ -1,7 +1,7 @@
 -- A change of the last segment leaves as many segments, and need not cut anything.
 use Rattle.std.proofs.Common.{◌≡◌, ℕ, suc, ◌+◌, ◌≤◌, List, [], ◌∷◌, ◌++◌, length, take, refl, sym, ap, ◌∙◌, arith}
 use Rattle.std.proofs.lemmas.List.{take_all}
-use Rattle.rw_journal.specs.Journal.{Segments, on_last, IsTornEnd, IsCutEnd}
+use Rattle.rw_kept_log.specs.Journal.{Segments, on_last, IsTornEnd, IsCutEnd}
 
 pub length_on_last : (f : List ℕ → List ℕ) (ss : Segments) → length (on_last f ss) ≡ length ss
 length_on_last f [] = refl

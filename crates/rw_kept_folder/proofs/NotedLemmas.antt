@@ -1,6 +1,6 @@
 -- How the state of the files of a folder changes with one more call.
 use Rattle.std.proofs.Common.{◌≡◌, ◌⊎◌, inl, inr, ⊎_elim, ℕ, zero, suc, ◌+◌, ◌≤◌, List, [], ◌∷◌, ◌++◌, length, take, refl, sym, ap, ◌∙◌, subst, arith, length-append}
-use Rattle.rw_journal.specs.Journal.{Segments, on_last, with_more, Only, NoMore, IsTornEnd, IsCutEnd, IsBegun, Elapses}
+use Rattle.rw_kept_log.specs.Journal.{Segments, on_last, with_more, Only, NoMore, IsTornEnd, IsCutEnd, IsBegun, Elapses}
 use Rattle.rw_kept_folder.specs.declared.file_call.FileCall.{FileCall}
 use Rattle.rw_kept_folder.specs.declared.file_call.FileCall.TheVariants.{Append, SetLen, CreateNext, SyncData, SyncFolder}
 use Rattle.rw_kept_folder.specs.Files.{HasAll, IsSureIfAll}

@@ -1,6 +1,6 @@
 -- Two calls on the files, as one call of a journal.
 use Rattle.std.proofs.Common.{◌⊎◌, inl, inr, ⊎_elim, ℕ, ◌≤◌, arith}
-use Rattle.rw_journal.specs.Journal.{Segments, Elapses}
+use Rattle.rw_kept_log.specs.Journal.{Segments, Elapses}
 
 -- what a crash between the two calls may leave, one before or after both may leave too
 pub elapses_twice : (before between now : ℕ) (past middle since : ℕ → Segments → Type 0) (may_leave_before may_leave_between may_leave : Segments → Type 0)

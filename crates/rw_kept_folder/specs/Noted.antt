@@ -6,7 +6,7 @@
 -- on the disk only once it was written anew: a copy of it is written and synced, renamed over it,
 -- and then the folder is synced. Until then a crash may leave what the one before may have left.
 use Rattle.std.specs.Prelude.{◌≡◌, ◌⊎◌, ℕ, zero, suc, List, [], ◌∷◌, ◌++◌, take}
-use Rattle.rw_journal.specs.Journal.{Segments, on_last, with_more, IsTornEnd, IsCutEnd, IsBegun}
+use Rattle.rw_kept_log.specs.Journal.{Segments, on_last, with_more, IsTornEnd, IsCutEnd, IsBegun}
 use Rattle.rw_kept_folder.specs.declared.file_call.FileCall.{FileCall}
 use Rattle.rw_kept_folder.specs.declared.file_call.FileCall.TheVariants.{Load, WriteCopy, SyncCopy, RenameCopy, Append, SetLen, CreateNext, SyncData, SyncFolder}
 

@@ -3,7 +3,7 @@
 ghost use Rattle.std.specs.Prelude.{◌≡◌};
 
 use crate::segment_files::SegmentFiles;
-use rw_journal::{Journal, JournalError};
+use rw_kept_log::{Journal, JournalError};
 use std::marker::Model;
 
 /// A journal in the files of a folder. Contracts see the files.

@@ -1,7 +1,7 @@
 //! The files of a folder of a runtime, with a record of what was asked of them.
 
 ghost use Rattle.std.specs.Prelude.{◌≡◌, ◌+◌, length};
-ghost use Rattle.rw_journal.specs.Journal.{Only};
+ghost use Rattle.rw_kept_log.specs.Journal.{Only};
 ghost use Rattle.rw_kept_folder.specs.Noted.{seen_of, MayLeave, LeftSinceNoted, Tears};
 ghost use Rattle.rw_kept_folder.specs.inner.Noted.{counts_now, only_now, leaves_seen};
 
@@ -11,7 +11,7 @@ use crate::folder_handle::FolderHandle;
 use crate::record::Record;
 use crate::segment_files::SegmentFiles;
 use rw_history::History;
-use rw_journal::JournalError;
+use rw_kept_log::JournalError;
 use std::marker::Model;
 use std::rt::Files;
 use std::time::Clock;

@@ -1,7 +1,7 @@
 //! Opens the journal in a folder.
 
 ghost use Rattle.std.specs.Prelude.{◌≡◌, ◌++◌, [], ℕ, length, None, OnOk, IfOk};
-ghost use Rattle.rw_journal.specs.Journal.{Segments, Only};
+ghost use Rattle.rw_kept_log.specs.Journal.{Segments, Only};
 ghost use Rattle.rw_kept_folder.specs.Noted.{seen_of, MayLeave};
 ghost use Rattle.rw_kept_folder.specs.inner.Loaded.{IsHeld, IsLoaded};
 
@@ -15,7 +15,7 @@ use crate::open_folder::OpenFolder;
 use crate::ownership::{FolderRules, claim_folder};
 use crate::record::Record;
 use rw_history::History;
-use rw_journal::SegmentTaker;
+use rw_kept_log::SegmentTaker;
 use rw_log_folder::{SegmentName, segment_names};
 use std::alloc::Global;
 use std::fs::OpenFile;

@@ -1,10 +1,10 @@
 //! What is asked of the files of a folder of segments, and what the operating system promises.
 
 ghost use Rattle.std.specs.Prelude.{◌≡◌, ◌<◌, ◌≤◌, ◌++◌, [], ◌∷◌, ℕ, List, length, take, OnOk, OnErr};
-ghost use Rattle.rw_journal.specs.Journal.{Segments, on_last, with_more, Only, NoMore, IsTornEnd, IsCutEnd, IsBegun, Elapses, HasCause};
+ghost use Rattle.rw_kept_log.specs.Journal.{Segments, on_last, with_more, Only, NoMore, IsTornEnd, IsCutEnd, IsBegun, Elapses, HasCause};
 ghost use Rattle.rw_kept_folder.specs.Files.{HasAll, IsSureIfAll};
 
-use rw_journal::JournalError;
+use rw_kept_log::JournalError;
 
 /// The files of a folder of segments. Each call is a step whose order matters for what a crash
 /// leaves. After an `Err` each later call fails.

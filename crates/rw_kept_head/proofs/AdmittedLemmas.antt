@@ -20,7 +20,7 @@ use Rattle.rw_head.proofs.shared.GrowthLemmas.{taken_within, rises_at_each}
 use Rattle.rw_head.proofs.shared.OrderLemmas.{Rises-later, accept-none}
 use Rattle.rw_head.proofs.shared.StoreLemmas.{list_of-with_list}
 use Rattle.rw_head.proofs.shared.VerdictLemmas.{taken_all-err}
-use Rattle.rw_journal.specs.Journal.{Segments}
+use Rattle.rw_kept_log.specs.Journal.{Segments}
 use Rattle.rw_kept_head.specs.Admitted.{MayHold, IsAdmitted}
 use Rattle.rw_kept_head.specs.Kept.{SaysWhat, LiesBetween}
 

@@ -13,22 +13,22 @@ use Rattle.rw_wal_format.specs.Series.{samples_after}
 use Rattle.rw_head.specs.Added.{Added, samples_added, AddsUp}
 use Rattle.rw_head.specs.Order.{Point}
 use Rattle.rw_head.specs.Store.{Store, list_of}
-use Rattle.rw_journal.specs.Journal.{Segments, with_more, IsBegun, LeavesOnly, Only}
-use Rattle.rw_journal.specs.Torn.{IsTornLog}
-use Rattle.rw_journal.specs.Logs.{entries_of, IsWholeText}
-use Rattle.rw_journal.specs.TornLogs.{last_of, AllBefore}
-use Rattle.rw_journal.proofs.shared.TornLogLemmas.{left_between}
-use Rattle.rw_journal.proofs.shared.ClosingLemmas.{nothing_read}
-use Rattle.rw_wal_append.specs.Additions.{without_position, samples_of_labels, definition_entry}
-use Rattle.rw_wal_append.proofs.shared.AdditionLemmas.{samples_in-append}
-use Rattle.rw_wal_append.specs.Definitions.{IsDefinedOnce}
-use Rattle.rw_wal_append.specs.References.{ReferenceTable, AreReferenced, IsNoted, IsTable, points_of, undefined, only_defined}
-use Rattle.rw_wal_append.specs.Ends.{EndsAt}
-use Rattle.rw_wal_append.proofs.shared.HoldLemmas.{before_all, more_last}
+use Rattle.rw_kept_log.specs.Journal.{Segments, with_more, IsBegun, LeavesOnly, Only}
+use Rattle.rw_kept_log.specs.Torn.{IsTornLog}
+use Rattle.rw_kept_log.specs.Logs.{entries_of, IsWholeText}
+use Rattle.rw_kept_log.specs.TornLogs.{last_of, AllBefore}
+use Rattle.rw_kept_log.proofs.shared.TornLogLemmas.{left_between}
+use Rattle.rw_kept_log.proofs.shared.ClosingLemmas.{nothing_read}
+use Rattle.rw_kept_log.specs.Additions.{without_position, samples_of_labels, definition_entry}
+use Rattle.rw_kept_log.proofs.shared.AdditionLemmas.{samples_in-append}
+use Rattle.rw_kept_log.specs.Definitions.{IsDefinedOnce}
+use Rattle.rw_kept_log.specs.References.{ReferenceTable, AreReferenced, IsNoted, IsTable, points_of, undefined, only_defined}
+use Rattle.rw_kept_log.specs.Ends.{EndsAt}
+use Rattle.rw_kept_log.proofs.shared.HoldLemmas.{before_all, more_last}
 use Rattle.rw_kept_head.specs.Kept.{SaysWhat, LiesBetween, IsLastWithin, IsLeft, IsTornWrite, HasNoChance, StaysDefinedOnce, Became}
 use Rattle.rw_kept_head.specs.Lives.{MayBecome}
 use Rattle.rw_kept_head.specs.inner.Inner.{GoesOn, IsWritable}
-use Rattle.rw_reopen.proofs.shared.OpeningLemmas.{last_is}
+use Rattle.rw_kept_log.proofs.shared.ReopeningLemmas.{last_is}
 use Rattle.rw_kept_head.proofs.WrittenLemmas.{noted_undone}
 
 -- ---- runs of calls

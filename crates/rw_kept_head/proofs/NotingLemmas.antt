@@ -13,10 +13,10 @@ use Rattle.rw_types.specs.declared.entry.Entry.TheVariants.{Def, Sample}
 use Rattle.rw_types.specs.declared.names.Names.TheVariants.{Utf8}
 use Rattle.rw_wal_format.specs.Series.{defines, labels_of}
 use Rattle.rw_write_request.specs.Message.{TimeSeries}
-use Rattle.rw_reopen.specs.Reading.{greater, greatest_after}
-use Rattle.rw_wal_append.specs.Definitions.{definitions_in, IsOther, AreApart, IsDefinedOnce, IsOneOf}
-use Rattle.rw_wal_append.specs.References.{ReferenceTable, with_pair, IsNoted, StandFor}
-use Rattle.rw_wal_append.proofs.shared.DefinitionLemmas.{Pairs, all_weaker, all_both, one_of, one_left, one_right, each_one}
+use Rattle.rw_kept_log.specs.Reading.{greater, greatest_after}
+use Rattle.rw_kept_log.specs.Definitions.{definitions_in, IsOther, AreApart, IsDefinedOnce, IsOneOf}
+use Rattle.rw_kept_log.specs.References.{ReferenceTable, with_pair, IsNoted, StandFor}
+use Rattle.rw_kept_log.proofs.shared.DefinitionLemmas.{Pairs, all_weaker, all_both, one_of, one_left, one_right, each_one}
 use Rattle.rw_kept_head.specs.inner.Noting.{AreNames, no_references, note_one, noted_from, CanNoteOne, CanNote}
 use Rattle.rw_kept_head.specs.inner.Restoring.{StandsFor}
 

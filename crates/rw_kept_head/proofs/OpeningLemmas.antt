@@ -1,7 +1,7 @@
 -- A segment of the log of a head was taken, or memory ran out.
 use Rattle.std.proofs.Common.{◌≡◌, ℕ, Bool, true, false, Result, Ok, Err, OnOk, OnErr, ap, ◌∙◌}
 use Rattle.rw_head.specs.Verdicts.{LabelLimits}
-use Rattle.rw_reopen.specs.Taken.{LogTaken}
+use Rattle.rw_kept_log.specs.Taken.{LogTaken}
 use Rattle.rw_kept_head.specs.inner.Opening.{IsMadeWith}
 use Rattle.rw_kept_head.specs.inner.Restoring.{Restored, Setting}
 

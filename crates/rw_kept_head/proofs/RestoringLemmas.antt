@@ -29,8 +29,8 @@ use Rattle.rw_head.specs.Verdicts.{LabelLimits, is_over_limits, refusal, accepte
 use Rattle.rw_head.proofs.shared.BodyLemmas.{taken_status}
 use Rattle.rw_head.proofs.shared.StoreLemmas.{list_of-with_list, total-with_list}
 use Rattle.rw_head.proofs.shared.StagingLemmas.{push_has}
-use Rattle.rw_wal_append.specs.Additions.{without_position, samples_of_labels}
-use Rattle.rw_wal_append.proofs.shared.AdditionLemmas.{samples_in-append, no_sample}
+use Rattle.rw_kept_log.specs.Additions.{without_position, samples_of_labels}
+use Rattle.rw_kept_log.proofs.shared.AdditionLemmas.{samples_in-append, no_sample}
 use Rattle.rw_kept_head.specs.Admitted.{MayHold, IsRefusedAt}
 use Rattle.rw_kept_head.specs.inner.Restoring.{accepted_next, StandsFor, IsRestored, IsRestoring, IsRestoredOrRefused, IsSeriesOf, IsAdded, CannotFollow, AddsOne, AddsTo, Defines, AddsSample, TakesSample, IsPlaceOf, HasPlace, ArePlaced}
 use Rattle.rw_kept_head.proofs.AdmittedLemmas.{begin_held}

@@ -3,9 +3,9 @@ use Rattle.std.proofs.Common.{◌≡◌, ℕ, ℤ, List, [], ◌++◌, map, sym,
 use Rattle.rw_types.specs.Labels.{Labels}
 use Rattle.rw_types.specs.declared.entry.Entry.{Entry}
 use Rattle.rw_wal_format.specs.Laws.{sample_entry}
-use Rattle.rw_wal_append.specs.Additions.{definition_entry}
-use Rattle.rw_wal_append.specs.Definitions.{IsDefinedOnce}
-use Rattle.rw_wal_append.specs.References.{ReferenceTable, undefined, only_defined, all_defined, IsNoted, IsTable}
+use Rattle.rw_kept_log.specs.Additions.{definition_entry}
+use Rattle.rw_kept_log.specs.Definitions.{IsDefinedOnce}
+use Rattle.rw_kept_log.specs.References.{ReferenceTable, undefined, only_defined, all_defined, IsNoted, IsTable}
 use Rattle.rw_kept_head.specs.inner.Inner.{IsWritten}
 
 -- the definitions that a log has are the same

@@ -8,9 +8,9 @@ use Rattle.rw_head.specs.declared.limits.Limits.{Limits}
 use Rattle.rw_head.specs.Lists.{IsEarlier, has_samples}
 use Rattle.rw_head.specs.Order.{Point}
 use Rattle.rw_head.specs.Verdicts.{LabelLimits, refusal}
-use Rattle.rw_journal.specs.Journal.{Segments}
-use Rattle.rw_journal.specs.Logs.{entries_of}
-use Rattle.rw_wal_append.specs.Additions.{samples_of_labels}
+use Rattle.rw_kept_log.specs.Journal.{Segments}
+use Rattle.rw_kept_log.specs.Logs.{entries_of}
+use Rattle.rw_kept_log.specs.Additions.{samples_of_labels}
 
 -- the limits on label sets
 abbrev pub label_limits : Limits → LabelLimits

@@ -4,8 +4,8 @@ use Rattle.rw_types.specs.Beginnings.{Begins}
 use Rattle.rw_types.specs.Labels.{Labels}
 use Rattle.rw_head.specs.Head.{IsStatus, answer}
 use Rattle.rw_head.specs.Store.{list_of}
-use Rattle.rw_journal.specs.Journal.{Segments, LeavesOnly}
-use Rattle.rw_journal.specs.declared.journal.JournalError.{JournalError}
+use Rattle.rw_kept_log.specs.Journal.{Segments, LeavesOnly}
+use Rattle.rw_kept_log.specs.declared.journal.JournalError.{JournalError}
 use Rattle.rw_kept_head.specs.Kept.{Kept, KeepsStore, IsLeft, StaysDefinedOnce, ended_with}
 
 module _ {J : Type 0} (seen : J → Segments) (may_leave : J → Segments → Type 0) (moment : J → ℕ)

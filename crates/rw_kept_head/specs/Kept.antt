@@ -7,13 +7,13 @@ use Rattle.rw_types.specs.Labels.{Labels}
 use Rattle.rw_wal_format.specs.Pieces.{page_size}
 use Rattle.rw_head.specs.Head.{State}
 use Rattle.rw_head.specs.Store.{Store, list_of}
-use Rattle.rw_journal.specs.Journal.{Segments, Only, IsBegun, with_more}
-use Rattle.rw_journal.specs.Torn.{IsTornLog}
-use Rattle.rw_journal.specs.declared.journal.JournalError.{JournalError}
-use Rattle.rw_journal.specs.Logs.{entries_of, IsWholeText}
-use Rattle.rw_journal.specs.TornLogs.{NoChance, last_of}
-use Rattle.rw_wal_append.specs.Additions.{samples_of_labels}
-use Rattle.rw_wal_append.specs.Definitions.{IsDefinedOnce}
+use Rattle.rw_kept_log.specs.Journal.{Segments, Only, IsBegun, with_more}
+use Rattle.rw_kept_log.specs.Torn.{IsTornLog}
+use Rattle.rw_kept_log.specs.declared.journal.JournalError.{JournalError}
+use Rattle.rw_kept_log.specs.Logs.{entries_of, IsWholeText}
+use Rattle.rw_kept_log.specs.TornLogs.{NoChance, last_of}
+use Rattle.rw_kept_log.specs.Additions.{samples_of_labels}
+use Rattle.rw_kept_log.specs.Definitions.{IsDefinedOnce}
 
 -- a head, the journal that has its log, the most pages of a segment, and the fault after which
 -- every request is answered 503

@@ -3,8 +3,8 @@ use Rattle.std.specs.Prelude.{◌⊎◌, ℕ, List, Option}
 use Rattle.std.specs.List.{AllByRecursion}
 use Rattle.rw_wal_format.specs.Pieces.{page_size}
 use Rattle.rw_head.specs.Store.{Store}
-use Rattle.rw_journal.specs.Journal.{Segments}
-use Rattle.rw_journal.specs.Logs.{IsWholeText}
+use Rattle.rw_kept_log.specs.Journal.{Segments}
+use Rattle.rw_kept_log.specs.Logs.{IsWholeText}
 use Rattle.rw_kept_head.specs.Kept.{IsLeft, HasNoChance, StaysDefinedOnce}
 use Rattle.rw_kept_head.specs.Opening.{HasSameEntries}
 

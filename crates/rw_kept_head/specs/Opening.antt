@@ -1,11 +1,11 @@
 -- How the log of a head is opened.
 use Rattle.std.specs.Prelude.{◌≡◌, ◌≤◌, ◌^◌}
-use Rattle.rw_journal.specs.Journal.{Segments}
+use Rattle.rw_kept_log.specs.Journal.{Segments}
 use Rattle.rw_wal_format.specs.Pieces.{page_size}
-use Rattle.rw_journal.specs.Logs.{entries_of}
-use Rattle.rw_reopen.specs.declared.error.ReopenError.TheVariants.{OutOfMemory, Failed, Damaged}
-use Rattle.rw_reopen.specs.Reading.{greatest_after}
-use Rattle.rw_reopen.specs.Reopening.{IsDamage}
+use Rattle.rw_kept_log.specs.Logs.{entries_of}
+use Rattle.rw_kept_log.specs.declared.error.ReopenError.TheVariants.{OutOfMemory, Failed, Damaged}
+use Rattle.rw_kept_log.specs.Reading.{greatest_after}
+use Rattle.rw_kept_log.specs.Reopening.{IsDamage}
 use Rattle.rw_head.specs.Verdicts.{LabelLimits}
 use Rattle.rw_kept_head.specs.Admitted.{IsAdmitted, IsRefusedAt}
 use Rattle.rw_kept_head.specs.declared.open_error.OpenError.{OpenError}

@@ -2,7 +2,7 @@
 
 use crate::kept_head::KeptHead;
 use rw_head::{Admission, Capacity, Head};
-use rw_journal::Journal;
+use rw_kept_log::Journal;
 use rw_recv_head::Admit;
 
 impl<J: Journal> Admit for KeptHead<J> {

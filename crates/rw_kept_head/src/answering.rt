@@ -3,9 +3,9 @@
 ghost use Rattle.std.specs.Prelude.{◌≡◌, ◌≢◌, ◌<◌, ◌≤◌, ◌⊎◌, None, Some, true};
 ghost use Rattle.rw_types.specs.Beginnings.{Begins};
 ghost use Rattle.rw_types.specs.Labels.{Labels};
-ghost use Rattle.rw_journal.specs.Journal.{LeavesOnly};
-ghost use Rattle.rw_journal.specs.declared.journal.JournalError.{JournalError};
-ghost use Rattle.rw_journal.specs.declared.journal.JournalError.TheVariants.{Failed};
+ghost use Rattle.rw_kept_log.specs.Journal.{LeavesOnly};
+ghost use Rattle.rw_kept_log.specs.declared.journal.JournalError.{JournalError};
+ghost use Rattle.rw_kept_log.specs.declared.journal.JournalError.TheVariants.{Failed};
 ghost use Rattle.rw_head.specs.declared.capacity.Admission.TheVariants.{Full};
 ghost use Rattle.rw_head.specs.Capacity.{exceeds, status_of_admission, unlimited, StaysWithin};
 ghost use Rattle.rw_head.specs.Growth.{EachRises, HasStoredBody};
@@ -15,7 +15,7 @@ ghost use Rattle.rw_kept_head.specs.Kept.{ended_with, SaysWhat, IsLeft, StaysDef
 
 use crate::log_writer::LogWriter;
 use rw_head::{Admission, Capacity, Head};
-use rw_journal::Journal;
+use rw_kept_log::Journal;
 
 /// Answers a body as `Head::admit` does: 204 only once all that it brings is in the journal and
 /// synced.

@@ -3,8 +3,7 @@
 ghost use Rattle.std.specs.Prelude.{◌≡◌};
 ghost use Rattle.rw_kept_head.specs.declared.keep_error.KeepError.TheVariants.{Unspelled, Journal};
 
-use rw_journal::JournalError;
-use rw_wal_append::AppendError;
+use rw_kept_log::{AppendError, JournalError};
 use std::alloc::AllocError;
 
 /// Why a message was not kept.

@@ -3,9 +3,9 @@
 ghost use Rattle.std.specs.Prelude.{◌≡◌, ◌≢◌, ◌<◌, ◌≤◌, ◌⊎◌, None, Some, true};
 ghost use Rattle.rw_types.specs.Beginnings.{Begins};
 ghost use Rattle.rw_types.specs.Labels.{Labels};
-ghost use Rattle.rw_journal.specs.Journal.{LeavesOnly};
-ghost use Rattle.rw_journal.specs.declared.journal.JournalError.{JournalError};
-ghost use Rattle.rw_journal.specs.declared.journal.JournalError.TheVariants.{Failed};
+ghost use Rattle.rw_kept_log.specs.Journal.{LeavesOnly};
+ghost use Rattle.rw_kept_log.specs.declared.journal.JournalError.{JournalError};
+ghost use Rattle.rw_kept_log.specs.declared.journal.JournalError.TheVariants.{Failed};
 ghost use Rattle.rw_head.specs.declared.capacity.Admission.TheVariants.{Full};
 ghost use Rattle.rw_head.specs.Capacity.{exceeds, status_of_admission, unlimited, StaysWithin};
 ghost use Rattle.rw_head.specs.Growth.{EachRises, HasStoredBody};
@@ -16,7 +16,7 @@ ghost use Rattle.rw_kept_head.specs.Kept.{ended_with, KeepsStore, IsLastWithin, 
 use crate::answering::admit_kept;
 use crate::log_writer::LogWriter;
 use rw_head::{Admission, Capacity, Head, Limits};
-use rw_journal::{Journal, JournalError};
+use rw_kept_log::{Journal, JournalError};
 use std::alloc::Global;
 use std::marker::Model;
 use std::mem;

@@ -9,18 +9,18 @@ ghost use Rattle.rw_wal_format.specs.Pieces.{page_size};
 ghost use Rattle.rw_head.specs.Head.{State, answer};
 ghost use Rattle.rw_head.specs.Store.{Store, list_of};
 ghost use Rattle.rw_head.specs.Verdicts.{LabelLimits};
-ghost use Rattle.rw_journal.specs.Journal.{Segments};
-ghost use Rattle.rw_journal.specs.Logs.{entries_of, IsWholeText};
-ghost use Rattle.rw_wal_append.specs.Additions.{samples_of_labels};
+ghost use Rattle.rw_kept_log.specs.Journal.{Segments};
+ghost use Rattle.rw_kept_log.specs.Logs.{entries_of, IsWholeText};
+ghost use Rattle.rw_kept_log.specs.Additions.{samples_of_labels};
 ghost use Rattle.rw_kept_head.specs.Admitted.{MayHold, IsAdmitted};
-ghost use Rattle.rw_wal_append.specs.Definitions.{IsDefinedOnce};
+ghost use Rattle.rw_kept_log.specs.Definitions.{IsDefinedOnce};
 ghost use Rattle.rw_kept_head.specs.Lives.{MayBecome};
 ghost use Rattle.rw_kept_head.specs.Opening.{HasSameEntries};
 ghost use Rattle.rw_kept_head.specs.Kept.{SaysWhat, LiesBetween, IsLeft, HasNoChance, StaysDefinedOnce};
 
-use rw_journal::Journal;
-use rw_journal::laws::segments_add_up;
-use rw_wal_append::laws::a_beginning_is_defined_once;
+use rw_kept_log::Journal;
+use rw_kept_log::append_laws::a_beginning_is_defined_once;
+use rw_kept_log::laws::segments_add_up;
 
 /// Law: as a log goes on, the samples of each label set go on.
 pub fn samples_go_on()

@@ -2,14 +2,14 @@
 
 ghost use Rattle.std.specs.Prelude.{◌≡◌, ◌<◌, ◌≤◌, ◌++◌, true, false, None, Some, map, if◌then◌else◌, IfOk, OnOk, IsErrOf};
 ghost use Rattle.std.specs.List.{AllByRecursion};
-ghost use Rattle.rw_journal.specs.Journal.{with_more, Only, IsBegun, LeavesOnly};
-ghost use Rattle.rw_journal.specs.declared.journal.JournalError.TheVariants.{Failed};
+ghost use Rattle.rw_kept_log.specs.Journal.{with_more, Only, IsBegun, LeavesOnly};
+ghost use Rattle.rw_kept_log.specs.declared.journal.JournalError.TheVariants.{Failed};
 ghost use Rattle.rw_wal_format.specs.Laws.{sample_entry};
 ghost use Rattle.rw_wal_format.specs.Pieces.{page_size};
-ghost use Rattle.rw_wal_append.specs.Additions.{definition_entry};
-ghost use Rattle.rw_journal.specs.Logs.{entries_of, IsWholeText};
-ghost use Rattle.rw_wal_append.specs.Ends.{EndsAt};
-ghost use Rattle.rw_wal_append.specs.References.{only_defined};
+ghost use Rattle.rw_kept_log.specs.Additions.{definition_entry};
+ghost use Rattle.rw_kept_log.specs.Logs.{entries_of, IsWholeText};
+ghost use Rattle.rw_kept_log.specs.Ends.{EndsAt};
+ghost use Rattle.rw_kept_log.specs.References.{only_defined};
 ghost use Rattle.rw_kept_head.specs.Kept.{SaysWhat, IsLastWithin, IsLeft, StaysDefinedOnce};
 ghost use Rattle.rw_kept_head.specs.inner.Inner.{ended_if, IsWritable, IsWritten, GoesOn, Keeps};
 ghost use Rattle.rw_kept_head.specs.declared.keep_error.KeepError.TheVariants.{Unspelled, Journal};
@@ -17,11 +17,10 @@ ghost use Rattle.rw_kept_head.specs.declared.keep_error.KeepError.TheVariants.{U
 use crate::keep_error::KeepError;
 use crate::spelling::collect;
 use rw_head::StagedHead;
-use rw_journal::laws::segments_add_up;
-use rw_journal::{Journal, JournalError, write_in_pages};
+use rw_kept_log::append_laws::{a_next_segment_may_begin, new_samples_are_read};
+use rw_kept_log::laws::segments_add_up;
+use rw_kept_log::{AppendError, Journal, JournalError, LogEnd, References, write_in_pages};
 use rw_types::{RawLabels, Word};
-use rw_wal_append::laws::{a_next_segment_may_begin, new_samples_are_read};
-use rw_wal_append::{AppendError, LogEnd, References};
 use rw_wal_format::PAGE_BYTES;
 use std::alloc::Global;
 use std::marker::Model;

@@ -3,13 +3,13 @@
 ghost use Rattle.std.specs.Prelude.{◌≡◌, ◌≢◌, ◌<◌, ◌≤◌, ◌^◌, [], map, IfOk, OnOk};
 ghost use Rattle.std.specs.List.{AllByRecursion};
 ghost use Rattle.rw_types.specs.Labels.{text_label};
-ghost use Rattle.rw_wal_append.specs.References.{with_pair};
+ghost use Rattle.rw_kept_log.specs.References.{with_pair};
 ghost use Rattle.rw_kept_head.specs.inner.Noting.{CanNote, no_references, noted_from};
 
 use crate::oddities::Oddities;
 use indexmap::IndexMap;
+use rw_kept_log::References;
 use rw_types::{LabelSet, Names};
-use rw_wal_append::References;
 use rw_write_request::Series;
 use std::alloc::{AllocError, Global};
 

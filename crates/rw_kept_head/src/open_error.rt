@@ -1,11 +1,10 @@
 //! Why a head cannot be opened.
 
 ghost use Rattle.std.specs.Prelude.{◌≡◌};
-ghost use Rattle.rw_reopen.specs.Errors.{of_journal};
+ghost use Rattle.rw_kept_log.specs.Errors.{of_journal};
 ghost use Rattle.rw_kept_head.specs.declared.open_error.OpenError.TheVariants.{Log};
 
-use rw_journal::JournalError;
-use rw_reopen::ReopenError;
+use rw_kept_log::{JournalError, ReopenError};
 use std::error::Error;
 use std::fmt;
 

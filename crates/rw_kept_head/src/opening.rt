@@ -1,13 +1,13 @@
 //! A head, opened from the log in a journal.
 
 ghost use Rattle.std.specs.Prelude.{◌≡◌, ◌<◌, ◌≤◌, ◌^◌, ◌++◌, [], ◌∷◌, length, take, None, IfOk, OnOk, IfErr, IsErrOf, IfSome};
-ghost use Rattle.rw_journal.specs.Journal.{on_last, Only, LeavesOnly};
-ghost use Rattle.rw_journal.specs.Logs.{entries_of};
-ghost use Rattle.rw_wal_append.specs.Ends.{EndsAt};
-ghost use Rattle.rw_wal_append.specs.References.{IsNoted};
+ghost use Rattle.rw_kept_log.specs.Journal.{on_last, Only, LeavesOnly};
+ghost use Rattle.rw_kept_log.specs.Logs.{entries_of};
+ghost use Rattle.rw_kept_log.specs.Ends.{EndsAt};
+ghost use Rattle.rw_kept_log.specs.References.{IsNoted};
 ghost use Rattle.rw_wal_format.specs.Pieces.{page_size};
-ghost use Rattle.rw_reopen.specs.Reopening.{HasRecordAfter, IsEnd};
-ghost use Rattle.rw_reopen.specs.declared.error.ReopenError.TheVariants.{Failed};
+ghost use Rattle.rw_kept_log.specs.Reopening.{HasRecordAfter, IsEnd};
+ghost use Rattle.rw_kept_log.specs.declared.error.ReopenError.TheVariants.{Failed};
 ghost use Rattle.rw_kept_head.specs.Kept.{SaysWhat, KeepsStore, StaysDefinedOnce};
 ghost use Rattle.rw_head.specs.Store.{list_of};
 ghost use Rattle.rw_kept_head.specs.Admitted.{MayHold, label_limits};
@@ -21,11 +21,11 @@ use crate::oddities::Oddities;
 use crate::open_error::OpenError;
 use crate::restoring::{RestoredParts, Restoring};
 use rw_head::{Head, Limits};
-use rw_journal::{Journal, SegmentTaker, close_torn};
-use rw_reopen::{Damage, LogEnd as ReadEnd, LogReading, ReopenError};
+use rw_kept_log::append_laws::an_empty_segment_ends_at_0;
+use rw_kept_log::{
+    Damage, Journal, LogEnd, LogReading, ReadEnd, References, ReopenError, SegmentTaker, close_torn,
+};
 use rw_types::RequestPath;
-use rw_wal_append::laws::an_empty_segment_ends_at_0;
-use rw_wal_append::{LogEnd, References};
 use std::alloc::{AllocError, Global};
 use std::marker::Model;
 

@@ -6,7 +6,7 @@ ghost use Rattle.rw_types.specs.Beginnings.{Begins};
 ghost use Rattle.rw_types.specs.Labels.{Labels, text_label};
 ghost use Rattle.rw_types.specs.declared.entry.Entry.{Entry};
 ghost use Rattle.rw_types.specs.declared.names.Names.TheVariants.{Utf8};
-ghost use Rattle.rw_wal_append.specs.Additions.{samples_of_labels};
+ghost use Rattle.rw_kept_log.specs.Additions.{samples_of_labels};
 ghost use Rattle.rw_head.specs.declared.verdict.Verdict.TheVariants.{Stored};
 ghost use Rattle.rw_head.specs.Placed.{one_sample};
 ghost use Rattle.rw_head.specs.Store.{list_of};

@@ -4,11 +4,11 @@ ghost use Rattle.std.specs.Prelude.{◌≡◌, ◌++◌, [], if◌then◌else◌
 ghost use Rattle.rw_types.specs.Labels.{Labels};
 ghost use Rattle.rw_types.specs.LabelOrder.{labels_eq};
 ghost use Rattle.rw_head.specs.Added.{AddsUp, samples_added};
-ghost use Rattle.rw_wal_append.specs.References.{AreReferenced, points_of, only_defined};
+ghost use Rattle.rw_kept_log.specs.References.{AreReferenced, points_of, only_defined};
 
 use rw_head::{AddedSeries, StagedHead};
+use rw_kept_log::References;
 use rw_types::Word;
-use rw_wal_append::References;
 use std::alloc::{AllocError, Global};
 
 /// Appends the new samples of a label set under its reference.

@@ -28,12 +28,12 @@ use Rattle.rw_head.specs.Order.{Point}
 use Rattle.rw_head.specs.Store.{Store, list_of}
 use Rattle.rw_head.proofs.shared.StoreLemmas.{list_of-empty, list_of-with_list}
 use Rattle.rw_machine.specs.declared.event.How.TheVariants.{Plain}
-use Rattle.rw_journal.specs.Journal.{Segments, LeavesOnly}
-use Rattle.rw_journal.specs.Logs.{entries_of, IsWholeText}
-use Rattle.rw_journal.specs.Torn.{end_of_page, IsTornLog}
-use Rattle.rw_journal.specs.TornLogs.{NoChance, after_item, item_of, place_of}
-use Rattle.rw_wal_append.specs.Additions.{samples_of_labels}
-use Rattle.rw_wal_append.specs.Definitions.{IsDefinedOnce}
+use Rattle.rw_kept_log.specs.Journal.{Segments, LeavesOnly}
+use Rattle.rw_kept_log.specs.Logs.{entries_of, IsWholeText}
+use Rattle.rw_kept_log.specs.Torn.{end_of_page, IsTornLog}
+use Rattle.rw_kept_log.specs.TornLogs.{NoChance, after_item, item_of, place_of}
+use Rattle.rw_kept_log.specs.Additions.{samples_of_labels}
+use Rattle.rw_kept_log.specs.Definitions.{IsDefinedOnce}
 use Rattle.rw_kept_head.specs.Answered.{KeepsHead, IsKeptAnswer}
 use Rattle.rw_kept_head.specs.Kept.{Kept, SaysWhat, IsTornWrite, IsLeft}
 use Rattle.rw_kept_head.specs.Opening.{HasSameEntries}

@@ -7,7 +7,7 @@ use Rattle.rw_write_request.specs.Message.{WriteRequest}
 use Rattle.rw_retry.specs.Judgements.{judgement_of}
 use Rattle.rw_head.specs.Head.{State, IsStatus}
 use Rattle.rw_head.specs.Store.{Store, list_of}
-use Rattle.rw_journal.specs.Journal.{Segments}
+use Rattle.rw_kept_log.specs.Journal.{Segments}
 use Rattle.rw_kept_head.specs.Kept.{SaysWhat, LiesBetween}
 use Rattle.rw_restarts.specs.Receivers.{AnswersAs, IsRestarted, state_of}
 use Rattle.rw_restarts.specs.KeptReceivers.{IsAdmission, acknowledged_after}

@@ -34,10 +34,10 @@ use Rattle.rw_head.proofs.shared.StoreLemmas.{list_of-empty}
 use Rattle.rw_machine.specs.Worlds.{Setup}
 use Rattle.rw_machine.specs.declared.event.How.{How}
 use Rattle.rw_machine.specs.declared.event.How.TheVariants.{Plain, Busy, OutOfMemory}
-use Rattle.rw_journal.specs.Journal.{Segments}
-use Rattle.rw_journal.specs.Logs.{entries_of, IsWholeText}
-use Rattle.rw_journal.specs.declared.journal.JournalError.{JournalError}
-use Rattle.rw_wal_append.specs.Additions.{samples_of_labels}
+use Rattle.rw_kept_log.specs.Journal.{Segments}
+use Rattle.rw_kept_log.specs.Logs.{entries_of, IsWholeText}
+use Rattle.rw_kept_log.specs.declared.journal.JournalError.{JournalError}
+use Rattle.rw_kept_log.specs.Additions.{samples_of_labels}
 use Rattle.rw_kept_head.specs.Answered.{KeepsHead, IsKeptAnswer}
 use Rattle.rw_kept_head.specs.Kept.{Kept, SaysWhat, LiesBetween, IsLeft, HasNoChance, ended_with}
 use Rattle.rw_simulation.specs.Arrivals.{Receives}

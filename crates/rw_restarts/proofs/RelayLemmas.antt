@@ -12,9 +12,9 @@ use Rattle.rw_wal_format.specs.Pieces.{page_size}
 use Rattle.rw_wal_format.specs.Series.{samples_after}
 use Rattle.rw_relabel.specs.declared.choice.Choice.{Choice}
 use Rattle.rw_series_cache.specs.Points.{is_kept, kept_points}
-use Rattle.rw_journal.specs.Journal.{Segments}
-use Rattle.rw_journal.specs.Logs.{entries_of}
-use Rattle.rw_wal_append.specs.Additions.{samples_of_labels}
+use Rattle.rw_kept_log.specs.Journal.{Segments}
+use Rattle.rw_kept_log.specs.Logs.{entries_of}
+use Rattle.rw_kept_log.specs.Additions.{samples_of_labels}
 use Rattle.rw_head.specs.Growth.{EachRises}
 use Rattle.rw_head.specs.Lists.{IsEarlier}
 use Rattle.rw_head.specs.Order.{Point}

@@ -7,7 +7,7 @@ use Rattle.rw_recv_head.specs.Seats.{AreAdmitted}
 use Rattle.rw_machine.specs.Worlds.{Setup}
 use Rattle.rw_machine.specs.declared.event.How.{How}
 use Rattle.rw_machine.specs.declared.event.How.TheVariants.{Plain, OutOfMemory}
-use Rattle.rw_journal.specs.Journal.{Segments}
+use Rattle.rw_kept_log.specs.Journal.{Segments}
 use Rattle.rw_kept_head.specs.Answered.{IsKeptAnswer}
 use Rattle.rw_kept_head.specs.Kept.{Kept}
 use Rattle.rw_restarts.specs.KeptReceivers.{acknowledged_after}

@@ -12,7 +12,7 @@ use Rattle.rw_wal_format.specs.Records.{series_record, sample_record}
 use Rattle.rw_wal_format.specs.Writing.{log_bytes}
 use Rattle.rw_head.specs.Store.{Store}
 use Rattle.rw_machine.specs.declared.event.How.TheVariants.{Plain}
-use Rattle.rw_journal.specs.Journal.{Segments}
+use Rattle.rw_kept_log.specs.Journal.{Segments}
 use Rattle.rw_kept_head.specs.Kept.{Kept}
 use Rattle.rw_restarts.specs.WireReceivers.{WireEvent, Comes, Reopens, ReopensDuring}
 use Rattle.rw_restarts.specs.KeptWireReceivers.{KeptState}

@@ -14,7 +14,7 @@ ghost use Rattle.rw_restarts.specs.Workers.{IsExchangeOfMessage};
 ghost use Rattle.rw_retry.specs.Judgements.{judgement_of};
 ghost use Rattle.rw_head.specs.Head.{State};
 ghost use Rattle.rw_head.specs.Store.{Store, list_of};
-ghost use Rattle.rw_journal.specs.Journal.{Segments};
+ghost use Rattle.rw_kept_log.specs.Journal.{Segments};
 ghost use Rattle.rw_kept_head.specs.Kept.{SaysWhat, LiesBetween};
 ghost use Rattle.rw_restarts.specs.Receivers.{AnswersAs, IsRestarted, state_of};
 ghost use Rattle.rw_restarts.specs.KeptReceivers.{IsAdmission, acknowledged_after};

@@ -16,8 +16,8 @@ ghost use Rattle.rw_restarts.specs.ServedReceivers.{ServedRequest, ServesInOrder
 
 use crate::logs::many_runs_hold_one_log;
 use crate::receivers::an_endpoint_is_such_a_receiver;
-use rw_journal::Journal;
 use rw_kept_head::laws::what_is_left_lies_between;
+use rw_kept_log::Journal;
 use rw_roundtrip::requests_are_read;
 use rw_worker::Transport;
 

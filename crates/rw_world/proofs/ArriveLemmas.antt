@@ -15,10 +15,10 @@ use Rattle.rw_machine.specs.Worlds.{Setup, Request, World}
 use Rattle.rw_machine.specs.Steps.{arrive, endpoint_answer}
 use Rattle.rw_machine.specs.Promises.{CarriesItsBatch}
 use Rattle.rw_machine.specs.declared.event.How.TheVariants.{Plain}
-use Rattle.rw_world_parts.specs.Answering.{IsSentTo}
+use Rattle.rw_world.specs.Answering.{IsSentTo}
 use Rattle.rw_world.specs.Arriving.{IsAnswerTo, IsAnsweredAsBytes, AnswersBytes}
 use Rattle.rw_world.specs.inner.Arriving.{IsServed}
-use Rattle.rw_world_parts.proofs.shared.AnswerLemmas.{ReadsSound, RefusesLong}
+use Rattle.rw_world.proofs.shared.AnswerLemmas.{ReadsSound, RefusesLong}
 
 -- an arrival is answered as the endpoint answers the bytes
 pub answers_one : (c : Setup) (w : World) (k : ℕ) (r : Request) → is_host_name c.target.host ≡ true → is_request_path c.target.path ≡ true → ReadsSound → RefusesLong →

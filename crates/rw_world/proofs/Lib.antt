@@ -1,7 +1,13 @@
-pub mod WorldLemmas
-pub mod PlaceLemmas
 pub mod ArriveLemmas
-pub mod StepLemmas
+pub mod GuardLemmas
+pub mod PendingLemmas
+pub mod PlaceLemmas
+pub mod ReplyLemmas
 pub mod ReportLemmas
 pub mod RoundLemmas
+pub mod SendingLemmas
+pub mod ShardLemmas
 pub mod ShutdownLemmas
+pub mod StepLemmas
+pub mod WorldLemmas
+pub mod shared

@@ -8,7 +8,7 @@ use Rattle.rw_machine.specs.Shards.{Shard, has_room, shard_put}
 use Rattle.rw_machine.specs.Worlds.{Setup, World}
 use Rattle.rw_machine.specs.Steps.{change, next_sample, place, place_entry, put_if_room}
 use Rattle.rw_plain_queue.specs.Items.{Placed}
-use Rattle.rw_world_parts.specs.Sending.{Sending, has_room_at, next_sample_at, put_to}
+use Rattle.rw_world.specs.Sending.{Sending, has_room_at, next_sample_at, put_to}
 use Rattle.rw_world.specs.Machine.{Machine}
 use Rattle.rw_world.specs.inner.Machine.{next_entry}
 

@@ -20,11 +20,11 @@ use Rattle.rw_machine.specs.Settling as settling
 use Rattle.rw_machine.specs.declared.event.How.TheVariants.{Plain}
 use Rattle.rw_machine.specs.declared.event.Event.{Event}
 use Rattle.rw_machine.specs.declared.event.Event.TheVariants as event
-use Rattle.rw_world_parts.specs.Sending.{has_room_at}
-use Rattle.rw_world_parts.specs.Guards.{is_open, is_ready, may_take, may_flush, waiting_id_at}
-use Rattle.rw_world_parts.specs.inner.Guards.{IsOpen}
-use Rattle.rw_world_parts.specs.Positions.{ahead_of}
-use Rattle.rw_world_parts.specs.declared.log.Ahead.TheVariants as ahead
+use Rattle.rw_world.specs.Sending.{has_room_at}
+use Rattle.rw_world.specs.Guards.{is_open, is_ready, may_take, may_flush, waiting_id_at}
+use Rattle.rw_world.specs.inner.Guards.{IsOpen}
+use Rattle.rw_world.specs.Positions.{ahead_of}
+use Rattle.rw_world.specs.declared.log.Ahead.TheVariants as ahead
 use Rattle.rw_machine.proofs.shared.Settles.{hit}
 
 newest_snoc : (id : BatchId) (k : ℕ) (rs : List Request) (r : Request) (f : ℕ) → newest_from id k (rs ++ r ∷ []) f ≡ cond (same_id id r.id) (k + length rs) (newest_from id k rs f)

@@ -24,11 +24,11 @@ use Rattle.rw_head.specs.Head.{State}
 use Rattle.rw_head.specs.declared.limits.Limits.{Limits}
 use Rattle.rw_shard_core.specs.Configs.{choice_of}
 use Rattle.rw_shard_core.specs.declared.config.ConfigFields.{ConfigFields}
-use Rattle.rw_world_parts.specs.Held.{Held}
-use Rattle.rw_world_parts.specs.Sending.{Sending, new_held, sent_at}
+use Rattle.rw_world.specs.Held.{Held}
+use Rattle.rw_world.specs.Sending.{Sending, new_held, sent_at}
 use Rattle.rw_world.specs.Machine.{Machine, label_limits, setup_of}
 use Rattle.rw_world.specs.inner.Machine.{IsWorld}
-use Rattle.rw_world_parts.proofs.shared.ReadingLemmas.{taken_more}
+use Rattle.rw_world.proofs.shared.ReadingLemmas.{taken_more}
 
 fold_snoc : {A B : Type 0} (f : A → B → A) (z : A) (xs : List B) (x : B) → fold f z (xs ++ x ∷ []) ≡ f (fold f z xs) x
 fold_snoc f z [] x = refl

@@ -1,5 +1,10 @@
-pub mod Machine
+pub mod Answering
 pub mod Arriving
+pub mod Guards
+pub mod Held
+pub mod Machine
+pub mod Positions
 pub mod Reached
 pub mod Rounds
+pub mod Sending
 pub mod inner

@@ -8,10 +8,11 @@ ghost use Rattle.rw_machine.specs.declared.event.How.TheVariants.{Plain};
 ghost use Rattle.rw_world.specs.Arriving.{AnswersBytes};
 
 use crate::engine::Engine;
+use crate::receiver::answer_to;
+use crate::sent::Answer;
 use http::StatusCode;
 use rw_machine::How;
 use rw_roundtrip::requests_are_read;
-use rw_world_parts::{Answer, answer_to};
 use std::alloc::AllocError;
 
 impl Engine {

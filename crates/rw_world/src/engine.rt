@@ -6,13 +6,16 @@ ghost use Rattle.rw_machine.specs.Worlds.{start, is_finished, is_over};
 ghost use Rattle.rw_machine.specs.Promises.{CanWork};
 ghost use Rattle.rw_world.specs.Machine.{setup_of};
 
+use crate::log::Log;
+use crate::receiver::{copy_of, limits_at};
+use crate::sent::{Answer, Sent};
+use crate::shards::Shards;
 use rw_head::{Head, LabelSets, Limits};
 use rw_ledger::Ledger;
 use rw_relabel::Choice;
 use rw_series_cache::Router;
 use rw_shard_core::{Config, ConfigFields};
 use rw_types::{Bounded, HostName, LabelSet, Word};
-use rw_world_parts::{Answer, Log, Sent, Shards, copy_of, limits_at};
 use std::alloc::{AllocError, Global};
 use std::marker::Model;
 

@@ -4,9 +4,14 @@
 mod arrive;
 mod engine;
 mod laws;
+mod log;
 mod place;
+mod receiver;
 mod report;
 mod round;
+mod sent;
+mod shard;
+mod shards;
 mod step;
 mod world;
 

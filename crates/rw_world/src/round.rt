@@ -8,15 +8,16 @@ ghost use Rattle.rw_machine.specs.Steps.{happens, run};
 ghost use Rattle.rw_machine.specs.Worlds.{is_finished, is_over};
 ghost use Rattle.rw_machine.specs.declared.event.Event.TheVariants as event;
 ghost use Rattle.rw_shard_core.specs.Shard.{same_id};
-ghost use Rattle.rw_world_parts.specs.Guards.{is_open, is_ready, may_take, may_flush};
-ghost use Rattle.rw_world_parts.specs.inner.Guards.{IsOpen};
+ghost use Rattle.rw_world.specs.Guards.{is_open, is_ready, may_take, may_flush};
+ghost use Rattle.rw_world.specs.inner.Guards.{IsOpen};
 ghost use Rattle.rw_world.specs.inner.Machine.{placed_entries};
 ghost use Rattle.rw_world.specs.inner.Rounds.{events_of, HasSettled};
 
 use crate::engine::Engine;
+use crate::log::Ahead;
+use crate::sent::Sent;
 use rw_batch::BatchId;
 use rw_machine::{Event, How};
-use rw_world_parts::{Ahead, Sent};
 use std::alloc::AllocError;
 
 /// What comes next.

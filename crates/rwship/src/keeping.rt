@@ -11,9 +11,9 @@ use rw_kept_folder::{
     open_journal, refuse_running_server,
 };
 use rw_kept_head::{HeadReading, KeptHead, Oddities, OpenError, Opened};
+use rw_kept_log::{Damage, ReopenError, whole_len};
 use rw_metrics::ReceiveCounters;
 use rw_receive::{FinalHead, serve_connections, serve_until_stop};
-use rw_reopen::{Damage, ReopenError, whole_len};
 use rw_text::ToolFault;
 use rw_types::Std;
 use rw_words::{Receiving, Until};

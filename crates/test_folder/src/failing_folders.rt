@@ -2,13 +2,13 @@
 //! call of a device failed in turn.
 
 ghost use Rattle.std.specs.Prelude.{OnOk};
-ghost use Rattle.rw_journal.specs.Journal.{Only};
+ghost use Rattle.rw_kept_log.specs.Journal.{Only};
 
 use crate::failing_files::{Countdown, FailingFiles};
 use crate::folder_journals::{STRICT, make_folder};
 use crate::texts::{open_folder, read_folder};
-use rw_journal::{Journal, JournalError};
 use rw_kept_folder::FolderMonitor;
+use rw_kept_log::{Journal, JournalError};
 use std::fs;
 use std::path::Path;
 use std::rt::Files;

@@ -1,8 +1,8 @@
 //! Journals in the files of a folder: which folders are refused, and why, and what is counted.
 
 use crate::texts::{open_folder, read_folder};
-use rw_journal::{Journal, JournalError};
 use rw_kept_folder::{FaultCause, FolderError, FolderMonitor, FolderRules, refuse_running_server};
+use rw_kept_log::{Journal, JournalError};
 use rw_metrics::{KeptNumbers, ReceiveCounters};
 use std::alloc::{AllocError, Global};
 use std::path::{Path, PathBuf};

@@ -1,6 +1,6 @@
 //! What a crash leaves of a journal in memory.
 
-use rw_journal::{Journal, JournalError, MemoryJournal, write_in_pages};
+use rw_kept_log::{Journal, JournalError, MemoryJournal, write_in_pages};
 use std::alloc::Global;
 use std::test::Fail;
 

@@ -3,8 +3,8 @@
 use crate::failing_files::{Countdown, FailingFiles};
 use crate::folder_journals::{LENIENT, STRICT, make_folder};
 use crate::texts::open_folder;
-use rw_journal::Journal;
 use rw_kept_folder::{FaultCause, FolderError, FolderMonitor, FolderRules};
+use rw_kept_log::Journal;
 use std::fs;
 use std::path::{Path, PathBuf};
 use std::rt::Files;

@@ -1,13 +1,13 @@
 //! Opens journals in folders, and keeps the texts of their segments.
 
 ghost use Rattle.std.specs.Prelude.{◌≡◌, map, IfOk};
-ghost use Rattle.rw_journal.specs.Journal.{Only};
+ghost use Rattle.rw_kept_log.specs.Journal.{Only};
 ghost use Rattle.rw_kept_folder.specs.Noted.{seen_of, MayLeave};
 
-use rw_journal::SegmentTaker;
 use rw_kept_folder::{
     FolderError, FolderJournal, FolderMonitor, FolderRules, OpenFolder, open_journal,
 };
+use rw_kept_log::SegmentTaker;
 use std::alloc::{AllocError, Global};
 use std::rt::Files;
 use std::time::Clock;

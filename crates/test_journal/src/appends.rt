@@ -1,7 +1,7 @@
 //! The bytes that are appended to a log, and what is read of them.
 
+use rw_kept_log::{AppendError, LogEnd};
 use rw_types::{Entry, RawLabels, Word};
-use rw_wal_append::{AppendError, LogEnd};
 use rw_wal_tail::Tail;
 use std::alloc::{AllocError, Global};
 use std::test::Fail;

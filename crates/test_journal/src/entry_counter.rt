@@ -1,12 +1,11 @@
 //! Logs of two records in journals in memory.
 
 ghost use Rattle.std.specs.Prelude.{◌≡◌, ◌++◌, ◌∷◌, [], OnOk};
-ghost use Rattle.rw_journal.specs.Journal.{Only};
-ghost use Rattle.rw_journal.specs.Memory.{image_segments, IsLeftOf};
+ghost use Rattle.rw_kept_log.specs.Journal.{Only};
+ghost use Rattle.rw_kept_log.specs.Memory.{image_segments, IsLeftOf};
 
 use rw_history::History;
-use rw_journal::{MemoryJournal, close_torn};
-use rw_reopen::{LogEnd, LogReading, ReopenError};
+use rw_kept_log::{LogReading, MemoryJournal, ReadEnd, ReopenError, close_torn};
 use rw_types::Entry;
 use rw_wal_tail::Taker;
 use std::alloc::{AllocError, Global};
@@ -56,7 +55,7 @@ impl Taker for Counter {
 pub(crate) fn reopen(
     alloc: Global,
     journal: &mut MemoryJournal,
-) -> Result<(u64, LogEnd), ReopenError>
+) -> Result<(u64, ReadEnd), ReopenError>
     requires { Only (image_segments journal.old.image) (IsLeftOf journal.old.image) }
     ensures { OnOk result (Only (image_segments journal.new.image) (IsLeftOf journal.new.image)) }
 {

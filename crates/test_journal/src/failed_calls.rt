@@ -5,7 +5,7 @@ use crate::failing_journal::FailingJournal;
 use crate::life::{Life, Wrong, live, live_after, read_head};
 use crate::plan::{Plan, Row};
 use rw_head::Admission;
-use rw_journal::{Journal, MemoryJournal};
+use rw_kept_log::{Journal, MemoryJournal};
 use std::alloc::{AllocError, Global};
 use std::test::Fail;
 

@@ -1,10 +1,10 @@
 //! A journal of which one call fails.
 
 ghost use Rattle.std.specs.Prelude.{◌≡◌, ◌+◌, length};
-ghost use Rattle.rw_journal.specs.Journal.{HasCause};
+ghost use Rattle.rw_kept_log.specs.Journal.{HasCause};
 
 use rw_history::History;
-use rw_journal::{Journal, JournalError};
+use rw_kept_log::{Journal, JournalError};
 
 /// A journal of which one call fails: the one of this number, counted from 1. A failing call has
 /// appended or cut nevertheless; whether it has synced or begun a segment is chosen.

@@ -4,9 +4,8 @@ use crate::appends::{definitions_of, samples_at};
 use crate::life::read_head;
 use Outcome::{Foreign, NoReferenceLeft, Opened};
 use rw_head::Limits;
-use rw_journal::{Journal, MemoryJournal};
 use rw_kept_head::{KeptHead, OpenError};
-use rw_wal_append::{AppendError, LogEnd};
+use rw_kept_log::{AppendError, Journal, LogEnd, MemoryJournal};
 use std::alloc::Global;
 use std::test::Fail;
 

@@ -1,14 +1,13 @@
 //! A life of a head: a journal is opened, and requests are asked.
 
 ghost use Rattle.std.specs.Prelude.{◌≡◌, IfOk};
-ghost use Rattle.rw_journal.specs.Memory.{image_segments};
+ghost use Rattle.rw_kept_log.specs.Memory.{image_segments};
 
 use crate::plan::{Plan, Request};
 use rw_head::{Admission, Limits};
-use rw_journal::{Journal, JournalError, MemoryJournal};
 use rw_kept_head::{HeadReading, KeptHead, OpenError};
+use rw_kept_log::{Journal, JournalError, MemoryJournal, ReopenError};
 use rw_recv_head::Admit;
-use rw_reopen::ReopenError;
 use std::alloc::{AllocError, Global};
 
 /// What is wrong with a head that is kept in a journal.

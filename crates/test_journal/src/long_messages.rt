@@ -4,7 +4,7 @@
 use crate::life::{Life, Wrong, live};
 use crate::plan::{Plan, Row};
 use rw_head::{Admission, Capacity};
-use rw_journal::{Journal, MemoryJournal};
+use rw_kept_log::{Journal, MemoryJournal};
 use std::alloc::{AllocError, Global};
 use std::test::Fail;
 

@@ -5,7 +5,7 @@
 use crate::life::{Life, Wrong, live};
 use crate::plan::{Plan, Row};
 use rw_head::Admission;
-use rw_journal::MemoryJournal;
+use rw_kept_log::MemoryJournal;
 use std::alloc::{AllocError, Global};
 use std::test::Fail;
 

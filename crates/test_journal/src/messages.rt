@@ -1,10 +1,10 @@
 //! Messages that are appended to a log, one after the other, and the references that they get.
 
 ghost use Rattle.std.specs.Prelude.{OnOk};
-ghost use Rattle.rw_wal_append.specs.References.{AreReferenced};
+ghost use Rattle.rw_kept_log.specs.References.{AreReferenced};
 
+use rw_kept_log::{AppendError, LogEnd, References};
 use rw_types::{LabelSet, Names, RawLabels, Word};
-use rw_wal_append::{AppendError, LogEnd, References};
 use std::alloc::{AllocError, Global};
 use std::test::Fail;
 

@@ -1,12 +1,11 @@
 //! Logs that are opened, and logs that are refused.
 
-ghost use Rattle.rw_journal.specs.Journal.{Only};
-ghost use Rattle.rw_journal.specs.Memory.{image_segments, IsLeftOf};
+ghost use Rattle.rw_kept_log.specs.Journal.{Only};
+ghost use Rattle.rw_kept_log.specs.Memory.{image_segments, IsLeftOf};
 
 use crate::entry_counter::{UP, reopen};
 use Outcome::{Opened, Refused};
-use rw_journal::{Journal, JournalError, MemoryJournal};
-use rw_reopen::{Damage, ReopenError};
+use rw_kept_log::{Damage, Journal, JournalError, MemoryJournal, ReopenError};
 use rw_wal_tail::{FaultPlace, TailFault};
 use std::alloc::{AllocError, Global};
 use std::test::Fail;

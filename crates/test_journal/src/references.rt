@@ -6,9 +6,8 @@ use crate::life::{Life, Wrong, live, read_head};
 use crate::plain::{Sample, body_of};
 use crate::plan::{Plan, Row};
 use rw_head::{Admission, Capacity, Limits};
-use rw_journal::{Journal, MemoryJournal};
 use rw_kept_head::{KeptHead, Oddities};
-use rw_wal_append::LogEnd;
+use rw_kept_log::{Journal, LogEnd, MemoryJournal};
 use std::alloc::{AllocError, Global};
 use std::test::Fail;
 

@@ -5,7 +5,7 @@ use crate::plain::Sample;
 use crate::plan::Plan;
 use crate::segments::{texts_of, torn_at};
 use rw_head::Admission;
-use rw_journal::MemoryJournal;
+use rw_kept_log::MemoryJournal;
 use std::alloc::{AllocError, Global};
 use std::test::Fail;
 

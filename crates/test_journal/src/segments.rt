@@ -1,6 +1,6 @@
 //! The segments of a journal, read out and written again as a crash leaves them.
 
-use rw_journal::{Journal, JournalError, MemoryJournal};
+use rw_kept_log::{Journal, JournalError, MemoryJournal};
 use std::alloc::Global;
 
 /// The bytes of a page.

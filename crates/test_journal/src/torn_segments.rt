@@ -1,8 +1,7 @@
 //! Crashes while records are being written, each of which is opened.
 
 use crate::entry_counter::{UP, reopen};
-use rw_journal::{Journal, JournalError, MemoryJournal};
-use rw_reopen::ReopenError;
+use rw_kept_log::{Journal, JournalError, MemoryJournal, ReopenError};
 use std::alloc::Global;
 use std::test::Fail;
 

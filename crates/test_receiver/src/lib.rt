@@ -9,6 +9,8 @@ mod bodies;
 #[cfg(test)]
 mod broken;
 #[cfg(test)]
+mod callers;
+#[cfg(test)]
 mod capacity;
 #[cfg(test)]
 mod connections;

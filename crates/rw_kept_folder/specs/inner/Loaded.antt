@@ -1,7 +1,7 @@
 -- Inner definitions of how a folder is loaded: only private functions and proofs use them.
 use Rattle.std.specs.Prelude.{◌≡◌, ℕ, List, [], ◌∷◌, ◌++◌, length, Option, Some, None, Vec}
 use Rattle.std.specs.declared.alloc.Global.{Global}
-use Rattle.rw_journal.specs.Journal.{Segments, Only}
+use Rattle.rw_kept_log.specs.Journal.{Segments, Only}
 use Rattle.rw_kept_folder.specs.declared.file_call.FileCall.{FileCall}
 use Rattle.rw_kept_folder.specs.Noted.{Noted, seen_of, MayLeave}
 use Rattle.rw_kept_folder.specs.inner.Noted.{loads_of}

@@ -3,7 +3,7 @@
 use Rattle.std.specs.Prelude.{ℕ, zero, suc, List, [], ◌∷◌, length, map}
 use Rattle.std.proofs.Common.{inr, refl}
 use Rattle.std.proofs.Math.Nat.{le_refl}
-use Rattle.rw_journal.specs.Journal.{Segments}
+use Rattle.rw_kept_log.specs.Journal.{Segments}
 use Rattle.rw_kept_folder.specs.declared.file_call.FileCall.{FileCall}
 use Rattle.rw_kept_folder.specs.declared.file_call.FileCall.TheVariants.{Load}
 use Rattle.rw_kept_folder.specs.Noted.{Noted, UnderWay, Nothing, Appending, Cutting, Creating, Loaded, Copied, CopySynced, Replaced, FolderState, changed_by, Leaves, LeftIn, step, after_calls, LeftFrom, no_segments, state_of, seen_of, MayLeave, LeftSinceNoted}

@@ -5,12 +5,12 @@ use Rattle.rw_types.specs.declared.entry.Entry.{Entry}
 use Rattle.rw_wal_format.specs.Laws.{sample_entry}
 use Rattle.rw_wal_format.specs.Pieces.{page_size}
 use Rattle.rw_head.specs.Store.{Store}
-use Rattle.rw_journal.specs.Journal.{Segments, Only, IsBegun}
-use Rattle.rw_journal.specs.declared.journal.JournalError.{JournalError}
-use Rattle.rw_journal.specs.Logs.{entries_of}
-use Rattle.rw_wal_append.specs.Additions.{definition_entry}
-use Rattle.rw_wal_append.specs.References.{ReferenceTable, IsNoted}
-use Rattle.rw_wal_append.specs.Ends.{End, EndsAt}
+use Rattle.rw_kept_log.specs.Journal.{Segments, Only, IsBegun}
+use Rattle.rw_kept_log.specs.declared.journal.JournalError.{JournalError}
+use Rattle.rw_kept_log.specs.Logs.{entries_of}
+use Rattle.rw_kept_log.specs.Additions.{definition_entry}
+use Rattle.rw_kept_log.specs.References.{ReferenceTable, IsNoted}
+use Rattle.rw_kept_log.specs.Ends.{End, EndsAt}
 use Rattle.rw_kept_head.specs.Kept.{SaysWhat}
 use Rattle.rw_kept_head.specs.declared.keep_error.KeepError.{KeepError}
 

@@ -6,7 +6,7 @@ use Rattle.rw_types.specs.declared.entry.Entry.{Entry}
 use Rattle.rw_types.specs.declared.names.Names.TheVariants.{Utf8}
 use Rattle.rw_wal_format.specs.Series.{labels_of}
 use Rattle.rw_write_request.specs.Message.{TimeSeries}
-use Rattle.rw_wal_append.specs.References.{ReferenceTable, with_pair}
+use Rattle.rw_kept_log.specs.References.{ReferenceTable, with_pair}
 use Rattle.rw_kept_head.specs.inner.Restoring.{StandsFor}
 
 -- what is noted of each reference stands for the labels that the entries give it

@@ -3,7 +3,7 @@
 use Rattle.std.specs.Prelude.{◌≡◌, ℕ, List, All}
 use Rattle.rw_shard_core.specs.declared.config.Target.{Target}
 use Rattle.rw_machine.specs.Worlds.{Request}
-use Rattle.rw_world_parts.specs.Answering.{IsSentTo}
+use Rattle.rw_world.specs.Answering.{IsSentTo}
 
 -- the receiver is where requests are sent, and all of them are requests to it
 pub record IsServed (target : Target) (host path : List ℕ) (requests : List Request) : Type 0 where

@@ -1,8 +1,8 @@
 use Rattle.std.proofs.Common.{◌≡◌, ◌∙◌, Bool, cond, Some, None, sym, subst, rules}
-use Rattle.rw_journal.specs.Journal.{LeavesOnly}
+use Rattle.rw_kept_log.specs.Journal.{LeavesOnly}
 use Rattle.rw_head.specs.Capacity.{StaysWithin}
 use Rattle.rw_head.specs.Head.{State, answer}
-use Rattle.rw_journal.proofs.shared.Moments.{started}
+use Rattle.rw_kept_log.proofs.shared.Moments.{started}
 use Rattle.rw_kept_head.specs.Kept.{SaysWhat, IsLeft}
 use Rattle.rw_kept_head.proofs.CapacityLemmas.{stays_within}
 use Rattle.rw_kept_head.proofs.KeptLemmas.{is_unharmed, unset}

@@ -1,6 +1,6 @@
 use Rattle.std.proofs.Common.{List, sym, subst}
 use Rattle.rw_types.specs.declared.entry.Entry.{Entry}
-use Rattle.rw_wal_append.specs.Additions.{samples_of_labels}
+use Rattle.rw_kept_log.specs.Additions.{samples_of_labels}
 use Rattle.rw_kept_head.specs.Admitted.{MayHold}
 use Rattle.rw_kept_head.proofs.AdmittedLemmas.{log_held, left_held}
 use Rattle.rw_kept_head.proofs.laws.a_kept_log_is_admitted.Goals as goal

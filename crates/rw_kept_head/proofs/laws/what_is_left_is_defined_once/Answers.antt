@@ -1,5 +1,5 @@
 use Rattle.std.proofs.Common.{sym, subst}
-use Rattle.rw_wal_append.specs.Definitions.{IsDefinedOnce}
+use Rattle.rw_kept_log.specs.Definitions.{IsDefinedOnce}
 use Rattle.rw_kept_head.proofs.KeptLemmas.{left_once}
 use Rattle.rw_kept_head.proofs.laws.what_is_left_is_defined_once.Goals as goal
 

@@ -1,15 +1,15 @@
 use Rattle.std.proofs.Common.{◌≡◌, ◌++◌, refl, rules, map, List, ℕ, ap, sym, subst, ◌∙◌, arith, length, Some}
 use Rattle.std.proofs.lemmas.Result.{err_from_is_err_and}
 use Rattle.rw_types.specs.declared.entry.Entry.{Entry}
-use Rattle.rw_journal.specs.Journal.{with_more, IsBegun}
-use Rattle.rw_journal.specs.Torn.{IsTornLog}
-use Rattle.rw_journal.proofs.shared.Moments.{started}
+use Rattle.rw_kept_log.specs.Journal.{with_more, IsBegun}
+use Rattle.rw_kept_log.specs.Torn.{IsTornLog}
+use Rattle.rw_kept_log.proofs.shared.Moments.{started}
 use Rattle.rw_wal_format.specs.Laws.{sample_entry}
 use Rattle.rw_wal_format.specs.Pieces.{page_size}
-use Rattle.rw_wal_append.specs.Additions.{definition_entry, samples_of_labels}
-use Rattle.rw_wal_append.specs.Definitions.{IsDefinedOnce}
-use Rattle.rw_wal_append.specs.References.{undefined}
-use Rattle.rw_journal.specs.Logs.{entries_of}
+use Rattle.rw_kept_log.specs.Additions.{definition_entry, samples_of_labels}
+use Rattle.rw_kept_log.specs.Definitions.{IsDefinedOnce}
+use Rattle.rw_kept_log.specs.References.{undefined}
+use Rattle.rw_kept_log.specs.Logs.{entries_of}
 use Rattle.rw_kept_head.specs.inner.Inner.{GoesOn, ended_if}
 use Rattle.rw_kept_head.specs.Kept.{SaysWhat, IsLeft, StaysDefinedOnce, Became}
 use Rattle.rw_kept_head.proofs.WrittenLemmas.{is_written, none_new, noted_written, nothing_new, once_written, still_noted}

@@ -1,15 +1,15 @@
 use Rattle.std.proofs.Common.{◌≡◌, ◌+◌, ℕ, List, None, refl, ap, sym, subst, ◌∙◌, rules}
 use Rattle.rw_types.specs.declared.entry.Entry.{Entry}
 use Rattle.rw_wal_format.specs.Pieces.{page_size}
-use Rattle.rw_journal.specs.Journal.{Segments}
-use Rattle.rw_journal.specs.Logs.{entries_of, IsWholeText}
-use Rattle.rw_journal.specs.TornLogs.{AllBefore}
-use Rattle.rw_journal.proofs.shared.Moments.{started}
-use Rattle.rw_reopen.specs.Reading.{greatest_after}
-use Rattle.rw_wal_append.specs.Additions.{samples_of_labels}
-use Rattle.rw_wal_append.specs.Ends.{EndsAt}
+use Rattle.rw_kept_log.specs.Journal.{Segments}
+use Rattle.rw_kept_log.specs.Logs.{entries_of, IsWholeText}
+use Rattle.rw_kept_log.specs.TornLogs.{AllBefore}
+use Rattle.rw_kept_log.proofs.shared.Moments.{started}
+use Rattle.rw_kept_log.specs.Reading.{greatest_after}
+use Rattle.rw_kept_log.specs.Additions.{samples_of_labels}
+use Rattle.rw_kept_log.specs.Ends.{EndsAt}
 use Rattle.rw_head.specs.Verdicts.{LabelLimits}
-use Rattle.rw_wal_append.specs.References.{ReferenceTable, IsNoted}
+use Rattle.rw_kept_log.specs.References.{ReferenceTable, IsNoted}
 use Rattle.rw_kept_head.specs.Admitted.{IsRefusedAt}
 use Rattle.rw_kept_head.specs.Opening.{HasSameEntries}
 use Rattle.rw_kept_head.specs.Reading.{HeadTaken}

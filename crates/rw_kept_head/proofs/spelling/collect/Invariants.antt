@@ -1,7 +1,7 @@
 use Rattle.std.proofs.Common.{◌≡◌, ◌++◌}
 use Rattle.rw_types.specs.Labels.{Labels}
 use Rattle.rw_head.specs.Added.{samples_added}
-use Rattle.rw_wal_append.specs.References.{AreReferenced, points_of, only_defined}
+use Rattle.rw_kept_log.specs.References.{AreReferenced, points_of, only_defined}
 use Rattle.rw_kept_head.proofs.spelling.collect.Given as goal
 
 abbrev pub invariant-loop-series : goal.invariant-loop-series

@@ -1,7 +1,7 @@
 use Rattle.std.proofs.Common.{ℕ, ◌≤◌, ◌*◌, subst}
 use Rattle.std.specs.List.{AllByRecursion}
 use Rattle.rw_wal_format.specs.Pieces.{page_size}
-use Rattle.rw_journal.specs.Logs.{IsWholeText}
+use Rattle.rw_kept_log.specs.Logs.{IsWholeText}
 use Rattle.rw_kept_head.specs.Kept.{IsLastWithin}
 use Rattle.rw_kept_head.proofs.KeptLemmas.{ends_whole, last_within}
 use Rattle.rw_kept_head.proofs.log_writer.LogWriter.fault.Goals as goal

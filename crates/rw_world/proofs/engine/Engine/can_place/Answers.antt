@@ -7,8 +7,8 @@ use Rattle.rw_wal_format.specs.Pieces.{entries}
 use Rattle.rw_series_cache.specs.Known.{known}
 use Rattle.rw_machine.specs.Settling.{can_place, can_place_known}
 use Rattle.rw_world.specs.Machine.{Machine}
-use Rattle.rw_world_parts.specs.Positions.{ahead_of}
-use Rattle.rw_world_parts.specs.declared.log.Ahead.TheVariants as ahead
+use Rattle.rw_world.specs.Positions.{ahead_of}
+use Rattle.rw_world.specs.declared.log.Ahead.TheVariants as ahead
 use Rattle.rw_world.specs.contracts.engine.Engine.{the_view}
 use Rattle.rw_world.proofs.RoundLemmas.{place_stops, place_none, place_defined, place_sampled}
 use Rattle.rw_world.proofs.engine.Engine.can_place.Goals as goal

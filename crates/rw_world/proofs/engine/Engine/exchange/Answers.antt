@@ -4,8 +4,8 @@ use Rattle.rw_machine.specs.declared.event.How.TheVariants.{Plain}
 use Rattle.rw_machine.specs.declared.event.Event.TheVariants as event
 use Rattle.rw_machine.specs.Settling.{newest_from, exchange_at}
 use Rattle.rw_machine.specs.Worlds.{Request}
-use Rattle.rw_world_parts.specs.Guards.{waiting_id_at}
-use Rattle.rw_world_parts.specs.inner.Guards.{IsOpen}
+use Rattle.rw_world.specs.Guards.{waiting_id_at}
+use Rattle.rw_world.specs.inner.Guards.{IsOpen}
 use Rattle.rw_world.specs.Machine.{Machine}
 use Rattle.rw_world.specs.contracts.engine.Engine.{the_view}
 use Rattle.rw_world.proofs.RoundLemmas.{exchange_waits, exchange_rests}

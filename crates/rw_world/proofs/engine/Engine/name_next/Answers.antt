@@ -3,7 +3,7 @@ use Rattle.std.specs.FinMap.{insert}
 use Rattle.rw_types.specs.declared.entry.Entry.TheVariants.{Sample}
 use Rattle.rw_wal_format.specs.Pieces.{entries}
 use Rattle.rw_series_cache.proofs.shared.KnowsLemmas.{knows_dropped}
-use Rattle.rw_world_parts.specs.Sending.{Sending}
+use Rattle.rw_world.specs.Sending.{Sending}
 use Rattle.rw_world.specs.Machine.{Machine}
 use Rattle.rw_world.specs.inner.Machine.{IsDroppedNext}
 use Rattle.rw_world.specs.contracts.engine.Engine.{the_view}

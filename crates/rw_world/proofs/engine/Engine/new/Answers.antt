@@ -3,7 +3,7 @@ use Rattle.rw_shard_core.specs.declared.config.ConfigFields.{ConfigFields}
 use Rattle.rw_head.specs.declared.limits.Limits.{Limits}
 use Rattle.rw_machine.specs.Worlds.{start}
 use Rattle.rw_world.specs.Machine.{setup_of}
-use Rattle.rw_world_parts.specs.Sending.{Sending}
+use Rattle.rw_world.specs.Sending.{Sending}
 use Rattle.rw_world.proofs.WorldLemmas.{started, head_is, world_begun}
 use Rattle.rw_world.proofs.engine.Engine.new.Goals as goal
 

@@ -8,7 +8,7 @@ use Rattle.rw_wal_format.specs.Pieces.{entries}
 use Rattle.rw_series_cache.specs.Numbers.{number_of}
 use Rattle.rw_series_cache.specs.Routing.{Routing, IsSentNext}
 use Rattle.rw_machine.specs.Steps.{shard_of_labels, put_if_room}
-use Rattle.rw_world_parts.specs.Sending.{Sending, has_room_at, put_to}
+use Rattle.rw_world.specs.Sending.{Sending, has_room_at, put_to}
 use Rattle.rw_world.specs.Machine.{Machine}
 use Rattle.rw_world.specs.inner.Machine.{IsSampleNext, with_sample}
 use Rattle.rw_world.specs.contracts.engine.Engine.{the_view}

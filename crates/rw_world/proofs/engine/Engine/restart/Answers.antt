@@ -1,8 +1,8 @@
 use Rattle.std.proofs.Common.{◌≡◌, ◌∙◌, ◌&&◌, not, ◌+◌, map, Some, None, sym, ap, refl}
 use Rattle.rw_machine.specs.Worlds.{is_finished, all_drained}
 use Rattle.rw_machine.specs.Steps.{restart}
-use Rattle.rw_world_parts.specs.Held.{Held}
-use Rattle.rw_world_parts.specs.Sending.{Sending, new_held}
+use Rattle.rw_world.specs.Held.{Held}
+use Rattle.rw_world.specs.Sending.{Sending, new_held}
 use Rattle.rw_world.specs.Machine.{Machine}
 use Rattle.rw_world.specs.contracts.engine.Engine.{the_view}
 use Rattle.rw_world.proofs.WorldLemmas.{parts, restarted}

@@ -1,6 +1,6 @@
 use Rattle.std.proofs.Common.{◌≡◌, ◌∙◌, None, sym, ap}
 use Rattle.std.specs.Prelude.{slice_get}
-use Rattle.rw_world_parts.specs.Sending.{Sending, sent_at}
+use Rattle.rw_world.specs.Sending.{Sending, sent_at}
 use Rattle.rw_world.specs.Machine.{Machine}
 use Rattle.rw_world.specs.contracts.engine.Engine.{the_view}
 use Rattle.rw_world.proofs.WorldLemmas.{unsent, send_none}

@@ -1,5 +1,0 @@
-use Rattle.rw_journal.proofs.shared.TornLogLemmas.{left_between}
-use Rattle.rw_journal.proofs.laws.a_torn_log_is_a_beginning.Goals as goal
-
-pub returns : goal.returns
-returns g c = left_between g.J.Journal.tears

@@ -1,8 +1,0 @@
-pub mod ClosingLemmas
-pub mod CutLemmas
-pub mod Moments
-pub mod OpeningLemmas
-pub mod PageLemmas
-pub mod RecordLemmas
-pub mod TornLogLemmas
-pub mod Zeros

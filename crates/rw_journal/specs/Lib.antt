@@ -1,5 +1,0 @@
-pub mod Journal
-pub mod Logs
-pub mod Memory
-pub mod Torn
-pub mod TornLogs

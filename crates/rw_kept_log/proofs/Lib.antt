@@ -1,0 +1,16 @@
+mod GreatestLemmas
+mod HeaderLemmas
+mod Holes
+mod ImageLemmas
+mod LeftLemmas
+pub mod LogLemmas
+mod PlaceLemmas
+mod ReadingLemmas
+mod RecordAtLemmas
+mod ReferenceLemmas
+mod SegmentLemmas
+mod TableLemmas
+mod TornHeader
+mod TornLemmas
+mod WalkLemmas
+pub mod shared

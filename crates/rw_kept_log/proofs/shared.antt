@@ -1,0 +1,12 @@
+pub mod AdditionLemmas
+pub mod ClosingLemmas
+pub mod CutLemmas
+pub mod DefinitionLemmas
+pub mod HoldLemmas
+pub mod Moments
+pub mod OpeningLemmas
+pub mod PageLemmas
+pub mod RecordLemmas
+pub mod ReopeningLemmas
+pub mod TornLogLemmas
+pub mod Zeros

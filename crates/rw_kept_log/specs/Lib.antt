@@ -1,0 +1,15 @@
+pub mod Additions
+pub mod Definitions
+pub mod Ends
+pub mod Errors
+pub mod Journal
+pub mod Logs
+pub mod Memory
+pub mod Reading
+pub mod Records
+pub mod References
+pub mod Reopening
+pub mod Taken
+pub mod Torn
+pub mod TornLogs
+pub mod inner

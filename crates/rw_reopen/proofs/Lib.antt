@@ -1,6 +1,0 @@
-mod GreatestLemmas
-mod HeaderLemmas
-mod ReadingLemmas
-mod RecordAtLemmas
-mod WalkLemmas
-pub mod shared

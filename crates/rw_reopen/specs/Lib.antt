@@ -1,6 +1,0 @@
-pub mod Errors
-pub mod Reading
-pub mod Records
-pub mod Reopening
-pub mod Taken
-pub mod inner

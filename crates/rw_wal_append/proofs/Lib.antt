@@ -1,4 +1,0 @@
-mod PlaceLemmas
-mod ReferenceLemmas
-mod TableLemmas
-pub mod shared

@@ -1,5 +1,0 @@
-use Rattle.rw_wal_append.proofs.shared.HoldLemmas.{ends_at_0}
-use Rattle.rw_wal_append.proofs.laws.an_empty_segment_ends_at_0.Goals as goal
-
-pub returns : goal.returns
-returns c = ends_at_0

@@ -1,6 +1,0 @@
-use Rattle.std.proofs.Common.{rules, length, ◌≤◌}
-use Rattle.rw_wal_append.proofs.shared.HoldLemmas.{holds_empty}
-use Rattle.rw_wal_append.proofs.records.put_last.Goals as goal
-
-pub returns-then-is_empty : goal.returns-then-is_empty
-returns-then-is_empty c = let none : length c.args.samples.now ≤ 0 = search rules in holds_empty c.args.writer.now c.args.samples.now none

@@ -1,3 +1,0 @@
-pub mod AdditionLemmas
-pub mod DefinitionLemmas
-pub mod HoldLemmas

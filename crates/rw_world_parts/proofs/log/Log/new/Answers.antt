@@ -1,5 +1,0 @@
-use Rattle.rw_world_parts.proofs.shared.ReadingLemmas.{nothing_read}
-use Rattle.rw_world_parts.proofs.log.Log.new.Goals as goal
-
-pub invariant_of-result : goal.invariant_of-result
-invariant_of-result c = rw (c.new.ensures.new, c.new-2.ensures.items) nothing_read

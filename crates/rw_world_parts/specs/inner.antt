@@ -1,4 +1,0 @@
-pub mod Answering
-pub mod Guards
-pub mod Held
-pub mod Sending
