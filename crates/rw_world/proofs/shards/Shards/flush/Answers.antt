@@ -3,7 +3,7 @@ use Rattle.std.proofs.lemmas.Option.{slice_get_read}
 use Rattle.std.specs.Prelude.{slice_get}
 use Rattle.rw_world.specs.Held.{Held, flushed}
 use Rattle.rw_world.specs.Sending.{Sending}
-use Rattle.rw_world.specs.contracts.sending.Shards.{the_view}
+use Rattle.rw_world.specs.contracts.shards.Shards.{the_view}
 use Rattle.rw_world.proofs.SendingLemmas.{past_is, changed_is, quiet_same, flushed_quiet, flushed_batch}
 use Rattle.rw_world.proofs.shards.Shards.flush.Goals as goal
 

@@ -5,7 +5,7 @@ use Rattle.rw_machine.specs.Shards.{shard_freeze}
 use Rattle.rw_ledger.specs.Names.{Named}
 use Rattle.rw_world.specs.Held.{Held}
 use Rattle.rw_world.specs.Sending.{Sending}
-use Rattle.rw_world.specs.contracts.sending.Shards.{the_view}
+use Rattle.rw_world.specs.contracts.shards.Shards.{the_view}
 use Rattle.rw_world.proofs.SendingLemmas.{past_is, changed_is, quiet_kept, freeze_quiet}
 use Rattle.rw_world.proofs.shards.Shards.freeze.Goals as goal
 

@@ -4,7 +4,7 @@ use Rattle.std.specs.Prelude.{slice_get}
 use Rattle.rw_machine.specs.Shards.{shard_lost}
 use Rattle.rw_world.specs.Held.{Held}
 use Rattle.rw_world.specs.Sending.{Sending}
-use Rattle.rw_world.specs.contracts.sending.Shards.{the_view}
+use Rattle.rw_world.specs.contracts.shards.Shards.{the_view}
 use Rattle.rw_world.proofs.SendingLemmas.{past_is, changed_is, quiet_same, lost_quiet}
 use Rattle.rw_world.proofs.shards.Shards.lose.Goals as goal
 

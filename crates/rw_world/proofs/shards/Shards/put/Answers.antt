@@ -3,7 +3,7 @@ use Rattle.std.proofs.lemmas.Option.{slice_get_read}
 use Rattle.std.specs.Prelude.{slice_get}
 use Rattle.rw_world.specs.Held.{Held}
 use Rattle.rw_world.specs.Sending.{Sending}
-use Rattle.rw_world.specs.contracts.sending.Shards.{the_view}
+use Rattle.rw_world.specs.contracts.shards.Shards.{the_view}
 use Rattle.std.proofs.Common.{ℤ}
 use Rattle.std.proofs.Math.Facts.{to_z-of_z}
 use Rattle.rw_world.specs.inner.Held.{sample_for}

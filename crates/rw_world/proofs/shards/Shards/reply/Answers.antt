@@ -2,7 +2,7 @@ use Rattle.std.proofs.Common.{◌≡◌, ◌∙◌, Some, ap, refl}
 use Rattle.std.proofs.lemmas.Option.{slice_get_read}
 use Rattle.std.specs.Prelude.{slice_get}
 use Rattle.rw_world.specs.Held.{Held}
-use Rattle.rw_world.specs.contracts.sending.Shards.{the_view}
+use Rattle.rw_world.specs.contracts.shards.Shards.{the_view}
 use Rattle.rw_world.proofs.ReplyLemmas.{has_room_for, reply_kept_all, replied_is}
 use Rattle.rw_world.proofs.shards.Shards.reply.Goals as goal
 

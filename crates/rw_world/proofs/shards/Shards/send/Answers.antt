@@ -4,7 +4,7 @@ use Rattle.std.specs.Prelude.{slice_get}
 use Rattle.rw_machine.specs.Shards.{shard_send}
 use Rattle.rw_world.specs.Held.{Held}
 use Rattle.rw_world.specs.Sending.{Sending, sent_at}
-use Rattle.rw_world.specs.contracts.sending.Shards.{the_view}
+use Rattle.rw_world.specs.contracts.shards.Shards.{the_view}
 use Rattle.rw_world.proofs.SendingLemmas.{past_is, changed_is, quiet_same, send_quiet}
 use Rattle.rw_world.proofs.ReplyLemmas.{shard_seen}
 use Rattle.rw_world.specs.Answering.{IsSentTo}
