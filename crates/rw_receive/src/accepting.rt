@@ -1,31 +1,52 @@
-//! Accepts connections one at a time, so that the stop signal is looked at in between.
+//! Accepts connections one at a time.
 
+ghost use Rattle.std.specs.Prelude.{◌≡◌, IfErr};
+ghost use Rattle.rw_text.specs.declared.tool_fault.ToolFault.TheVariants.{Device};
+
+use crate::serving::ServerContext;
 use crate::timed_stream::TICK_MS;
-use rw_metrics::ReceiveCounters;
+use crate::until::ServeUntil;
 use rw_socket::{accept, limit_accepts};
+use rw_text::ToolFault;
 use std::net::{TcpListener, TcpStream};
+use std::thread;
 use std::time::{Clock, Duration};
-use std::{io, thread};
 
-/// Makes each `accept` of the listener give up after a tick.
-pub fn accept_in_ticks(listener: &TcpListener) -> io::Result<()> {
-    limit_accepts(listener, Duration::from_millis(TICK_MS))
+/// Makes each `accept` of the listener give up after a tick, if a stop may be requested meanwhile.
+pub(crate) fn prepare_accepts(
+    listener: &TcpListener,
+    until: &ServeUntil<'_>,
+) -> Result<(), ToolFault>
+    ensures { IfErr result (λ e. e ≡ Device) }
+{
+    match until {
+        ServeUntil::Connections(_) => Ok(()),
+        ServeUntil::Stop(_) => match limit_accepts(listener, Duration::from_millis(TICK_MS)) {
+            Ok(()) => Ok(()),
+            Err(_) => Err(ToolFault::Device),
+        },
+    }
 }
 
-/// Returns the next connection, if one comes within a tick. If an accept fails, for example because
-/// no descriptor is left, it is counted, and followed by a sleep of a tick; one that was
-/// interrupted, or whose client has gone, is not.
-pub fn next_connection<C: Clock>(
+/// Returns the next connection. In a service until a stop it is `None` if none comes within a tick.
+/// If an accept fails there, for example because no descriptor is left, it is counted, and followed
+/// by a sleep of a tick; one that was interrupted, or whose client has gone, is not. In a service
+/// for a number of connections an accept that brings none is a fault.
+pub(crate) fn next_connection<C: Clock>(
     clock: &C,
     listener: &TcpListener,
-    counters: &ReceiveCounters,
-) -> Option<TcpStream> {
-    match accept(listener) {
-        Ok(stream) => stream,
-        Err(_) => {
-            counters.refuse_connection();
+    context: &ServerContext<'_>,
+) -> Result<Option<TcpStream>, ToolFault>
+    ensures { IfErr result (λ e. e ≡ Device) }
+{
+    match (accept(listener), &context.until) {
+        (Ok(Some(stream)), _) => Ok(Some(stream)),
+        (_, ServeUntil::Connections(_)) => Err(ToolFault::Device),
+        (Ok(None), _) => Ok(None),
+        (Err(_), _) => {
+            context.counters.refuse_connection();
             thread::sleep(clock, Duration::from_millis(TICK_MS));
-            None
+            Ok(None)
         }
     }
 }

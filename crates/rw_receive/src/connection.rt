@@ -1,7 +1,12 @@
 //! A connection that is served in a thread, or that has ended.
 
+ghost use Rattle.std.specs.Prelude.{◌≡◌, IfErr};
+ghost use Rattle.rw_text.specs.declared.tool_fault.ToolFault.TheVariants.{OutOfMemory};
+
 use crate::serving::{ServerContext, serve_connection};
+use crate::until::ServeUntil;
 use rw_recv_head::{Admit, Holding, Naming, Seat, SharedHead};
+use rw_text::ToolFault;
 use std::alloc::Global;
 use std::net::TcpStream;
 use std::sync::atomic::{AtomicBool, Ordering};
@@ -27,8 +32,21 @@ pub(crate) enum Connection<L: Naming> {
     Ended(Seat<L>),
 }
 
-/// Serves a connection in a thread of the scope, or in this one if no thread can be made. A
-/// connection for which memory runs out is closed.
+/// Closes a connection for which memory ran out. It ends a service for a number of connections.
+fn close_unserved<L: Naming>(
+    context: &ServerContext<'_>,
+    seat: Seat<L>,
+) -> Result<Connection<L>, ToolFault>
+    ensures { IfErr result (λ e. e ≡ OutOfMemory) }
+{
+    match &context.until {
+        ServeUntil::Connections(_) => Err(ToolFault::OutOfMemory),
+        ServeUntil::Stop(_) => Ok(Connection::Ended(seat)),
+    }
+}
+
+/// Serves a connection in a thread of the scope. If no thread can be made, a service until a stop
+/// serves it in this one, and one for a number of connections ends.
 pub(crate) fn start_connection<
     's,
     E,
@@ -42,21 +60,24 @@ pub(crate) fn start_connection<
     shared: &'s SharedHead<L, H>,
     stream: TcpStream,
     seat: Seat<L>,
-) -> Connection<L> {
+) -> Result<Connection<L>, ToolFault>
+    ensures { IfErr result (λ e. e ≡ OutOfMemory) }
+{
     let Ok(has_ended) = Arc::new(context.alloc, AtomicBool::new(false)) else {
-        return Connection::Ended(seat);
+        return close_unserved(context, seat);
     };
     let Ok(theirs) = Arc::try_clone(&has_ended) else {
-        return Connection::Ended(seat);
+        return close_unserved(context, seat);
     };
     let work = move || {
         let seat = serve_connection(rt, context, shared, stream, seat);
         theirs.store(true, Ordering::SeqCst);
         seat
     };
-    match scope.spawn(work) {
-        Ok(thread) => Connection::Active(ActiveConnection { thread, has_ended }),
-        Err(refused) => Connection::Ended((refused.value)()),
+    match (scope.spawn(work), &context.until) {
+        (Ok(thread), _) => Ok(Connection::Active(ActiveConnection { thread, has_ended })),
+        (Err(_), ServeUntil::Connections(_)) => Err(ToolFault::OutOfMemory),
+        (Err(refused), ServeUntil::Stop(_)) => Ok(Connection::Ended((refused.value)())),
     }
 }
 

@@ -5,9 +5,8 @@
 mod accepting;
 mod closing;
 mod connection;
-mod connections;
 mod counting_seat;
-mod final_head;
+mod held;
 mod pace;
 mod receive;
 mod seat_pool;
@@ -15,6 +14,7 @@ mod seat_request;
 mod service;
 mod serving;
 mod timed_stream;
+mod until;
 
-pub use final_head::FinalHead;
-pub use receive::{Service, run_receive, run_receive_until, serve_connections, serve_until_stop};
+pub use receive::{Received, Service, run_receive, serve_and_print, serve_connections};
+pub use until::ServeUntil;

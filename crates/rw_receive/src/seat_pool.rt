@@ -1,12 +1,14 @@
 //! Seats that connections take, and give back as they end.
 
-ghost use Rattle.std.specs.Prelude.{◌≡◌, ◌<◌, IfOk, vec_len};
+ghost use Rattle.std.specs.Prelude.{◌≡◌, ◌<◌, ◌⊎◌, IfOk, IfErr, OnOk, vec_len};
+ghost use Rattle.rw_text.specs.declared.tool_fault.ToolFault.TheVariants.{OutOfMemory, Device};
 
 use crate::accepting::next_connection;
 use crate::connection::{ActiveConnection, Connection, start_connection};
 use crate::serving::ServerContext;
 use rw_follow::StopRequest;
 use rw_recv_head::{Admit, Holding, Naming, Seat, SharedHead};
+use rw_text::ToolFault;
 use std::alloc::{AllocError, Global};
 use std::collections::VecDeque;
 use std::marker::Model;
@@ -86,7 +88,7 @@ impl<L: Naming> SeatPool<L> {
         ensures { self.new ≡ self.old }
     {
         for _ in rt.forever() {
-            if self.has_free(rt) || context.signal.request() != StopRequest::Continue {
+            if self.has_free(rt) || context.until.request() != StopRequest::Continue {
                 break;
             }
             context.seat_request.make();
@@ -108,8 +110,9 @@ impl<L: Naming> SeatPool<L> {
     }
 }
 
-/// Serves the next connection in a thread of the scope, if one comes within a tick. If no seat is
-/// free, it waits for one; if a stop is requested before, the connection is closed.
+/// Serves the next connection in a thread of the scope, and returns whether one has come: in a
+/// service until a stop, if it comes within a tick. If no seat is free, it waits for one; if a stop
+/// is requested before, the connection is closed.
 fn serve_next<
     's,
     E,
@@ -123,25 +126,27 @@ fn serve_next<
     listener: &TcpListener,
     context: &'s ServerContext<'s>,
     shared: &'s SharedHead<L, H>,
-)
-    ensures { pool.new ≡ pool.old }
+) -> Result<bool, ToolFault>
+    ensures kept { OnOk result (pool.new ≡ pool.old) }
+    ensures faults { IfErr result (λ e. (e ≡ OutOfMemory) ⊎ (e ≡ Device)) }
 {
     pool.free_ended(rt, SOME);
-    let Some(stream) = next_connection(rt, listener, context.counters) else {
-        return;
+    let Some(stream) = next_connection(rt, listener, context)? else {
+        return Ok(false);
     };
     pool.wait_for_seat(rt, context);
     let Some(seat) = pool.free.pop() else {
-        return;
+        return Ok(true);
     };
-    match start_connection(scope, rt, context, shared, stream, seat) {
+    match start_connection(scope, rt, context, shared, stream, seat)? {
         Connection::Active(active) => pool.active.push_back_reserved(active),
         Connection::Ended(seat) => pool.free.push_reserved(seat),
     }
+    Ok(true)
 }
 
-/// Serves connection after connection until a stop is requested.
-pub fn serve_until_stopped<
+/// Serves connection after connection until the service ends.
+pub(crate) fn serve_each<
     's,
     E,
     L: Holding<H> + Send + Sync + 's,
@@ -154,13 +159,18 @@ pub fn serve_until_stopped<
     listener: &TcpListener,
     context: &'s ServerContext<'s>,
     shared: &'s SharedHead<L, H>,
-)
-    ensures { pool.new ≡ pool.old }
+) -> Result<(), ToolFault>
+    ensures kept { OnOk result (pool.new ≡ pool.old) }
+    ensures faults { IfErr result (λ e. (e ≡ OutOfMemory) ⊎ (e ≡ Device)) }
 {
+    let mut accepted: u64 = 0;
     for _ in rt.forever() {
-        if context.signal.request() != StopRequest::Continue {
+        if context.until.is_reached(accepted) {
             break;
         }
-        serve_next(pool, scope, rt, listener, context, shared);
+        if serve_next(pool, scope, rt, listener, context, shared)? {
+            accepted = accepted.saturating_add(1);
+        }
     }
+    Ok(())
 }

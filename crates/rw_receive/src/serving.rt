@@ -4,8 +4,8 @@ use crate::closing::close_gracefully;
 use crate::counting_seat::CountingSeat;
 use crate::seat_request::SeatRequest;
 use crate::timed_stream::{Stage, TimedStream};
+use crate::until::ServeUntil;
 use rw_endpoint::serve;
-use rw_follow::StopSignal;
 use rw_head::Limits;
 use rw_metrics::ReceiveCounters;
 use rw_recv_head::{Admit, Holding, Seat, SharedHead};
@@ -23,8 +23,8 @@ pub struct ServerContext<'a> {
     pub alloc: Global,
     /// The limits of the head.
     pub limits: &'a Limits,
-    /// Once it is set, connections end.
-    pub signal: &'a StopSignal,
+    /// What ends the service. Once a stop is requested, connections end.
+    pub until: ServeUntil<'a>,
     /// For how many milliseconds a connection may be silent.
     pub idle_ms: Bounded<10, 3_600_000>,
     /// How many milliseconds a request may take, and a reply; one more for each byte of a request.

@@ -117,7 +117,7 @@ impl<'s, C: Clock + Copy> TimedStream<'s, C> {
 
     /// Returns whether the connection is not to wait any more.
     fn is_over(&self) -> bool {
-        match self.context.signal.request() {
+        match self.context.until.request() {
             StopRequest::Continue => false,
             StopRequest::Finish => !self.stage.get().is_inside,
             StopRequest::Abort => true,
@@ -200,7 +200,7 @@ impl<C: Clock + Copy> Write for TimedStream<'_, C> {
         let mut stream = self.stream;
         self.begin_reply();
         for _ in 0..self.patience.ticks {
-            if self.context.signal.request() == StopRequest::Abort {
+            if self.context.until.request() == StopRequest::Abort {
                 break;
             }
             if self.is_late() {

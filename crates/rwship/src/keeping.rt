@@ -1,10 +1,7 @@
 //! The command `receive` with a folder in which it keeps what it takes.
 
-use crate::bounds::{service_of, stop_file_of};
 use crate::ending::{report_output_fault, report_result};
 use crate::reporting::is_watched;
-use crate::stopping::{report_write_error, stop_signal};
-use rw_follow::StopSignal;
 use rw_head::Limits;
 use rw_kept_folder::{
     FaultCause, FolderError, FolderFault, FolderJournal, FolderMonitor, FolderRules, OpenFolder,
@@ -13,18 +10,14 @@ use rw_kept_folder::{
 use rw_kept_head::{HeadReading, KeptHead, Oddities, OpenError, Opened};
 use rw_kept_log::{Damage, ReopenError, whole_len};
 use rw_metrics::ReceiveCounters;
-use rw_receive::{FinalHead, serve_connections, serve_until_stop};
+use rw_receive::Received;
 use rw_text::ToolFault;
-use rw_types::Std;
-use rw_words::{Receiving, Until};
-use std::alloc::{AllocError, Global};
+use rw_words::Receiving;
+use std::alloc::Global;
 use std::fs::{File, TryLockError};
 use std::io::{Error, Read};
-use std::net::TcpListener;
 use std::process::ExitCode;
-use std::sync::{Arc, Wait};
-use std::thread::Threads;
-use std::time::Clock;
+use std::sync::Arc;
 use std::{fs, io};
 
 /// A log in the files of a folder.
@@ -316,82 +309,6 @@ pub fn report_opened(rt: &HostRuntime, dir: &str, opened: &Opened<Log>, receivin
     }
 }
 
-/// Serves as many connections as asked for, over a head whose log is in a folder.
-fn serve_some<R: Threads + Wait + Clock + Sync>(
-    rt: &HostRuntime,
-    threads: &R,
-    limits: &Limits,
-    listener: TcpListener,
-    receiving: &Receiving<'_>,
-    counters: &ReceiveCounters,
-    head: FolderHead,
-) -> Result<FinalHead<FolderHead>, ToolFault> {
-    let service = service_of(receiving, counters);
-    serve_connections(threads, rt.alloc(), limits, service, listener, head)
-}
-
-/// Returns the stop signal of a receiver that keeps a log. Whether that has failed is reported at
-/// once, and sets the signal too if that is asked for.
-fn stop_signal_of<R: Threads>(
-    rt: &HostRuntime,
-    threads: &R,
-    receiving: &Receiving<'_>,
-    counters: &Arc<ReceiveCounters, Global>,
-) -> Result<Arc<StopSignal, Global>, AllocError> {
-    let signal = stop_signal(rt, threads, stop_file_of(receiving), None)?;
-    report_write_error(
-        rt,
-        threads,
-        receiving.dir.unwrap_or(""),
-        counters,
-        &signal,
-        receiving.ends_on_write_error,
-    )?;
-    Ok(signal)
-}
-
-/// Serves connections until a stop is requested, over a head whose log is in a folder.
-fn serve_until<R: Threads + Wait + Clock + Sync>(
-    rt: &HostRuntime,
-    threads: &R,
-    limits: &Limits,
-    listener: TcpListener,
-    receiving: &Receiving<'_>,
-    counters: &Arc<ReceiveCounters, Global>,
-    head: FolderHead,
-) -> Result<FinalHead<FolderHead>, ToolFault> {
-    let signal = stop_signal_of(rt, threads, receiving, counters)?;
-    let service = service_of(receiving, counters);
-    serve_until_stop(
-        threads,
-        rt.alloc(),
-        limits,
-        service,
-        &signal,
-        listener,
-        head,
-    )
-}
-
-/// Serves connections for as long as asked for, over a head whose log is in a folder. Returns the
-/// head that they leave.
-pub fn serve_kept<R: Threads + Wait + Clock + Sync>(
-    rt: &HostRuntime,
-    threads: &R,
-    limits: &Limits,
-    listener: TcpListener,
-    receiving: &Receiving<'_>,
-    counters: &Arc<ReceiveCounters, Global>,
-    head: FolderHead,
-) -> Result<FinalHead<FolderHead>, ToolFault> {
-    match &receiving.until {
-        Until::Connections(_) => {
-            serve_some(rt, threads, limits, listener, receiving, counters, head)
-        }
-        _ => serve_until(rt, threads, limits, listener, receiving, counters, head),
-    }
-}
-
 /// Says why nothing more could be kept in a folder, and what to do.
 fn print_write_fault(rt: &HostRuntime, dir: &str, fault: FolderFault) {
     let _ = eprintln!(rt; "  cannot keep samples in {dir}: {fault}");
@@ -400,52 +317,25 @@ fn print_write_fault(rt: &HostRuntime, dir: &str, fault: FolderFault) {
     );
 }
 
-/// Prints what a folder holds, if that is wanted.
-fn print_held(
-    rt: &HostRuntime,
-    receiving: &Receiving<'_>,
-    served: &FinalHead<FolderHead>,
-) -> Result<(), ToolFault> {
-    if receiving.is_quiet {
-        return Ok(());
-    }
-    served.print(rt.alloc(), &mut Std::new(rt.stdout()))
-}
-
-/// Prints what a folder holds, if that is wanted, and reports how keeping ended. Returns the exit
-/// status.
-fn report_final(
-    rt: &HostRuntime,
-    dir: &str,
-    receiving: &Receiving<'_>,
-    served: FinalHead<FolderHead>,
-    is_explained: bool,
-) -> ExitCode {
-    let printed = print_held(rt, receiving, &served);
-    let head = served.into_holder();
-    let status = match printed {
-        Err(ToolFault::Device) => report_output_fault(rt, is_explained),
-        Err(fault) => report_result(rt, Err(fault)),
-        Ok(()) if head.fault().is_none() => ExitCode::SUCCESS,
-        Ok(()) => report_result(rt, Err(ToolFault::Device)),
-    };
-    if let Some(fault) = head.journal().files().fault() {
-        print_write_fault(rt, dir, fault);
-    }
-    status
-}
-
-/// Prints what a folder holds, if that is wanted, and reports how serving and keeping ended.
-/// Returns the exit status.
+/// Reports how serving, printing what is held, and keeping ended. Returns the exit status.
 pub fn report_kept(
     rt: &HostRuntime,
     dir: &str,
-    receiving: &Receiving<'_>,
-    outcome: Result<FinalHead<FolderHead>, ToolFault>,
+    outcome: Result<Received<FolderHead>, ToolFault>,
     is_explained: bool,
 ) -> ExitCode {
-    match outcome {
-        Ok(served) => report_final(rt, dir, receiving, served, is_explained),
+    let Received { holder, printed } = match outcome {
+        Ok(received) => received,
+        Err(fault) => return report_result(rt, Err(fault)),
+    };
+    let status = match printed {
+        Err(ToolFault::Device) => report_output_fault(rt, is_explained),
         Err(fault) => report_result(rt, Err(fault)),
+        Ok(()) if holder.fault().is_none() => ExitCode::SUCCESS,
+        Ok(()) => report_result(rt, Err(ToolFault::Device)),
+    };
+    if let Some(fault) = holder.journal().files().fault() {
+        print_write_fault(rt, dir, fault);
     }
+    status
 }

@@ -1,7 +1,6 @@
 //! The program `rwship`.
 #![tactic(auto)]
 
-mod bounds;
 mod ending;
 mod engines;
 mod explaining;

@@ -1,7 +1,10 @@
 //! Reports the progress of the work.
 
+ghost use Rattle.std.specs.Prelude.{◌≡◌};
+
 use rw_metrics::{Counters, Screen, serve_metrics, show_progress, write_end};
 use rw_text::{Address, ToolFault};
+use rw_types::{Failed, Sink};
 use rw_words::Reporting;
 use std::io::{Error, IsTerminal};
 use std::net::TcpListener;
@@ -75,5 +78,56 @@ pub fn begin_reporting<R: Threads>(
 pub fn end_reporting(rt: &HostRuntime, reporting: &Reporting<'_>, counters: &Counters) {
     if reporting.has_progress {
         write_end(&mut rt.stderr(), screen_of(rt), rt.alloc(), counters);
+    }
+}
+
+/// An output. Before its first byte the final values of the counters are shown.
+#[derive(Drop)]
+pub struct OutputAfterReport<'a, W> {
+    rt: &'a HostRuntime,
+    reporting: &'a Reporting<'a>,
+    counters: &'a Counters,
+    has_reported: bool,
+    output: W,
+}
+
+impl<'a, W: Sink> OutputAfterReport<'a, W> {
+    /// Returns the output before its first byte.
+    pub fn new(
+        rt: &'a HostRuntime,
+        reporting: &'a Reporting<'a>,
+        counters: &'a Counters,
+        output: W,
+    ) -> OutputAfterReport<'a, W> {
+        OutputAfterReport {
+            rt,
+            reporting,
+            counters,
+            has_reported: false,
+            output,
+        }
+    }
+
+    /// Shows the final values of the counters, if they were not shown yet.
+    pub fn report(&mut self)
+        ensures { self.new.output ≡ self.old.output }
+    {
+        if !self.has_reported {
+            end_reporting(self.rt, self.reporting, self.counters);
+            self.has_reported = true;
+        }
+    }
+}
+
+impl<W: Sink> Sink for OutputAfterReport<'_, W> {
+    ghost contents = { λ o. W.contents o.output };
+
+    ghost has_failed = { λ o. W.has_failed o.output };
+
+    ghost room = { λ o. W.room o.output };
+
+    fn write(&mut self, bytes: &[u8]) -> Result<usize, Failed> {
+        self.report();
+        self.output.write(bytes)
     }
 }

@@ -5,7 +5,7 @@ use rw_head::{Capacity, Limits};
 use rw_kept_folder::{FolderJournal, FolderMonitor, FolderRules, OpenFolder, open_journal};
 use rw_kept_head::{HeadReading, KeptHead};
 use rw_metrics::ReceiveCounters;
-use rw_receive::{Service, serve_until_stop};
+use rw_receive::{ServeUntil, Service, serve_connections};
 use rw_state_text::push_store;
 use rw_text::ToolFault;
 use rw_types::Bounded;
@@ -66,6 +66,7 @@ pub(crate) fn serve<R: Threads + Wait + Clock + Sync>(
     head: FolderHead,
 ) -> Result<bool, ToolFault> {
     let service = Service {
+        until: ServeUntil::Stop(bounds.signal),
         most: Bounded::new(2),
         idle_ms: Bounded::new(60_000),
         request_ms: Bounded::new(60_000),
@@ -75,9 +76,8 @@ pub(crate) fn serve<R: Threads + Wait + Clock + Sync>(
         },
         counters: bounds.counters,
     };
-    let (limits, signal) = (bounds.limits, bounds.signal);
-    let served = serve_until_stop(rt, alloc, limits, service, signal, listener, head)?;
-    Ok(served.into_holder().fault().is_some())
+    let head = serve_connections(rt, alloc, bounds.limits, service, listener, head)?;
+    Ok(head.fault().is_some())
 }
 
 /// Returns how often a receiver has answered with a status, or 0 if memory runs out.

@@ -2,7 +2,7 @@
 
 use rw_head::Capacity;
 use rw_metrics::{ReceiveCounters, SendCounters};
-use rw_receive::{Service, run_receive};
+use rw_receive::{ServeUntil, Service, run_receive};
 use rw_settings::{Settings, read_settings};
 use rw_shard_core::{Target, request_bytes};
 use rw_tcp::{Sleep, TcpTransport, look_up};
@@ -211,6 +211,7 @@ fn are_served<
         || read_by(rt, alloc, client, address, request),
         || {
             let service = Service {
+                until: ServeUntil::Connections(most.get()),
                 most,
                 idle_ms: Bounded::new(60_000),
                 request_ms: Bounded::new(60_000),
@@ -451,6 +452,7 @@ fn fails_without_waiting<
     listener.set_nonblocking(true)?;
     let counters = ReceiveCounters::new(alloc)?;
     let service = Service {
+        until: ServeUntil::Connections(1_000),
         most: Bounded::new(1_000),
         idle_ms: Bounded::new(60_000),
         request_ms: Bounded::new(60_000),

@@ -4,7 +4,7 @@ use crate::counted::holds_as_printed;
 use crate::logs::{BEHIND, FALLS, NAMES, UP, segment};
 use rw_head::Capacity;
 use rw_metrics::{ReceiveCounters, SendCounters};
-use rw_receive::{Service, run_receive};
+use rw_receive::{ServeUntil, Service, run_receive};
 use rw_send::{SendOptions, StopFlag, TcpConnect, run_send};
 use rw_sender::Connect;
 use rw_settings::read_settings;
@@ -118,6 +118,7 @@ fn receives<R: Threads + Wait + Clock + Sync>(
         return false;
     };
     let service = Service {
+        until: ServeUntil::Connections(most.get()),
         most,
         idle_ms: Bounded::new(60_000),
         request_ms: Bounded::new(60_000),

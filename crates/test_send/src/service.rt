@@ -7,7 +7,7 @@ use crate::rows::none_is_wrong;
 use rw_follow::StopSignal;
 use rw_head::Capacity;
 use rw_metrics::ReceiveCounters;
-use rw_receive::{Service, run_receive, run_receive_until};
+use rw_receive::{ServeUntil, Service, run_receive};
 use rw_settings::{Settings, read_settings};
 use rw_types::{Bounded, Room};
 use std::alloc::Global;
@@ -75,9 +75,19 @@ fn bounds_of(row: &Row<'_>) -> Option<Bounds> {
     })
 }
 
-/// Returns a service with these bounds.
-fn service_of(bounds: Bounds, counters: &ReceiveCounters) -> Service<'_> {
+/// Returns a service with these bounds. Without the signal it serves as many connections as it may
+/// at once.
+fn service_of<'a>(
+    bounds: Bounds,
+    signal: Option<&'a StopSignal>,
+    counters: &'a ReceiveCounters,
+) -> Service<'a> {
+    let until = match signal {
+        Some(signal) => ServeUntil::Stop(signal),
+        None => ServeUntil::Connections(bounds.most.get()),
+    };
     Service {
+        until,
         most: bounds.most,
         idle_ms: bounds.idle_ms,
         request_ms: bounds.request_ms,
@@ -113,12 +123,8 @@ fn does_with<R: Net<Stream = TcpStream, Listener = TcpListener> + Threads + Wait
         rt,
         || read_by(&door, clients),
         || {
-            let service = service_of(bounds, &counters);
-            if has_sign {
-                run_receive_until(rt, alloc, settings, service, &signal, listener, printed)
-            } else {
-                run_receive(rt, alloc, settings, service, listener, printed)
-            }
+            let service = service_of(bounds, has_sign.then_some(&signal), &counters);
+            run_receive(rt, alloc, settings, service, listener, printed)
         },
     );
     let is_counted = holds_as_printed(alloc, &counters, row.printed);

@@ -2,8 +2,8 @@
 
 use rw_sender::Connect;
 use rw_tool::{
-    Segments, Service, ToolFault, Watch, run_body, run_follow, run_log, run_plan, run_receive,
-    run_receive_until, run_replay, run_send,
+    Segments, ServeUntil, Service, ToolFault, Watch, run_body, run_follow, run_log, run_plan,
+    run_receive, run_replay, run_send,
 };
 use rw_types::{Sink, Source};
 use rw_world::{Event, How, Outcome, Piece, Refused, World};
@@ -14,7 +14,7 @@ use std::time::Clock;
 /// The types of rw_world and rw_tool.
 pub type Types<'a> = (
     (Event, How, Piece, World, Refused, Outcome),
-    (ToolFault, Service<'a>),
+    (ToolFault, Service<'a>, ServeUntil<'a>),
 );
 
 /// The steps of a world.
@@ -54,10 +54,9 @@ pub fn of_senders<
     let _ = run_send::<R, S, C, W>;
 }
 
-/// The engines of a receiver.
+/// The engine of a receiver.
 pub fn of_receivers<R: Threads + Wait + Clock + Sync, W: Sink>() {
     let _ = run_receive::<R, W>;
-    let _ = run_receive_until::<R, W>;
 }
 
 /// The engine that follows a log.

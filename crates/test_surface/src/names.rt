@@ -112,6 +112,7 @@ pub use rw_tool::SegmentFile;
 pub use rw_tool::Segments;
 pub use rw_tool::SendCounters;
 pub use rw_tool::SendOptions;
+pub use rw_tool::ServeUntil;
 pub use rw_tool::Service;
 pub use rw_tool::Settings;
 pub use rw_tool::SettingsFault;

@@ -1,5 +1,5 @@
 use Rattle.std.proofs.Common.{◌≡◌}
-use Rattle.rw_receive.proofs.seat_pool.serve_until_stopped.Given as goal
+use Rattle.rw_receive.proofs.seat_pool.serve_each.Given as goal
 
 abbrev pub invariant-loop : goal.invariant-loop
 invariant-loop g l = l.pool ≡ l.fn.pool

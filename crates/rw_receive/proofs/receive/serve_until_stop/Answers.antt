@@ -1,7 +1,0 @@
-use Rattle.std.proofs.Common.{IfOk, Some, subst}
-use Rattle.rw_receive.specs.Receiving.{HasServed}
-use Rattle.rw_receive.proofs.receive.serve_until_stop.Goals as goal
-
-pub returns-clause-received : goal.returns-clause-received
-returns-clause-received g c =
-    subst (λ count. IfOk c.receive_until.result (HasServed g.H.Admit.state g.H.Admit.admits (g.H.Admit.state c.args.holder) (Some c.args.holder) count)) c.get-most.ensures.number c.receive_until.ensures.received
