@@ -28,11 +28,12 @@ use Rattle.rw_shard_core.specs.declared.outcome.Outcome.{Outcome}
 use Rattle.rw_shard_core.specs.declared.outcome.Outcome.TheVariants as outcome
 use Rattle.rw_machine.specs.Worlds.{Setup}
 use Rattle.rw_machine.specs.Promises.{CanWork}
-use Rattle.rw_simulation.specs.Arrivals.{Arrival, IsOneReceiver}
+use Rattle.rw_restarts.specs.Arrivals.{Arrival, AreOfSteps, AreExchangesOf}
+use Rattle.rw_restarts.proofs.shared.ListLemmas.{map_get, get_map}
+use Rattle.rw_simulation.specs.OneReceivers.{IsOneReceiver}
 use Rattle.rw_simulation.specs.Seatings.{IsSeatOf, AreSeated}
 use Rattle.rw_simulation.specs.StoppedRuns.{IsMachineOf, first_number}
-use Rattle.rw_simulation.specs.Received.{AreOfSteps, AreExchangesOf, IsHeld}
-use Rattle.rw_simulation.proofs.shared.Pasts.{map_get, get_map}
+use Rattle.rw_simulation.specs.Received.{IsHeld}
 use Rattle.rw_simulation.proofs.shared.Seatings.{seats-as-one}
 use Rattle.rw_simulation.proofs.shared.ReceivedRuns.{receives-in-order, receives-abandoned}
 use Rattle.rw_in_memory.specs.Lines.{SeatLine, AreMade, IsSeatLine}

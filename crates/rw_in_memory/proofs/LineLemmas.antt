@@ -12,9 +12,9 @@ use Rattle.rw_worker.specs.declared.transport.Lost.{Lost}
 use Rattle.rw_head.specs.Head.{State}
 use Rattle.rw_recv_head.specs.declared.question.Question.{Question}
 use Rattle.rw_recv_head.specs.Seats.{Seated, HasAsked, own}
+use Rattle.rw_restarts.proofs.shared.ListLemmas.{get-either}
 use Rattle.rw_simulation.specs.SharedReceivers.{IsAnsweredAt}
 use Rattle.rw_simulation.specs.Seatings.{Asks, AreAskedFor, IsSeatOf}
-use Rattle.rw_simulation.proofs.shared.Pasts.{get-either}
 use Rattle.rw_simulation.proofs.shared.Seatings.{last_or}
 use Rattle.rw_simulation.proofs.shared.Passed.{passed, passes_at}
 use Rattle.rw_in_memory.specs.Lines.{AreMade}

@@ -30,9 +30,8 @@ use Rattle.rw_head.specs.Store.{Store, list_of}
 use Rattle.rw_head.specs.Verdicts.{LabelLimits}
 use Rattle.rw_machine.specs.Worlds.{Setup}
 use Rattle.rw_machine.specs.declared.event.How.{How}
-use Rattle.rw_simulation.specs.Arrivals.{Arrival, Receives}
-use Rattle.rw_simulation.specs.Received.{AreExchangesOf, AreOfSteps}
-use Rattle.rw_simulation.proofs.shared.Pasts.{get_map}
+use Rattle.rw_restarts.specs.Arrivals.{Arrival, Receives, AreExchangesOf, AreOfSteps}
+use Rattle.rw_restarts.proofs.shared.ListLemmas.{get_map}
 use Rattle.rw_restarts.specs.Parts.{points_in}
 use Rattle.rw_restarts.specs.Runs.{SenderRun, SentMessage, acknowledged_by, acknowledged_in}
 use Rattle.rw_restarts.specs.Receivers.{AnswersAs, ReceiverEvent, ReceiverState, state_of}

@@ -40,7 +40,7 @@ use Rattle.rw_kept_log.specs.declared.journal.JournalError.{JournalError}
 use Rattle.rw_kept_log.specs.Additions.{samples_of_labels}
 use Rattle.rw_kept_head.specs.Answered.{KeepsHead, IsKeptAnswer}
 use Rattle.rw_kept_head.specs.Kept.{Kept, SaysWhat, LiesBetween, IsLeft, HasNoChance, ended_with}
-use Rattle.rw_simulation.specs.Arrivals.{Receives}
+use Rattle.rw_restarts.specs.Arrivals.{Receives}
 use Rattle.rw_restarts.specs.Receivers.{IsRestarted, state_of}
 use Rattle.rw_restarts.specs.KeptReceivers.{acknowledged_after}
 use Rattle.rw_restarts.specs.WireReceivers.{RunOfWorkers, WireEvent, Comes, Reopens, ReopensDuring, receiver_state, HasShortBody, HappensOnWire, HoldsLogByWire}

@@ -22,3 +22,4 @@ mod TurnLemmas
 mod WireExampleLemmas
 mod WireLemmas
 mod WorkerLemmas
+pub mod shared

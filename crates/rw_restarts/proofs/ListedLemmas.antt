@@ -41,9 +41,8 @@ use Rattle.rw_sender.specs.Shipping.{Shipping, HasStopped, HasEndedAs}
 use Rattle.rw_sender.specs.declared.report.Report.{Report}
 use Rattle.rw_sender.proofs.shared.ListingLemmas.{resolved_left}
 use Rattle.rw_sender.proofs.shared.SpreadLemmas.{none_below, placed_spread}
-use Rattle.rw_simulation.specs.Received.{is_left}
-use Rattle.rw_simulation.specs.StoppedRuns.{IsNamedIn}
-use Rattle.rw_simulation.proofs.shared.Pasts.{get-first, get-within, get_map, map_get}
+use Rattle.rw_restarts.specs.Listed.{is_left, IsNamedIn}
+use Rattle.rw_restarts.proofs.shared.ListLemmas.{get-first, get-within, get_map, map_get}
 use Rattle.rw_head.specs.Order.{Point, holds}
 use Rattle.rw_head.proofs.shared.OrderRule.{holds_append, holds_right}
 use Rattle.rw_restarts.specs.Runs.{SentMessage, acknowledged_in}

@@ -19,7 +19,7 @@ use Rattle.rw_head.specs.Growth.{EachRises}
 use Rattle.rw_head.specs.Lists.{IsEarlier}
 use Rattle.rw_head.specs.Store.{list_of}
 use Rattle.rw_head.proofs.shared.StoreLemmas.{list_of-empty, list_of-with_list}
-use Rattle.rw_simulation.specs.Arrivals.{Arrival, Receives, IsAnsweredBy}
+use Rattle.rw_restarts.specs.Arrivals.{Arrival, Receives, IsAnsweredBy}
 use Rattle.rw_restarts.specs.Stopped.{IsGrown, IsOpenReceiver}
 use Rattle.rw_restarts.specs.Examples.{example_series, first, with_first}
 use Rattle.rw_restarts.specs.WireExamples as wire

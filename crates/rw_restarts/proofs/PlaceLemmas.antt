@@ -7,7 +7,7 @@ use Rattle.rw_shard_core.specs.declared.config.Target.{Target}
 use Rattle.rw_worker.specs.Steps.{Step, exchanges_of}
 use Rattle.rw_worker.specs.Transcript.{Exchange}
 use Rattle.rw_fleet.specs.ShardHistories.{ShardHistory}
-use Rattle.rw_simulation.proofs.shared.Pasts.{get-first, get-within}
+use Rattle.rw_restarts.proofs.shared.ListLemmas.{get-first, get-within}
 use Rattle.rw_restarts.specs.Parts.{points_in}
 use Rattle.rw_restarts.specs.Runs.{SentMessage}
 use Rattle.rw_restarts.specs.Workers.{AreExchangesOfMessages, IsExchangeOfMessage}

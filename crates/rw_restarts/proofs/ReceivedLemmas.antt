@@ -12,7 +12,7 @@ use Rattle.rw_machine.specs.Worlds.{Setup}
 use Rattle.rw_machine.specs.Steps.{endpoint_answer}
 use Rattle.rw_machine.specs.declared.event.How.{How}
 use Rattle.rw_machine.specs.declared.event.How.TheVariants.{Plain, Busy, OutOfMemory}
-use Rattle.rw_simulation.specs.Arrivals.{Receives}
+use Rattle.rw_restarts.specs.Arrivals.{Receives}
 use Rattle.rw_restarts.specs.Runs.{SentMessage}
 use Rattle.rw_restarts.specs.Workers.{IsExchangeOfMessage}
 use Rattle.rw_restarts.specs.Receivers.{AnswersAs, state_of}

@@ -1,16 +1,14 @@
 -- A shipper that was stopped is a run of a sender.
-use Rattle.std.proofs.Common.{◌≡◌, ℕ, zero, suc, ◌+◌, ◌-◌, ◌<◌, ◌≤◌, ◌==◌, true, true≢false, List, [], ◌∷◌, ◌++◌, length, map, append-nil, length-append, Some, slice_get, refl, sym, ap, ◌∙◌, subst, arith}
-use Rattle.std.proofs.lemmas.List.{length-drop, length-map, nil_from_length}
-use Rattle.std.proofs.lemmas.Bool.{and_parts, eqb-true}
+use Rattle.std.proofs.Common.{◌≡◌, ℕ, zero, suc, ◌+◌, ◌<◌, ◌≤◌, ◌==◌, true, List, [], ◌∷◌, ◌++◌, length, map, append-nil, length-append, Some, slice_get, refl, sym, ap, ◌∙◌, subst, arith}
+use Rattle.std.proofs.lemmas.List.{nil_from_length}
+use Rattle.std.proofs.lemmas.Bool.{and_parts}
 use Rattle.std.proofs.lemmas.Option.{none-some, same_Some}
 use Rattle.rw_types.specs.Beginnings.{Begins}
 use Rattle.rw_types.specs.Labels.{Labels}
-use Rattle.rw_types.specs.declared.place.Place.{Place}
 use Rattle.rw_types.specs.declared.entry.Entry.{Entry}
 use Rattle.rw_relabel.specs.declared.choice.Choice.{Choice}
-use Rattle.rw_plain_queue.specs.Items.{Placed, samples_in, places_in}
+use Rattle.rw_plain_queue.specs.Items.{Placed, samples_in}
 use Rattle.rw_plain_queue.specs.declared.item.Item.{Item}
-use Rattle.rw_plain_queue.specs.declared.item.Item.TheVariants.{Sample, Flush, End}
 use Rattle.rw_shard_core.specs.Shard.{pending}
 use Rattle.rw_shard_core.specs.declared.outcome.Outcome.{Outcome}
 use Rattle.rw_shard_core.specs.declared.outcome.Outcome.TheVariants as outcome
@@ -18,9 +16,7 @@ use Rattle.rw_worker.specs.Setups.{start_of}
 use Rattle.rw_worker.specs.Steps.{Step, after, items_of}
 use Rattle.rw_worker.specs.Transcript.{Exchange}
 use Rattle.rw_fleet.specs.ShardHistories.{ShardHistory}
-use Rattle.rw_fleet.specs.Work.{AreResolved, AreWorked, IsWorked, is_compared, is_resolved, lane_of, positions_in, put_of, taken_of}
-use Rattle.rw_fleet.specs.declared.ends.Ends.{Ends}
-use Rattle.rw_fleet.specs.declared.ends.Ends.TheVariants.{Compared, Apart}
+use Rattle.rw_fleet.specs.Work.{AreResolved, AreWorked, IsWorked, is_compared, is_resolved, lane_of, put_of}
 use Rattle.rw_fleet.specs.declared.joined.StoppedShard.{StoppedShard}
 use Rattle.rw_sender.specs.Logs.{sent}
 use Rattle.rw_sender.specs.Placement.{Places, joined_epochs}
@@ -29,7 +25,8 @@ use Rattle.rw_sender.specs.Shipping.{Shipping, HasStopped, HasEndedAs}
 use Rattle.rw_sender.specs.declared.report.Report.{Report}
 use Rattle.rw_sender.proofs.shared.PlacementLemmas.{get_some, whole_is, whole_placed}
 use Rattle.rw_sender.proofs.shared.ShippingLemmas.{all_is}
-use Rattle.rw_simulation.proofs.shared.Pasts.{get-first, map_get}
+use Rattle.rw_restarts.proofs.shared.EndLemmas.{resolves-all, same_items}
+use Rattle.rw_restarts.proofs.shared.ListLemmas.{get-first, map_get}
 use Rattle.rw_checkpoint.specs.Owed.{owed_of}
 use Rattle.rw_restarts.specs.Workers.{HasResolvedAll}
 use Rattle.rw_restarts.specs.Shards.{AreAllDone, AreDone, HasMadeSteps, HaveMadeSteps, HaveRun, IsRunOfEpochs}
@@ -62,19 +59,6 @@ all_done_from e (x ∷ xs) steps done = (
 )
 
 -- ---- what a shard that has stopped says
-same_items : (e : Ends) → is_compared e ≡ true → put_of e ≡ taken_of e
-same_items (Compared w) h = refl
-same_items (Apart f end) h = absurd (true≢false (sym h))
-
-sample_count : (xs : List Item) → length (places_in xs) ≡ length (samples_in xs)
-sample_count [] = refl
-sample_count (Sample place t word labels ∷ xs) = ap suc (sample_count xs)
-sample_count (Flush ∷ xs) = sample_count xs
-sample_count (End kind ∷ xs) = sample_count xs
-
-none_behind : (all resolved left : ℕ) → left ≡ all - resolved → left ≡ 0 → all ≤ resolved
-none_behind all resolved left e h = omega arith
-
 -- all is resolved if as many are
 all_resolved : (all resolved more : List Placed) → all ≡ resolved ++ more → length all ≤ length resolved → resolved ≡ all
 all_resolved all resolved more is few =
@@ -89,19 +73,15 @@ module _ {T : Type 0} (tells : T → Type 0) (seen : T → List Exchange) (is_fo
   IsDone lane steps = (items_of steps ≡ lane.put) × HasResolvedAll lane.setup steps
 
   done_one : (j : StoppedShard T) (w : IsWorked tells seen is_for j) → is_resolved j ≡ true → IsDone (lane_of j) w.report.steps
-  done_one j w h =
-      let parts = and_parts (is_compared j.finished.ends) (length j.abandoned.items == 0) h in
-      let items : items_of w.report.steps ≡ put_of j.finished.ends = w.report.made.items ∙ sym w.taken ∙ sym (same_items j.finished.ends parts.0) in
-      let count : length (positions_in (put_of j.finished.ends)) ≡ length (samples_in (items_of w.report.steps)) =
-      length-map (places_in (put_of j.finished.ends)) (λ (p : Place). p.pos) ∙ sample_count (put_of j.finished.ends) ∙ ap (λ xs. length (samples_in xs)) (sym items) in
-      let few : length (positions_in (put_of j.finished.ends)) ≤ j.finished.resolved =
-      none_behind (length (positions_in (put_of j.finished.ends))) j.finished.resolved (length j.abandoned.items)
-      (ap length w.abandoned ∙ length-drop j.finished.resolved (positions_in (put_of j.finished.ends))) (eqb-true (length j.abandoned.items) 0 parts.1) in
-      let counted : j.finished.resolved ≡ length (after (start_of j.worker.value) w.report.steps).core.resolved = w.report.counted in (
-        items,
-        all_resolved (samples_in (items_of w.report.steps)) (after (start_of j.worker.value) w.report.steps).core.resolved (pending (after (start_of j.worker.value) w.report.steps).core)
-            (resolved-first j.worker.value w.report.steps w.report.made.allowed) (omega (arith, count, few, counted)),
-      )
+  done_one j w h = (
+    items,
+    all_resolved (samples_in (items_of w.report.steps)) (after (start_of j.worker.value) w.report.steps).core.resolved (pending (after (start_of j.worker.value) w.report.steps).core)
+        (resolved-first j.worker.value w.report.steps w.report.made.allowed)
+        (subst (λ (xs : List Item). length (samples_in xs) ≤ length (after (start_of j.worker.value) w.report.steps).core.resolved) (sym items) (resolves-all tells seen is_for j w h)),
+  )
+    where
+      items : items_of w.report.steps ≡ put_of j.finished.ends
+      items = w.report.made.items ∙ sym w.taken ∙ sym (same_items j.finished.ends (and_parts (is_compared j.finished.ends) (length j.abandoned.items == 0) h).0)
 
   made_at : (js : List (StoppedShard T)) (worked : AreWorked tells seen is_for js) (n : ℕ) (lane : ShardHistory) → slice_get (map lane_of js) n ≡ Some lane → HasMadeSteps lane (steps_at tells seen is_for js worked n)
   made_at [] worked n lane at = absurd (none-some lane at)

@@ -37,7 +37,7 @@ use Rattle.rw_head.specs.Store.{list_of}
 use Rattle.rw_head.specs.Verdicts.{judged}
 use Rattle.rw_head.proofs.shared.StoreLemmas.{list_of-empty}
 use Rattle.rw_machine.specs.declared.event.How.TheVariants.{Plain}
-use Rattle.rw_simulation.specs.Arrivals.{Receives}
+use Rattle.rw_restarts.specs.Arrivals.{Receives}
 use Rattle.rw_restarts.specs.Runs.{SentMessage, SenderRun, IsSentBy}
 use Rattle.rw_restarts.specs.Parts.{AreWithinLimits}
 use Rattle.rw_restarts.specs.Workers.{AreMessagesOfWorker, IsSettledSample}

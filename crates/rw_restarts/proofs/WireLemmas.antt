@@ -23,8 +23,8 @@ use Rattle.rw_head.specs.Store.{Store, list_of}
 use Rattle.rw_head.specs.Verdicts.{LabelLimits, taken_all}
 use Rattle.rw_machine.specs.Worlds.{Setup}
 use Rattle.rw_machine.specs.declared.event.How.{How}
-use Rattle.rw_simulation.specs.Arrivals.{Receives}
-use Rattle.rw_simulation.proofs.shared.Pasts.{get_map, map_get}
+use Rattle.rw_restarts.specs.Arrivals.{Receives}
+use Rattle.rw_restarts.proofs.shared.ListLemmas.{get_map, map_get}
 use Rattle.rw_restarts.specs.Parts.{points_in}
 use Rattle.rw_restarts.specs.Runs.{SentMessage, SenderRun, IsSentBy}
 use Rattle.rw_restarts.specs.Receivers.{ReceiverEvent, Answers, ReceiverState, AnswersAs, Brings, Happens, IsAnsweredAmong, IsReceiverOf, state_of}

@@ -1,9 +1,12 @@
 -- A worker sends its samples, label set by label set.
-use Rattle.std.proofs.Common.{◌≡◌, ◌⊎◌, inl, inr, ℕ, zero, suc, ◌+◌, Bool, true, false, not, ◌&&◌, cond, List, [], ◌∷◌, ◌++◌, length, map, filter, take, append-nil, append_assoc, Some, Result, Ok, Err, slice_get, refl, sym, ap, ◌∙◌, subst, arith}
+use Rattle.std.proofs.Common.{◌≡◌, inl, inr, ℕ, zero, suc, ◌+◌, ◌==◌, Bool, true, false, not, ◌&&◌, cond, List, [], ◌∷◌, ◌++◌, length, map, filter, take, append-nil, append_assoc, Some, Result, Ok, Err, slice_get, refl, sym, ap, ◌∙◌, subst, arith}
 use Rattle.std.specs.List.{AllByRecursion}
 use Rattle.std.specs.Ordering.{nat_cmp}
-use Rattle.std.specs.FinMap.{FinMap, get, insert}
-use Rattle.std.proofs.lemmas.Bool.{and_from, and_parts, cases_eq, cond-true}
+use Rattle.std.specs.Cmp.{unsigned_tied}
+use Rattle.std.specs.FinMap.{FinMap, get, insert, get-insert}
+use Rattle.std.proofs.lemmas.Cmp.{nat_cmp_total}
+use Rattle.std.proofs.lemmas.Bool.Decides.{Decides-eqb}
+use Rattle.std.proofs.lemmas.Bool.{and_from, and_parts, cond-true}
 use Rattle.std.proofs.lemmas.List.{map-append}
 use Rattle.std.proofs.lemmas.List.Elements.{filter-append}
 use Rattle.std.proofs.lemmas.Option.{same_Some}
@@ -31,7 +34,6 @@ use Rattle.rw_worker.specs.declared.transport.Lost.{Lost}
 use Rattle.rw_worker.specs.Setups.{WorkerSetup, start_of}
 use Rattle.rw_worker.specs.Steps.{Working, Step, Takes, Freezes, Sends, Waits, AreSteps, after, after_step, after_attempt, items_of, exchanges_of}
 use Rattle.rw_worker.specs.Transcript.{Exchange, batch_request, is_again, is_again_by, names_after}
-use Rattle.rw_machine.proofs.shared.Classes.{named_other, named_own}
 use Rattle.rw_head.specs.Order.{Point, holds}
 use Rattle.rw_head.proofs.shared.OrderRule.{holds_append, holds_own, holds_right}
 use Rattle.rw_restarts.specs.Parts.{points_in}
@@ -85,15 +87,26 @@ module _ (l : Labels) (batch more rest : List Placed) (is : rest ≡ batch ++ mo
 abbrev Names : Type 0
 Names = FinMap nat_cmp Reason
 
-pub name_stays : (names : Names) (q : ℕ) (reason : Reason) (p : ℕ) → HasName names p → HasName (insert names q reason) p
-name_stays names q reason p h = by_place (cases_eq q p)
+name-insert : (names : Names) (q : ℕ) (reason : Reason) (p : ℕ)
+    → get (insert names q reason) p ≡ cond (p == q) (Some reason) (get names p)
+name-insert names q reason p = get-insert nat_cmp_total names q reason p
+    ∙ ap (λ (b : Bool). cond b (Some reason) (get names p)) (unsigned_tied p q)
+
+pub name_stays : (names : Names) (q : ℕ) (reason : Reason) (p : ℕ) → HasName names p
+    → HasName (insert names q reason) p
+name_stays names q reason p h = by_place (p == q) (name-insert names q reason p)
   where
-    by_place : (q ≡ p) ⊎ (q ≡ p → ⊥) → HasName (insert names q reason) p
-    by_place (inl same) = (reason, ap (get (insert names q reason)) (sym same) ∙ named_own q reason names)
-    by_place (inr apart) = (h.0, named_other q p reason names apart ∙ h.1)
+    by_place : (b : Bool) → get (insert names q reason) p ≡ cond b (Some reason) (get names p)
+        → HasName (insert names q reason) p
+    by_place true e = (reason, e)
+    by_place false e = (h.0, e ∙ h.1)
 
 pub name_own : (names : Names) (p : ℕ) (reason : Reason) → HasName (insert names p reason) p
-name_own names p reason = (reason, named_own p reason names)
+name_own names p reason = (
+  reason,
+  name-insert names p reason p
+      ∙ ap (λ (b : Bool). cond b (Some reason) (get names p)) ((Decides-eqb p p).1 refl),
+)
 
 all_stay : (status : ℕ) (qs : List ℕ) (names : Names) (p : ℕ) → HasName names p → HasName (name_all status qs names) p
 all_stay status [] names p h = h

@@ -1,7 +1,9 @@
+pub mod Arrivals
 pub mod Examples
 pub mod KeptExamples
 pub mod KeptReceivers
 pub mod KeptWireReceivers
+pub mod Listed
 pub mod Logs
 pub mod OpenExamples
 pub mod Parts

@@ -8,7 +8,7 @@ use Rattle.rw_worker.specs.Setups.{WorkerSetup}
 use Rattle.rw_worker.specs.Transcript.{Exchange}
 use Rattle.rw_head.specs.Head.{State}
 use Rattle.rw_machine.specs.declared.event.How.TheVariants.{Plain}
-use Rattle.rw_simulation.specs.Arrivals.{Arrival}
+use Rattle.rw_restarts.specs.Arrivals.{Arrival}
 use Rattle.rw_restarts.specs.WireExamples.{exchange, states}
 
 abbrev pub arrival : Arrival

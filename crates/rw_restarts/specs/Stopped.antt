@@ -23,9 +23,8 @@ use Rattle.rw_sender.specs.Placement.{joined_epochs}
 use Rattle.rw_sender.specs.Reports.{IsAbandoned, parts_of}
 use Rattle.rw_sender.specs.Shipping.{Shipping, PlacesAll, HasStopped}
 use Rattle.rw_sender.specs.declared.report.Report.{Report}
-use Rattle.rw_simulation.specs.StoppedRuns.{IsNamedIn}
-use Rattle.rw_simulation.specs.Arrivals.{Arrival, Receives, IsAnsweredBy}
-use Rattle.rw_simulation.specs.Received.{AreExchangesOf, is_left}
+use Rattle.rw_restarts.specs.Listed.{IsNamedIn, is_left}
+use Rattle.rw_restarts.specs.Arrivals.{Arrival, Receives, IsAnsweredBy, AreExchangesOf}
 use Rattle.rw_restarts.specs.Runs.{SentMessage, SenderRun, acknowledged_in}
 use Rattle.rw_restarts.specs.Receivers.{ReceiverEvent, ReceiverState}
 use Rattle.rw_restarts.specs.Refusals.{IsAnyReceiver}

@@ -20,7 +20,7 @@ use Rattle.rw_head.specs.Store.{Store, list_of}
 use Rattle.rw_head.specs.Verdicts.{taken_all}
 use Rattle.rw_machine.specs.Worlds.{Setup}
 use Rattle.rw_machine.specs.declared.event.How.{How}
-use Rattle.rw_simulation.specs.Arrivals.{Receives}
+use Rattle.rw_restarts.specs.Arrivals.{Receives}
 use Rattle.rw_restarts.specs.Parts.{AreWithinLimits}
 use Rattle.rw_restarts.specs.Runs.{SentMessage, SenderRun, IsSentBy}
 use Rattle.rw_restarts.specs.Receivers.{ReceiverEvent, Answers, Restarts, RestartsDuring, ReceiverState, state_of, HoldsNothing, IsRestarted, IsReceiverOf}

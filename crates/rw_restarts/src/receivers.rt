@@ -8,7 +8,7 @@ ghost use Rattle.rw_write_request.specs.Message.{WriteRequest};
 ghost use Rattle.rw_machine.specs.Worlds.{Setup};
 ghost use Rattle.rw_machine.specs.declared.event.How.{How};
 ghost use Rattle.rw_worker.specs.Transcript.{Exchange};
-ghost use Rattle.rw_simulation.specs.Arrivals.{Receives};
+ghost use Rattle.rw_restarts.specs.Arrivals.{Receives};
 ghost use Rattle.rw_restarts.specs.Runs.{SentMessage};
 ghost use Rattle.rw_restarts.specs.Workers.{IsExchangeOfMessage};
 ghost use Rattle.rw_retry.specs.Judgements.{judgement_of};

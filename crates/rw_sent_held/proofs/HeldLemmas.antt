@@ -36,7 +36,8 @@ use Rattle.rw_sender.specs.Placement.{AreTurned, IsShardCount}
 use Rattle.rw_sender.specs.Reports.{IsAbandoned, workers_of}
 use Rattle.rw_sender.specs.Shipping.{Shipping, HasEndedAs, PlacesAll}
 use Rattle.rw_sender.specs.declared.report.Report.{Report}
-use Rattle.rw_simulation.specs.Arrivals.{Arrival, IsOneReceiver, Receives}
+use Rattle.rw_restarts.specs.Arrivals.{Arrival, Receives}
+use Rattle.rw_simulation.specs.OneReceivers.{IsOneReceiver}
 use Rattle.rw_simulation.specs.Received.{IsHeld, ReceivesAbandoned, ReceivesInOrder}
 use Rattle.rw_simulation.specs.StoppedRuns.{IsMachineOf, first_number}
 use Rattle.rw_send.specs.Segments.{AreShortPieces, IsShortPiece}

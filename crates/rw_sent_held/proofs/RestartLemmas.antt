@@ -25,9 +25,9 @@ use Rattle.rw_worker.specs.Transcript.{Exchange}
 use Rattle.rw_sender.specs.Reports.{IsAbandoned}
 use Rattle.rw_sender.specs.Shipping.{Shipping, HasEndedAs}
 use Rattle.rw_sender.specs.declared.report.Report.{Report}
-use Rattle.rw_simulation.specs.Received.{is_left}
+use Rattle.rw_restarts.specs.Listed.{is_left}
 use Rattle.rw_send.specs.Sending.{IsReportOf}
-use Rattle.rw_simulation.proofs.shared.Pasts.{get-within}
+use Rattle.rw_restarts.proofs.shared.ListLemmas.{get-within}
 use Rattle.rw_restarts.specs.Parts.{points_in}
 use Rattle.rw_restarts.specs.Runs.{SenderRun, SentMessage, acknowledged_in}
 use Rattle.rw_restarts.specs.Receivers.{Answers, IsReceiverOf, ReceiverEvent, ReceiverState}

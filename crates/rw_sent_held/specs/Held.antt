@@ -18,8 +18,9 @@ use Rattle.rw_worker.specs.Transcript.{Exchange}
 use Rattle.rw_sender.specs.Reports.{IsAbandoned, parts_of}
 use Rattle.rw_sender.specs.Shipping.{Shipping, HasStopped}
 use Rattle.rw_sender.specs.declared.report.Report.{Report}
-use Rattle.rw_simulation.specs.Arrivals.{Arrival, IsOneReceiver}
-use Rattle.rw_simulation.specs.Received.{AreExchangesOf, IsHeld}
+use Rattle.rw_restarts.specs.Arrivals.{Arrival, AreExchangesOf}
+use Rattle.rw_simulation.specs.OneReceivers.{IsOneReceiver}
+use Rattle.rw_simulation.specs.Received.{IsHeld}
 use Rattle.rw_simulation.specs.StoppedRuns.{NamesAll}
 use Rattle.rw_follow.specs.Growth.{Moment}
 use Rattle.rw_follow.specs.declared.signal.StopRequest.{StopRequest}

@@ -19,9 +19,8 @@ use Rattle.rw_checkpoint.specs.Owed.{owed_of}
 use Rattle.rw_worker.specs.Transcript.{Exchange}
 use Rattle.rw_sender.specs.Shipping.{Shipping, HasStopped}
 use Rattle.rw_sender.specs.declared.report.Report.{Report}
-use Rattle.rw_simulation.specs.Arrivals.{Arrival}
-use Rattle.rw_simulation.specs.Received.{AreExchangesOf, is_left}
-use Rattle.rw_simulation.specs.StoppedRuns.{IsNamedIn}
+use Rattle.rw_restarts.specs.Arrivals.{Arrival, AreExchangesOf}
+use Rattle.rw_restarts.specs.Listed.{is_left, IsNamedIn}
 use Rattle.rw_restarts.specs.Runs.{SenderRun, acknowledged_in}
 use Rattle.rw_restarts.specs.Receivers.{IsReceiverOf, ReceiverEvent, ReceiverState}
 use Rattle.rw_restarts.specs.Refusals.{IsAnyReceiver}

@@ -44,6 +44,7 @@ use Rattle.rw_machine.specs.declared.event.Event.TheVariants as event
 use Rattle.rw_machine.specs.Promises.{CanWork}
 use Rattle.rw_machine.proofs.shared.Lists.{Lists}
 use Rattle.rw_machine.proofs.shared.Lists as lists
+use Rattle.rw_restarts.proofs.shared.ListLemmas.{get_map, map_get}
 use Rattle.rw_simulation.specs.Freely.{Of, run_freely}
 use Rattle.rw_simulation.specs.FreeLaws.{world_of}
 use Rattle.rw_simulation.specs.WorkerRuns.{queued, sent_bytes, request_in}
@@ -60,7 +61,7 @@ use Rattle.rw_simulation.proofs.FleetRuns.{fleet-run}
 use Rattle.rw_simulation.proofs.ReshardRuns.{BeginsEpoch}
 use Rattle.rw_simulation.proofs.EndRuns.{HasCome, tallies-at}
 use Rattle.rw_simulation.proofs.Tallies.{Names, lists-at, tallied-next}
-use Rattle.rw_simulation.proofs.shared.Pasts.{get_map, map_get, past_of, ReportsAt, passes-of, seen-is, names-all, sends-all}
+use Rattle.rw_simulation.proofs.shared.Pasts.{past_of, ReportsAt, passes-of, seen-is, names-all, sends-all}
 use Rattle.rw_simulation.proofs.StoppedShards.{has-taken, with-what-is-left}
 use Rattle.rw_simulation.proofs.RisingOrders.{is_in, passing-permutes, passing-rises}
 use Rattle.rw_simulation.proofs.Positions.{position_of, ArePartOf, AreApart, part-of, part-dropped, positions_in-is, all-apart}

@@ -16,11 +16,12 @@ use Rattle.rw_machine.specs.declared.event.How.TheVariants.{Plain, Busy, OutOfMe
 use Rattle.rw_machine.specs.declared.event.Event.{Event}
 use Rattle.rw_machine.specs.declared.event.Event.TheVariants as event
 use Rattle.rw_machine.proofs.shared.Settles.{run_append}
+use Rattle.rw_restarts.specs.Arrivals.{Arrival, Receives}
+use Rattle.rw_restarts.proofs.shared.ListLemmas.{get-first}
 use Rattle.rw_simulation.specs.Freely.{Happening, IsOwn, run_freely}
 use Rattle.rw_simulation.specs.Tallies.{requests_of}
-use Rattle.rw_simulation.specs.Arrivals.{Arrival, Receives, IsOneReceiver}
+use Rattle.rw_simulation.specs.OneReceivers.{IsOneReceiver}
 use Rattle.rw_simulation.proofs.Changes.{get-last}
-use Rattle.rw_simulation.proofs.shared.Pasts.{get-first}
 use Rattle.rw_simulation.proofs.OwnRuns.{OwnRun, own-run}
 
 -- ---- the requests of a shard

@@ -21,12 +21,14 @@ use Rattle.rw_machine.specs.Steps.{change, happens, names_after_reply, reply_to,
 use Rattle.rw_machine.specs.Promises.{CarriesItsBatch, CarriesEachBatch}
 use Rattle.rw_machine.specs.declared.event.Event.TheVariants as event
 use Rattle.rw_machine.proofs.shared.Places.{get_some, length_change}
+use Rattle.rw_restarts.specs.Arrivals.{Arrival, IsAnsweredBy}
+use Rattle.rw_restarts.proofs.shared.ListLemmas.{get-first, get-either, get_map, map_get}
 use Rattle.rw_simulation.specs.Freely.{Happening, Of, IsOwn, run_freely}
 use Rattle.rw_simulation.specs.FreeLaws.{world_of}
 use Rattle.rw_simulation.specs.WorkerRuns.{queued, IsIdOf, IsShardNumbered, CanEnd, sent_bytes, request_in}
 use Rattle.rw_simulation.specs.Tallies.{Past, IsTallied, requests_of}
 use Rattle.rw_simulation.specs.EpochRuns.{ShardFate}
-use Rattle.rw_simulation.specs.Arrivals.{Arrival, IsAnsweredBy, IsOneReceiver}
+use Rattle.rw_simulation.specs.OneReceivers.{IsOneReceiver}
 use Rattle.rw_simulation.proofs.Changes.{change-is, change-get, get-last, Goes, not-over}
 use Rattle.rw_simulation.proofs.FreeLaws.{keeps-laws}
 use Rattle.rw_simulation.proofs.WorkerSteps.{moved, take-is, sent_core, sent_shard, sent_awaits, sent_answers, out_is, own_ids, ledger-step}
@@ -34,7 +36,6 @@ use Rattle.rw_simulation.proofs.WorkerLists.{core_after, after-is, numbered-afte
 use Rattle.rw_simulation.proofs.Tallies.{Names, GrowAlike, alike-self, alike-by, own-requests, other-requests, with_part, part-own, part-other, tallied-shard, tallied-still}
 use Rattle.rw_simulation.proofs.EpochRuns.{each-update}
 use Rattle.rw_simulation.proofs.EndRuns.{HasCome, IsOver, come-still}
-use Rattle.rw_simulation.proofs.shared.Pasts.{get-first, get-either, get_map, map_get}
 use Rattle.rw_simulation.proofs.Arrived.{is_of, still-at, find-in, AreRead, none-read, one-read, IsSentAs, below_it, IsAnsweredAs, HasArrived, arrived-own, came, comes, arrived-next}
 
 module _ (c : Setup) (exs : ℕ → ℕ → List Exchange) (arrivals : List Arrival) (heads : ℕ → State) (one : IsOneReceiver c exs arrivals heads) where

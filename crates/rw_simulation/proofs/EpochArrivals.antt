@@ -24,12 +24,13 @@ use Rattle.rw_machine.specs.Shards.{Shard, samples_waiting as waiting_in}
 use Rattle.rw_machine.specs.Worlds.{Setup, Request, World}
 use Rattle.rw_machine.proofs.shared.Lists.{Lists}
 use Rattle.rw_machine.proofs.shared.Places.{get_some}
+use Rattle.rw_restarts.specs.Arrivals.{Arrival}
 use Rattle.rw_simulation.specs.Freely.{Happening, IsOwn, run_freely}
 use Rattle.rw_simulation.specs.WorkerRuns.{queued, IsShardNumbered, sent_bytes, request_in}
 use Rattle.rw_simulation.specs.Tallies.{Past, requests_of}
 use Rattle.rw_simulation.specs.EpochRuns.{ShardFate, AreUnsent, IsAllPut, Reaches}
 use Rattle.rw_simulation.specs.FleetRuns.{IsShardRun, fate_of, shard_fate_by, fate_at}
-use Rattle.rw_simulation.specs.Arrivals.{Arrival, IsOneReceiver}
+use Rattle.rw_simulation.specs.OneReceivers.{IsOneReceiver}
 use Rattle.rw_simulation.proofs.Tallies.{Names, lists-at}
 use Rattle.rw_simulation.proofs.FleetRuns.{fleet-run}
 use Rattle.rw_simulation.proofs.ReshardRuns.{BeginsEpoch}

@@ -21,9 +21,10 @@ use Rattle.rw_machine.specs.Worlds.{Setup}
 use Rattle.rw_machine.specs.Steps.{endpoint_answer}
 use Rattle.rw_machine.specs.declared.event.How.{How}
 use Rattle.rw_machine.specs.declared.event.How.TheVariants.{Plain, Busy, OutOfMemory}
-use Rattle.rw_simulation.specs.Arrivals.{Arrival, Receives, IsOneReceiver}
+use Rattle.rw_restarts.specs.Arrivals.{Arrival, Receives}
+use Rattle.rw_restarts.proofs.shared.ListLemmas.{map_get}
+use Rattle.rw_simulation.specs.OneReceivers.{IsOneReceiver}
 use Rattle.rw_simulation.specs.SharedReceivers.{Coming, questions_of, questions_in, Carries, IsAnsweredAt, IsAnswered, how_of, arrival_of, head_behind, SharesAsOne}
-use Rattle.rw_simulation.proofs.shared.Pasts.{map_get}
 
 pub bodies-append : (xs ys : List Question) → bodies_of (xs ++ ys) ≡ bodies_of xs ++ bodies_of ys
 bodies-append [] ys = refl

@@ -2,7 +2,7 @@
 use Rattle.std.proofs.Common.{◌≡◌, ◌⊎◌, inl, inr, ℕ, zero, suc, ◌+◌, ◌-◌, ◌<◌, ◌≤◌, nat_lt, Bool, cond, List, [], ◌∷◌, ◌++◌, length, Some, slice_get, refl, sym, ap, ◌∙◌, subst, append_assoc, append-nil, arith}
 use Rattle.std.proofs.lemmas.Bool.{lt-ltb, le-ltb}
 use Rattle.std.proofs.lemmas.Option.{same_Some, none-some, slice_get_within}
-use Rattle.rw_simulation.proofs.shared.Pasts.{get-first, get-within}
+use Rattle.rw_restarts.proofs.shared.ListLemmas.{get-first, get-within}
 
 -- for which element the j-th one was made, by the lengths of the parts
 abbrev pub number_of : List ℕ → ℕ → ℕ

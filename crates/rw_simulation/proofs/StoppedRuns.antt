@@ -1,13 +1,12 @@
 -- A shipper that was stopped in order, and left nothing, is a run of the machine.
-use Rattle.std.proofs.Common.{◌≡◌, ℕ, zero, suc, ◌-◌, ◌<◌, ◌≤◌, ◌==◌, true, false, List, [], ◌∷◌, ◌++◌, map, length, Option, None, Some, slice_get, refl, sym, ap, ◌∙◌, subst, append-nil, append_assoc, arith, inl, inr}
+use Rattle.std.proofs.Common.{◌≡◌, ℕ, zero, suc, ◌<◌, ◌≤◌, ◌==◌, true, false, List, [], ◌∷◌, ◌++◌, map, length, Option, None, Some, slice_get, refl, sym, ap, ◌∙◌, subst, append-nil, append_assoc, inl, inr}
 use Rattle.std.specs.List.{AllByRecursion}
 use Rattle.std.specs.Ordering.{nat_cmp}
 use Rattle.std.specs.FinMap.{empty, get, get-empty}
-use Rattle.std.proofs.lemmas.List.{length-drop, length-map, map-append}
-use Rattle.std.proofs.lemmas.Bool.{eqb-true, and_parts}
+use Rattle.std.proofs.lemmas.List.{length-map, map-append}
+use Rattle.std.proofs.lemmas.Bool.{and_parts}
 use Rattle.std.proofs.lemmas.Option.{same_Some, none-some, slice_get_within}
 use Rattle.rw_types.specs.declared.entry.Entry.{Entry}
-use Rattle.rw_types.specs.declared.place.Place.{Place}
 use Rattle.rw_types.specs.Gathering.{gather_from}
 use Rattle.rw_wal_format.specs.Pieces.{Piece, entries}
 use Rattle.rw_wal_format.specs.declared.tail_fault.TailFault.{TailFault}
@@ -16,7 +15,7 @@ use Rattle.rw_wal_tail.specs.declared.piece.Piece as piece
 use Rattle.rw_relabel.specs.declared.choice.Choice.{Choice}
 use Rattle.rw_ledger.specs.declared.ledger.Reason.{Reason}
 use Rattle.rw_series_cache.proofs.shared.KnownLemmas.{series_of-none}
-use Rattle.rw_plain_queue.specs.Items.{samples_in, places_in}
+use Rattle.rw_plain_queue.specs.Items.{samples_in}
 use Rattle.rw_plain_queue.specs.History.{EndIsLast, IsEnded}
 use Rattle.rw_plain_queue.specs.declared.item.Item.{Item}
 use Rattle.rw_plain_queue.specs.declared.item.Item.TheVariants.{Sample, Flush, End}
@@ -30,7 +29,7 @@ use Rattle.rw_worker.specs.Transcript.{Exchange}
 use Rattle.rw_worker.specs.Setups.{start_of}
 use Rattle.rw_worker.specs.Steps.{Working, Step, Takes, Freezes, Sends, Waits, AreSteps, after, after_step, items_of, exchanges_of}
 use Rattle.rw_fleet.specs.ShardHistories.{ShardHistory, IsSetUp, AreSetUp, put_into}
-use Rattle.rw_fleet.specs.Work.{IsWorked, AreWorked, AreResolved, AreEndedBy, IsEndedBy, lane_of, finished_of, put_of, taken_of, is_compared, is_resolved, positions_in}
+use Rattle.rw_fleet.specs.Work.{IsWorked, AreWorked, AreResolved, AreEndedBy, IsEndedBy, lane_of, finished_of, put_of, taken_of, is_compared, is_resolved}
 use Rattle.rw_fleet.specs.declared.joined.StoppedShard.{StoppedShard}
 use Rattle.rw_fleet.specs.declared.joined.Finished.{Finished}
 use Rattle.rw_fleet.specs.Fleets.{EndBy}
@@ -46,11 +45,13 @@ use Rattle.rw_sender.proofs.shared.ShippingLemmas.{all_is, ends_last}
 use Rattle.rw_types.proofs.shared.AllLemmas.{AllByRecursion-left, AllByRecursion-right}
 use Rattle.rw_machine.specs.Shards.{Shard}
 use Rattle.rw_machine.specs.Worlds.{Setup, Request, World, start, ended_as, report}
-use Rattle.rw_shard_core.specs.Endings.{Ending, Complete}
+use Rattle.rw_shard_core.specs.Endings.{Ending, Complete, ending_of}
 use Rattle.rw_machine.specs.Steps.{happens, unless_over}
 use Rattle.rw_machine.specs.declared.event.Event.TheVariants as event
 use Rattle.rw_machine.specs.Promises.{CanWork}
 use Rattle.rw_machine.proofs.shared.Places.{get_some}
+use Rattle.rw_restarts.proofs.shared.EndLemmas.{resolves-all, same_items}
+use Rattle.rw_restarts.proofs.shared.ListLemmas.{get_map, map_get}
 use Rattle.rw_simulation.specs.Freely.{Happening, Of, run_freely}
 use Rattle.rw_simulation.specs.FreeLaws.{world_of}
 use Rattle.rw_simulation.specs.WorkerRuns.{request_in}
@@ -58,20 +59,19 @@ use Rattle.rw_simulation.specs.Tallies.{Past, IsNamedSo, IsTallied}
 use Rattle.rw_simulation.specs.EpochRuns.{ShardFate, end_in, AreUnsent, IsAllPut, Reaches}
 use Rattle.rw_simulation.specs.FleetRuns.{IsShardRun, shard_fate_by, fate_at}
 use Rattle.rw_simulation.specs.StoppedShards.{IsShardOf}
-use Rattle.rw_shard_core.specs.Endings.{ending_of}
 use Rattle.rw_simulation.specs.StoppedRuns.{IsSetAs, HasNumbers, AreNumbers, EndInTurn, first_number, IsAlike, Tells, IsRun, StopsAsRun, StopsInOrder}
 use Rattle.rw_simulation.proofs.ReshardRuns.{BeginsEpoch, reshard-run}
 use Rattle.rw_simulation.proofs.WorkerLists.{core_after, after-is, ended-after, last_tail}
 use Rattle.rw_simulation.proofs.EntryRuns.{over_not}
 use Rattle.rw_simulation.proofs.FreeLaws.{keeps-laws}
 use Rattle.rw_simulation.proofs.FleetRuns.{fleet-run}
-use Rattle.rw_simulation.proofs.StoppedShards.{compared-is-run, has-taken, same_items}
+use Rattle.rw_simulation.proofs.StoppedShards.{compared-is-run, has-taken}
 use Rattle.rw_simulation.proofs.EpochRuns.{stay, go-on, aloud}
 use Rattle.rw_simulation.proofs.EpochTurns.{Split, split_map, AreBefore, Turns, AtLast, turn-all}
 use Rattle.rw_simulation.proofs.OrderlyEnds.{HasEnded, closed, orderly-run, has-ended}
 use Rattle.rw_simulation.proofs.EndRuns.{HasCome, IsResolvedFate, IsOver}
 use Rattle.rw_simulation.proofs.Tallies.{Names, Passes}
-use Rattle.rw_simulation.proofs.shared.Pasts.{get_map, map_get, past_of, ReportsAt, passes-of, seen-is, names-all, sends-all}
+use Rattle.rw_simulation.proofs.shared.Pasts.{past_of, ReportsAt, passes-of, seen-is, names-all, sends-all}
 
 -- ---- an End that was taken
 stays_ended : (st : Step) (c : Core) → c.ended ≡ true → (core_after st c).ended ≡ true
@@ -134,15 +134,6 @@ ended_by_at kd (x ∷ xs) zero put h e = let is : x ≡ put = same_Some _ _ e in
 ended_by_at kd (x ∷ xs) (suc k) put h e = ended_by_at kd xs k put h.1 e
 
 -- ---- what was put is resolved
-place_count : (xs : List Item) → length (places_in xs) ≡ length (samples_in xs)
-place_count [] = refl
-place_count (Sample place t word labels ∷ xs) = ap suc (place_count xs)
-place_count (Flush ∷ xs) = place_count xs
-place_count (End k ∷ xs) = place_count xs
-
-none_behind : (all resolved left : ℕ) → left ≡ all - resolved → left ≡ 0 → all ≤ resolved
-none_behind all resolved left e h = omega arith
-
 -- all epochs, with the last one apart
 pub record Divided (lanes : List ShardHistory) (later : List (List ShardHistory)) : Type 0 where
   pub turned : List (List ShardHistory)
@@ -199,11 +190,7 @@ module _ {T : Type 0} (tells : T → Type 0) (seen : T → List Exchange) (is_fo
   sound-all (j ∷ js) h r = (record { worked = h.0.worked; up = h.0.up; resolved = r 0 j refl; asked = h.0.asked }, sound-all js h.1 (λ k i e. r (suc k) i e))
 
   all_put_resolved : (j : StoppedShard T) → (h : Sound j) → length (samples_in (put_of j.finished.ends)) ≤ length (after (start_of j.worker.value) h.worked.report.steps).core.resolved
-  all_put_resolved j h = subst (λ (n : ℕ). length (samples_in (put_of j.finished.ends)) ≤ n) h.worked.report.counted
-      (subst (λ (n : ℕ). n ≤ j.finished.resolved) (length-map (places_in (put_of j.finished.ends)) (λ (p : Place). p.pos) ∙ place_count (put_of j.finished.ends))
-      (none_behind (length (positions_in (put_of j.finished.ends))) j.finished.resolved (length j.abandoned.items)
-      (ap length h.worked.abandoned ∙ length-drop j.finished.resolved (positions_in (put_of j.finished.ends)))
-      (eqb-true (length j.abandoned.items) 0 (and_parts (is_compared j.finished.ends) (length j.abandoned.items == 0) h.resolved).1)))
+  all_put_resolved j h = resolves-all tells seen is_for j h.worked h.resolved
 
   -- the steps that the workers report
   abbrev pub steps_in : (js : List (StoppedShard T)) → AllByRecursion Sound js → ℕ → List Step

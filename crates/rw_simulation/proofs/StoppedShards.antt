@@ -1,5 +1,5 @@
 -- A shard that has stopped is a shard of the machine.
-use Rattle.std.proofs.Common.{◌≡◌, ℕ, ◌≤◌, true, false, List, [], ◌∷◌, Result, Ok, Err, refl, sym, ◌∙◌, subst, append-nil, append_assoc, arith, length, length-append, ◌++◌, ◌+◌, ap}
+use Rattle.std.proofs.Common.{◌≡◌, ℕ, ◌≤◌, true, List, [], ◌∷◌, Result, Ok, Err, refl, sym, ◌∙◌, subst, append-nil, append_assoc, arith, length, length-append, ◌++◌, ◌+◌, ap}
 use Rattle.rw_retry.specs.Judgements.{judgement_of}
 use Rattle.rw_retry.specs.declared.judgement.Judgement.{Judgement}
 use Rattle.rw_retry.specs.declared.judgement.Judgement.TheVariants.{Done, Again, Refused}
@@ -14,10 +14,9 @@ use Rattle.rw_worker.specs.Setups.{start_of}
 use Rattle.rw_worker.specs.Steps.{Working, Step, Takes, Freezes, Sends, Waits, AreSteps, after, after_step, items_of}
 use Rattle.rw_worker.specs.Transcript.{Exchange}
 use Rattle.rw_fleet.specs.declared.joined.StoppedShard.{StoppedShard}
-use Rattle.rw_fleet.specs.declared.ends.Ends.{Ends}
-use Rattle.rw_fleet.specs.declared.ends.Ends.TheVariants.{Compared, Apart}
 use Rattle.rw_fleet.specs.Work.{IsWorked, is_compared, lane_of, put_of, taken_of}
 use Rattle.rw_machine.specs.Worlds.{Setup}
+use Rattle.rw_restarts.proofs.shared.EndLemmas.{same_items}
 use Rattle.rw_simulation.specs.FleetRuns.{IsShardRun}
 use Rattle.rw_simulation.specs.StoppedShards.{IsShardOf, StopsAsShard}
 use Rattle.rw_simulation.proofs.WorkerSteps.{sent_core}
@@ -59,10 +58,6 @@ taken-after w (s ∷ ss) h =
 
 pub has-taken : {T : Type 0} (tells : T → Type 0) (seen : T → List Exchange) (is_for : ℕ → ℕ → T → Type 0) (j : StoppedShard T) (h : IsWorked tells seen is_for j) → (after (start_of j.worker.value) h.report.steps).core.taken ≡ samples_in (taken_of j.finished.ends)
 has-taken tells seen is_for j h = taken-after (start_of j.worker.value) h.report.steps h.report.made.allowed ∙ ap samples_in (h.report.made.items ∙ sym h.taken)
-
-pub same_items : (e : Ends) → is_compared e ≡ true → put_of e ≡ taken_of e
-same_items (Compared w) h = refl
-same_items (Apart f end) h = let never : false ≡ true = h in cc
 
 rest_within : (put taken rest : ℕ) (capacity n : ℕ) → put ≡ taken + rest → put ≤ taken + capacity → capacity ≡ n → rest ≤ n
 rest_within put taken rest capacity n sum most same = omega arith

@@ -13,7 +13,8 @@ use Rattle.rw_sender.specs.declared.report.Report.{Report}
 use Rattle.rw_machine.specs.Worlds.{Setup}
 use Rattle.rw_machine.specs.Promises.{Accounted}
 use Rattle.rw_sender.specs.Reports.{parts_of}
-use Rattle.rw_simulation.specs.StoppedRuns.{IsMachineOf, IsNamedIn, IsRun}
+use Rattle.rw_restarts.specs.Listed.{IsNamedIn}
+use Rattle.rw_simulation.specs.StoppedRuns.{IsMachineOf, IsRun}
 
 -- the parts do not name the position, or name it with this reason alone
 abbrev pub IsNamedAs : List Named → ℕ → Option Reason → Type 0

@@ -7,7 +7,7 @@ pub mod FleetRuns
 pub mod StoppedShards
 pub mod StoppedRuns
 pub mod Accounts
-pub mod Arrivals
+pub mod OneReceivers
 pub mod Received
 pub mod SharedReceivers
 pub mod Seatings

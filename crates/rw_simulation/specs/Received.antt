@@ -1,7 +1,6 @@
 -- What one receiver holds of the samples of a shipper that was stopped.
-use Rattle.std.specs.Prelude.{◌≡◌, ℕ, List, [], ◌∷◌, length, take, map, ◌==◌, Bool, true, false, ℤ, slice_get, Some, None, ⊤}
+use Rattle.std.specs.Prelude.{◌≡◌, ℕ, List, length, take, map, true, false, ℤ, slice_get, Some, None}
 use Rattle.std.specs.Ordering.{nat_cmp}
-use Rattle.std.specs.List.{list_any}
 use Rattle.std.specs.FinMap.{FinMap, get}
 use Rattle.rw_types.specs.Labels.{Labels}
 use Rattle.rw_types.specs.Beginnings.{Begins}
@@ -14,42 +13,24 @@ use Rattle.rw_series_cache.specs.Known.{Kept, known}
 use Rattle.rw_series_cache.specs.Points.{kept_points, kept_points_below}
 use Rattle.rw_ledger.specs.declared.ledger.Reason.{Reason}
 use Rattle.rw_plain_queue.specs.declared.item.Kind.TheVariants.{Orderly}
-use Rattle.rw_shard_core.specs.declared.outcome.Outcome.{Outcome}
-use Rattle.rw_shard_core.specs.declared.outcome.Outcome.TheVariants.{Complete, Abandoned, Damaged}
 use Rattle.rw_head.specs.Head.{State}
 use Rattle.rw_head.specs.Growth.{EachRises}
 use Rattle.rw_head.specs.Lists.{IsEarlier}
 use Rattle.rw_head.specs.Order.{holds}
 use Rattle.rw_head.specs.Store.{Store, list_of}
 use Rattle.rw_worker.specs.Transcript.{Exchange}
-use Rattle.rw_worker.specs.Steps.{exchanges_of}
-use Rattle.rw_fleet.specs.Work.{AreResolved, AreWorked}
+use Rattle.rw_fleet.specs.Work.{AreResolved}
 use Rattle.rw_fleet.specs.Fleets.{Shards, AreAll, EndBy}
-use Rattle.rw_fleet.specs.declared.joined.StoppedShard.{StoppedShard}
 use Rattle.rw_sender.specs.Placement.{IsShardCount}
 use Rattle.rw_sender.specs.Reports.{IsAbandoned, parts_of, workers_of}
 use Rattle.rw_sender.specs.Shipping.{Shipping, PlacesAll, HasStopped}
 use Rattle.rw_sender.specs.declared.report.Report.{Report}
 use Rattle.rw_machine.specs.Worlds.{Setup}
 use Rattle.rw_machine.specs.Promises.{CanWork, LoggedPoint, owed, pair_of}
-use Rattle.rw_simulation.specs.Arrivals.{Arrival, IsOneReceiver}
+use Rattle.rw_restarts.specs.Arrivals.{Arrival, AreExchangesOf}
+use Rattle.rw_restarts.specs.Listed.{is_left}
+use Rattle.rw_simulation.specs.OneReceivers.{IsOneReceiver}
 use Rattle.rw_simulation.specs.StoppedRuns.{IsMachineOf, NamesAll, first_number}
-
--- these are the exchanges of each worker, by its epoch and shard: those of the steps in its report
-abbrev pub AreOfSteps : {T : Type 0} (tells : T → Type 0) (seen : T → List Exchange) (is_for : ℕ → ℕ → T → Type 0) → (ℕ → ℕ → List Exchange) → (js : List (StoppedShard T)) → AreWorked tells seen is_for js → Type 0
-AreOfSteps tells seen is_for exchanges [] h = ⊤
-AreOfSteps tells seen is_for exchanges (j ∷ js) h = (exchanges j.worker.value.queue.epoch j.worker.value.queue.shard ≡ exchanges_of h.0.report.steps) × AreOfSteps tells seen is_for exchanges js h.1
-
--- and there are no others. What a transport recorded is the same, if it records.
-pub record AreExchangesOf {T : Type 0} (tells : T → Type 0) (seen : T → List Exchange) (is_for : ℕ → ℕ → T → Type 0) (js : List (StoppedShard T)) (worked : AreWorked tells seen is_for js) (exchanges : ℕ → ℕ → List Exchange) : Type 0 where
-  pub each : AreOfSteps tells seen is_for exchanges js worked
-  pub owned : (e k i : ℕ) (x : Exchange) → slice_get (exchanges e k) i ≡ Some x → (n : ℕ) × (j : StoppedShard T) × (slice_get js n ≡ Some j) × (j.worker.value.queue.epoch ≡ e) × (j.worker.value.queue.shard ≡ k)
-
--- the outcome lists this position among those that were left
-abbrev pub is_left : Outcome → ℕ → Bool
-is_left (Complete end) p = false
-is_left (Abandoned placed samples) p = list_any (λ (q : ℕ). q == p) samples.items
-is_left (Damaged f) p = false
 
 -- what the report does not name of the samples of a label set that were placed
 abbrev pub owed_of_placed : {T : Type 0} → Shipping T → FinMap nat_cmp Reason → Labels → List LoggedPoint

@@ -10,7 +10,8 @@ use Rattle.rw_head.specs.Store.{Store}
 use Rattle.rw_recv_head.specs.declared.question.Question.{Question}
 use Rattle.rw_recv_head.specs.Seats.{Seated, HasGathered, own}
 use Rattle.rw_machine.specs.Worlds.{Setup}
-use Rattle.rw_simulation.specs.Arrivals.{Arrival, IsOneReceiver}
+use Rattle.rw_restarts.specs.Arrivals.{Arrival}
+use Rattle.rw_simulation.specs.OneReceivers.{IsOneReceiver}
 use Rattle.rw_simulation.specs.SharedReceivers.{IsAnsweredAt}
 
 -- For an exchange a seat was asked these questions: each is the body of the request, which is

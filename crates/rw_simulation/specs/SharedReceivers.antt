@@ -11,7 +11,8 @@ use Rattle.rw_recv_head.specs.Seats.{Seated, HasAsked, HasGathered, bodies_of, h
 use Rattle.rw_machine.specs.Worlds.{Setup}
 use Rattle.rw_machine.specs.declared.event.How.{How}
 use Rattle.rw_machine.specs.declared.event.How.TheVariants.{Plain, Busy, OutOfMemory}
-use Rattle.rw_simulation.specs.Arrivals.{Arrival, AreTold, IsOneReceiver}
+use Rattle.rw_restarts.specs.Arrivals.{Arrival}
+use Rattle.rw_simulation.specs.OneReceivers.{AreTold, IsOneReceiver}
 
 -- A request that has come: of which exchange of which worker it was, the status that was answered,
 -- and what a seat was asked for it, if one was.

@@ -28,6 +28,7 @@ use Rattle.rw_machine.specs.Shards.{Shard}
 use Rattle.rw_machine.specs.Worlds.{Setup, Request, World, report}
 use Rattle.rw_shard_core.specs.Endings.{Ending, Complete, Abandoned, Damaged}
 use Rattle.rw_machine.specs.Promises.{CanWork}
+use Rattle.rw_restarts.specs.Listed.{IsNamedIn}
 use Rattle.rw_simulation.specs.Freely.{Happening}
 use Rattle.rw_simulation.specs.FreeLaws.{KeepsLaws, world_of}
 use Rattle.rw_simulation.specs.WorkerRuns.{sent_bytes, request_in}
@@ -71,10 +72,6 @@ pub record IsAlike {T : Type 0} (f : Finished T) (m : Shard) : Type 0 where
 pub record IsRisingOrderOf (xs ys : List ℕ) : Type 0 where
   pub same : IsPermutation xs ys
   pub rises : Rises (λ x y. x < y) ys
-
--- a part of the report names the position, with this reason
-abbrev pub IsNamedIn : List Named → ℕ → Reason → Type 0
-IsNamedIn parts p reason = (k : ℕ) × (part : Named) × (slice_get parts k ≡ Some part) × (get part.names p ≡ Some reason)
 
 -- what is named is what the parts name, all together
 abbrev pub NamesAll : FinMap nat_cmp Reason → List Named → Type 0

@@ -60,19 +60,22 @@ use Rattle.rw_machine.specs.Promises.{CanWork, HoldsAll, HoldsBeginning, HoldsBe
 use Rattle.rw_machine.proofs.shared.Lists.{Lists}
 use Rattle.rw_machine.proofs.shared.Stored.{resolved_is_stored}
 use Rattle.rw_machine.proofs.shared.Runs.{in_order, of_placed, owed_rises, held_rises, all_when_complete, all_when_damaged}
+use Rattle.rw_restarts.specs.Arrivals.{Arrival, Receives, AreOfSteps, AreExchangesOf}
+use Rattle.rw_restarts.specs.Listed.{is_left}
+use Rattle.rw_restarts.proofs.shared.ListLemmas.{get-first, get-either, get_map, map_get}
 use Rattle.rw_simulation.specs.Freely.{Happening, Of, IsOwn, run_freely}
 use Rattle.rw_simulation.specs.Tallies.{Past, IsTallied, requests_of}
 use Rattle.rw_simulation.specs.EpochRuns.{ShardFate, AreUnsent, IsAllPut, Reaches}
 use Rattle.rw_simulation.specs.FleetRuns.{IsShardRun, fate_at}
 use Rattle.rw_simulation.specs.StoppedRuns.{IsSetAs, NamesAll, first_number}
-use Rattle.rw_simulation.specs.Arrivals.{Arrival, Receives, IsOneReceiver}
-use Rattle.rw_simulation.specs.Received.{AreOfSteps, AreExchangesOf, IsHeld, is_left, owed_of_placed, ReceivesInOrder, ReceivesAbandoned}
+use Rattle.rw_simulation.specs.OneReceivers.{IsOneReceiver}
+use Rattle.rw_simulation.specs.Received.{IsHeld, owed_of_placed, ReceivesInOrder, ReceivesAbandoned}
 use Rattle.rw_simulation.proofs.EpochTurns.{turned-before, Turns, AtLast, turn-all}
 use Rattle.rw_simulation.proofs.OrderlyEnds.{HasEnded, closed, orderly-run, has-ended}
 use Rattle.rw_simulation.proofs.ReshardRuns.{BeginsEpoch, draining, drain-run, next, next-begins, restarts}
 use Rattle.rw_simulation.proofs.EndRuns.{IsResolvedFate, IsOver, tallies-at}
 use Rattle.rw_simulation.proofs.Tallies.{Passes, lists-at, tallied-next}
-use Rattle.rw_simulation.proofs.shared.Pasts.{get-first, get-either, get_map, map_get, past_of, passes-of, names-all}
+use Rattle.rw_simulation.proofs.shared.Pasts.{past_of, passes-of, names-all}
 use Rattle.rw_simulation.proofs.StoppedRuns.{Fed, feeds, Known, AreAsked, known-all, Sound, sound-all, Found, find, steps_in, lane-at, fates, fate-end, fate-resolved, reports-at, begun, fed-all, begins}
 use Rattle.rw_simulation.proofs.AbandonedRuns as soft
 use Rattle.rw_simulation.proofs.AbandonedRuns.{KnownOf, FoundAt, find-at, come, soft_lane, put-split, left-by-last}

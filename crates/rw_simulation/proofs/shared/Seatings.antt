@@ -13,10 +13,11 @@ use Rattle.rw_recv_head.specs.declared.question.Question.{Question}
 use Rattle.rw_recv_head.specs.Seats.{Seated, own}
 use Rattle.rw_machine.specs.Worlds.{Setup}
 use Rattle.rw_machine.proofs.shared.Places.{get_some}
-use Rattle.rw_simulation.specs.Arrivals.{Arrival, IsBefore, IsAnsweredBy}
+use Rattle.rw_restarts.specs.Arrivals.{Arrival, IsAnsweredBy}
+use Rattle.rw_restarts.proofs.shared.ListLemmas.{map_get, get_map, get-first}
+use Rattle.rw_simulation.specs.OneReceivers.{IsBefore}
 use Rattle.rw_simulation.specs.SharedReceivers.{Coming, questions_of, questions_in, Carries, IsAnsweredAt, IsAnswered, arrival_of, head_behind, IsSharedReceiver}
 use Rattle.rw_simulation.specs.Seatings.{Asks, AreAskedFor, AreSeated, SeatsAsOne}
-use Rattle.rw_simulation.proofs.shared.Pasts.{map_get, get_map, get-first}
 use Rattle.rw_simulation.proofs.shared.Passed.{passed, IsAt, place, passes_at, passed_lt, one_place}
 use Rattle.rw_simulation.proofs.Spans.{number_of, AreMade, number_lt, IsMadeFor, made_for, HasPart, part_of}
 use Rattle.rw_simulation.proofs.SharedReceivers.{shares-as-one}
