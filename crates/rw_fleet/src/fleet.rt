@@ -13,7 +13,7 @@ use crate::connect::Connect;
 use crate::joined::Resolution;
 use crate::lists::{end_all, hand_over_all, join_all, load_at_work, mark_all, open_all};
 use crate::load::Load;
-use crate::running::{Fault, RunningShard, StoppingShard};
+use crate::running_shard::{Fault, RunningShard, StoppingShard};
 use crate::stopped::StoppedShards;
 use rw_series_cache::RoutedSample;
 use rw_shard_core::Config;

@@ -8,7 +8,7 @@ mod fleet;
 mod joined;
 mod lists;
 mod load;
-mod running;
+mod running_shard;
 mod stopped;
 mod window;
 
@@ -17,5 +17,5 @@ pub use ends::{Ends, Fed};
 pub use fleet::ShardSet;
 pub use joined::{Finished, Resolution, StoppedShard};
 pub use load::Load;
-pub use running::Fault;
+pub use running_shard::Fault;
 pub use stopped::StoppedShards;

@@ -11,7 +11,7 @@ ghost use Rattle.rw_fleet.specs.inner.Work.{HasUnresolved};
 use crate::connect::Connect;
 use crate::joined::{Resolution, StoppedShard};
 use crate::load::Load;
-use crate::running::{Fault, RunningShard, StoppingShard};
+use crate::running_shard::{Fault, RunningShard, StoppingShard};
 use crate::stopped::StoppedShards;
 use rw_ledger::Reason;
 use rw_shard_core::Config;

@@ -3,7 +3,7 @@
 #![tactic(auto)]
 
 mod added;
-mod admitting;
+mod admit;
 mod block;
 mod blocks;
 mod body;

@@ -21,8 +21,8 @@ use Rattle.rw_fleet.specs.ShardHistories.{ShardHistory, AreFresh, AreSame}
 use Rattle.rw_fleet.specs.Work.{lane_of, finished_of}
 use Rattle.rw_fleet.specs.Fleets.{Shards, EndBy}
 use Rattle.rw_fleet.specs.declared.joined.StoppedShard.{StoppedShard}
-use Rattle.rw_fleet.specs.declared.running.Fault.{Fault}
-use Rattle.rw_fleet.specs.declared.running.Fault.TheVariants as queue_fault
+use Rattle.rw_fleet.specs.declared.running_shard.Fault.{Fault}
+use Rattle.rw_fleet.specs.declared.running_shard.Fault.TheVariants as queue_fault
 use Rattle.rw_fleet.proofs.shared.LaneLemmas.{same_length}
 use Rattle.rw_sender.specs.Reports.{IsAbandoned, end_kind, workers_of}
 use Rattle.rw_sender.specs.Shipping.{Shipping, HasStopped, HasEndedAs, Feeds}
@@ -37,7 +37,7 @@ use Rattle.rw_in_memory.specs.Lines.{SeatLine}
 use Rattle.rw_in_memory.specs.Held.{seen_by, IsAnyones, AreLines, IsFirst, HasEnded}
 use Rattle.rw_in_memory.specs.Shipped.{IsGathered, IsOneEpoch, IsShippedTo, IsNew, IsShipped}
 use Rattle.rw_in_memory.specs.inner.Shipped.{IsSound, HasFed}
-use Rattle.rw_in_memory.specs.declared.shipping.Shipped.{Shipped}
+use Rattle.rw_in_memory.specs.declared.ship_log.Shipped.{Shipped}
 use Rattle.rw_in_memory.proofs.Held.{holds-in-memory}
 
 -- ---- as many workers as shards

@@ -21,7 +21,7 @@ use Rattle.rw_sender.specs.declared.report.Report.{Report}
 use Rattle.rw_simulation.specs.Received.{IsHeld}
 use Rattle.rw_in_memory.specs.Lines.{SeatLine, IsSeatLine}
 use Rattle.rw_in_memory.specs.Held.{seen_by, IsAnyones, seat_of, HasEnded}
-use Rattle.rw_in_memory.specs.declared.shipping.Shipped.{Shipped}
+use Rattle.rw_in_memory.specs.declared.ship_log.Shipped.{Shipped}
 
 -- the shipper was stopped with this report, and the seats of its lines were gathered
 pub record IsGathered (opening : State) (path : List ℕ) (limit : ℕ) (s : Shipping SeatLine) (shipped : Shipped) : Type 0 where

@@ -7,10 +7,10 @@ mod laws;
 mod line;
 mod lines;
 mod receiver;
-mod shipping;
+mod ship_log;
 
 pub use laws::a_head_in_memory_holds_the_samples;
 pub use line::Line;
 pub use lines::Lines;
 pub use receiver::{Endpoint, Receiver};
-pub use shipping::{Shipped, ship};
+pub use ship_log::{Shipped, ship};

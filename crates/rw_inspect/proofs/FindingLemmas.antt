@@ -22,7 +22,7 @@ use Rattle.rw_inspect.specs.Finding.{Finds, any_names, entry_text, label_fault_t
 use Rattle.rw_inspect.specs.inner.Finding.{IsFinder, is_asked, note_if, note_of, noted_at, notes_in, told}
 use Rattle.rw_log_read.proofs.shared.LogLemmas.{reads_first}
 use Rattle.rw_log_read.specs.Logs.{ReadsFirst, ReadsInto, fault_in}
-use Rattle.rw_inspect.specs.declared.finding.Found.{Found}
+use Rattle.rw_inspect.specs.declared.found.Found.{Found}
 use Rattle.rw_log_read.specs.declared.log_read.Segment.{Segment}
 use Rattle.rw_types.specs.Gathering.{gather_from, gather}
 

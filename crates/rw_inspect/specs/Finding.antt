@@ -12,7 +12,7 @@ use Rattle.rw_series_cache.specs.Known.{Standing, Unknown, Bad, Filtered, Kept, 
 use Rattle.rw_text.specs.LabelText.{labels_text}
 use Rattle.rw_text.specs.ValueText.{value_text}
 use Rattle.rw_log_read.specs.Logs.{AreRows, ReadsFirst, fault_in, log_of}
-use Rattle.rw_inspect.specs.declared.finding.Found.{Found}
+use Rattle.rw_inspect.specs.declared.found.Found.{Found}
 use Rattle.rw_log_read.specs.declared.log_read.Segment.{Segment}
 
 -- all label sets, with any UTF-8 names

@@ -4,7 +4,7 @@ ghost use Rattle.std.specs.Prelude.{◌≡◌, ◌++◌, OnOk, IfOk, flat_map};
 ghost use Rattle.rw_inspect.specs.Texts.{any_damage, counted_json, damage_json, dropped_json, first_json, found_json, listed, measures_json, name_json, next_json, next_step, placed_text, report_json, said_json, segment_json, sizes_json, spot_json, sums_json, totals_json};
 
 use crate::counts::Counts;
-use crate::pushing::{push_field, push_numbers, push_quoted_field, push_time_field};
+use crate::printed_parts::{push_field, push_numbers, push_quoted_field, push_time_field};
 use crate::report::Report;
 use crate::sizes::{Sizes, sizes_in, sizes_of};
 use crate::words::{fault_words, next_step};

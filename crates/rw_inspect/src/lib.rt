@@ -4,10 +4,10 @@
 
 mod counter;
 mod counts;
-mod finding;
-mod inspecting;
+mod found;
 mod json;
-mod pushing;
+mod log_report;
+mod printed_parts;
 mod report;
 mod sizes;
 mod table;
@@ -16,8 +16,8 @@ mod words;
 
 pub use counter::Counter;
 pub use counts::Counts;
-pub use finding::{Found, find_entries};
-pub use inspecting::inspect;
+pub use found::{Found, find_entries};
 pub use json::json_of;
+pub use log_report::inspect;
 pub use report::Report;
 pub use table::table_of;

@@ -4,7 +4,9 @@ ghost use Rattle.std.specs.Prelude.{◌≡◌, ◌++◌, OnOk, IfOk, flat_map};
 ghost use Rattle.rw_inspect.specs.Texts.{any_damage, columns_text, count_columns, damage_text, file_text, found_text, line_text, offset_text, placed_text, positions_text, report_text, rising_text, row_text, series_counts_text, size_columns, spot_text, time_columns};
 
 use crate::counts::Counts;
-use crate::pushing::{push_field, push_numbers, push_right, push_right_number, push_right_time};
+use crate::printed_parts::{
+    push_field, push_numbers, push_right, push_right_number, push_right_time,
+};
 use crate::report::Report;
 use crate::sizes::{Sizes, sizes_in, sizes_of};
 use crate::words::{fault_words, next_step};

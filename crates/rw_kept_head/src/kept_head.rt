@@ -13,7 +13,7 @@ ghost use Rattle.rw_head.specs.Head.{answer, IsStatus, SpellsMessage};
 ghost use Rattle.rw_head.specs.Store.{list_of, total};
 ghost use Rattle.rw_kept_head.specs.Kept.{ended_with, KeepsStore, IsLastWithin, IsLeft, StaysDefinedOnce};
 
-use crate::answering::admit_kept;
+use crate::admit_kept::admit_kept;
 use crate::log_writer::LogWriter;
 use rw_head::{Admission, Capacity, Head, Limits};
 use rw_kept_log::{Journal, JournalError};

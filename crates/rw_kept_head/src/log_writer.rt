@@ -14,8 +14,8 @@ ghost use Rattle.rw_kept_head.specs.Kept.{SaysWhat, IsLastWithin, IsLeft, StaysD
 ghost use Rattle.rw_kept_head.specs.inner.Inner.{ended_if, IsWritable, IsWritten, GoesOn, Keeps};
 ghost use Rattle.rw_kept_head.specs.declared.keep_error.KeepError.TheVariants.{Unspelled, Journal};
 
+use crate::added::collect;
 use crate::keep_error::KeepError;
-use crate::spelling::collect;
 use rw_head::StagedHead;
 use rw_kept_log::append_laws::{a_next_segment_may_begin, new_samples_are_read};
 use rw_kept_log::laws::segments_add_up;

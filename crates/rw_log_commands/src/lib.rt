@@ -2,14 +2,14 @@
 #![tactic(auto)]
 
 mod counts;
-mod filling;
+mod filled;
 mod labelling;
 mod lines;
 mod log;
+mod log_read;
 mod log_text;
 mod plan;
 mod planner;
-mod reading;
 mod run;
 
 pub use labelling::Labelling;

@@ -8,7 +8,7 @@ ghost use Rattle.rw_log_commands.specs.inner.Logging.{IsForSegments, StopsLog};
 ghost use Rattle.rw_wal_format.specs.declared.tail_fault.TailFault.{TailFault};
 ghost use Rattle.rw_text.specs.declared.tool_fault.ToolFault.TheVariants.{OutOfMemory, Log, Line, SegmentFull, Device};
 
-use crate::filling::fill;
+use crate::filled::fill;
 use crate::log_text::judge;
 use crate::run::{output_of, read_input};
 use rw_text::ToolFault;

@@ -8,8 +8,8 @@ ghost use Rattle.rw_log_commands.specs.Running.{ReadsFault, ReadsLine};
 ghost use Rattle.rw_log_commands.specs.Taking.{ReadsLogToFault};
 ghost use Rattle.rw_text.specs.declared.tool_fault.ToolFault.TheVariants.{Log, Line, SegmentFull, Device};
 
+use crate::log_read::read_log;
 use crate::planner::Planner;
-use crate::reading::read_log;
 use crate::run::read_input;
 use rw_log_read::SegmentReader;
 use rw_relabel::Choice;

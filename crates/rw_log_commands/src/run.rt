@@ -10,7 +10,7 @@ ghost use Rattle.rw_log_commands.specs.Running.{output_of, ReadsInput, WritesBod
 ghost use Rattle.rw_log_commands.specs.inner.Running.{StopsInput};
 
 use crate::labelling::Labelling;
-use crate::reading::read_segment;
+use crate::log_read::read_segment;
 use rw_text::ToolFault;
 use rw_types::{Entry, Sink, Source, read_to_end, write_all};
 use rw_wal_tail::Taker;

@@ -5,9 +5,9 @@
 mod counting;
 mod log;
 mod log_read;
-mod reading;
 mod segment_list;
 mod segment_reader;
+mod segment_text;
 mod skipped;
 mod sums;
 

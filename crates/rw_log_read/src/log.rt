@@ -10,8 +10,8 @@ ghost use Rattle.rw_log_read.specs.inner.Logs.{AreTaken, ReadsSegment, begun};
 
 use crate::counting::Counting;
 use crate::log_read::{Damage, LogRead, Segment};
-use crate::reading::read_text;
 use crate::segment_reader::SegmentReader;
+use crate::segment_text::read_text;
 use crate::skipped::skipped_records;
 use rw_types::ReadFault;
 use rw_wal_tail::{Tail, TailFault, Taker};

@@ -1,6 +1,6 @@
 //! A client of the pages.
 
-use crate::asking::{Asked, wanted};
+use crate::asked::{Asked, wanted};
 use crate::counters::Counters;
 use crate::reply::write_reply;
 use rw_socket::{Deadline, Timely};

@@ -2,7 +2,7 @@
 //! format of Prometheus over HTTP, and lines of progress.
 #![tactic(auto)]
 
-mod asking;
+mod asked;
 mod body;
 mod cause;
 mod client;

@@ -3,7 +3,7 @@
 ghost use Rattle.std.specs.Prelude.{◌≡◌, IfOk};
 ghost use Rattle.rw_metrics.specs.inner.Exposition.{reply};
 
-use crate::asking::Asked;
+use crate::asked::Asked;
 use crate::counters::Counters;
 use crate::exposition::push_text;
 use rw_text::push_number;

@@ -9,7 +9,7 @@ use Rattle.rw_head.specs.Head.{State}
 use Rattle.rw_head.specs.Store.{Store}
 use Rattle.rw_head.specs.Growth.{EachRises}
 use Rattle.rw_recv_head.specs.Seats.{Seated, HasAdmitted, HasGathered}
-use Rattle.rw_state_text.specs.StateText.{store_text}
+use Rattle.rw_report_text.specs.StateText.{store_text}
 
 -- a prefix of the text was written
 abbrev pub AppendsPart : Option (List ℕ) → Option (List ℕ) → List ℕ → Type 0

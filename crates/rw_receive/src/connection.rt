@@ -3,7 +3,7 @@
 ghost use Rattle.std.specs.Prelude.{◌≡◌, IfErr};
 ghost use Rattle.rw_text.specs.declared.tool_fault.ToolFault.TheVariants.{OutOfMemory};
 
-use crate::serving::{ServerContext, serve_connection};
+use crate::server_context::{ServerContext, serve_connection};
 use crate::until::ServeUntil;
 use rw_recv_head::{Admit, Holding, Naming, Seat, SharedHead};
 use rw_text::ToolFault;

@@ -4,10 +4,10 @@ ghost use Rattle.std.specs.Prelude.{◌≡◌, ◌⊎◌, false, true, Err, IfEr
 ghost use Rattle.std.specs.Io.KnownBytes.{Appends};
 ghost use Rattle.rw_text.specs.declared.tool_fault.ToolFault.TheVariants.{OutOfMemory, Device};
 ghost use Rattle.rw_receive.specs.Receiving.{AppendsPart};
-ghost use Rattle.rw_state_text.specs.StateText.{store_text};
+ghost use Rattle.rw_report_text.specs.StateText.{store_text};
 
 use rw_head::Head;
-use rw_state_text::push_store;
+use rw_report_text::push_store;
 use rw_text::ToolFault;
 use rw_types::{Sink, write_all};
 use std::alloc::Global;

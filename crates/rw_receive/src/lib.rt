@@ -2,17 +2,17 @@
 //! is printed.
 #![tactic(auto)]
 
-mod accepting;
-mod closing;
 mod connection;
 mod counting_seat;
+mod graceful_close;
 mod held;
+mod next_connection;
 mod pace;
 mod receive;
 mod seat_pool;
 mod seat_request;
+mod server_context;
 mod service;
-mod serving;
 mod timed_stream;
 mod until;
 

@@ -4,13 +4,13 @@ ghost use Rattle.std.specs.Prelude.{◌≡◌, ◌⊎◌, true, false, Err, IfEr
 ghost use Rattle.std.specs.Io.KnownBytes.{Appends};
 ghost use Rattle.rw_head.specs.Capacity.{StaysWithin};
 ghost use Rattle.rw_receive.specs.Receiving.{AppendsPart, HasServed, WritesHeld, WritesHeldPart};
-ghost use Rattle.rw_state_text.specs.StateText.{store_text};
+ghost use Rattle.rw_report_text.specs.StateText.{store_text};
 ghost use Rattle.rw_text.specs.declared.tool_fault.ToolFault.TheVariants.{OutOfMemory, Device};
 
 use crate::held::print_held;
 use crate::seat_request::SeatRequest;
+use crate::server_context::ServerContext;
 use crate::service::serve_head;
-use crate::serving::ServerContext;
 use crate::until::ServeUntil;
 use rw_head::{Capacity, Head, Limits};
 use rw_metrics::ReceiveCounters;

@@ -3,9 +3,9 @@
 ghost use Rattle.std.specs.Prelude.{◌≡◌, ◌<◌, ◌⊎◌, IfOk, IfErr, OnOk, vec_len};
 ghost use Rattle.rw_text.specs.declared.tool_fault.ToolFault.TheVariants.{OutOfMemory, Device};
 
-use crate::accepting::next_connection;
 use crate::connection::{ActiveConnection, Connection, start_connection};
-use crate::serving::ServerContext;
+use crate::next_connection::next_connection;
+use crate::server_context::ServerContext;
 use rw_follow::StopRequest;
 use rw_recv_head::{Admit, Holding, Naming, Seat, SharedHead};
 use rw_text::ToolFault;

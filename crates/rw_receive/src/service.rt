@@ -5,9 +5,9 @@ ghost use Rattle.rw_head.specs.Capacity.{StaysWithin};
 ghost use Rattle.rw_receive.specs.Receiving.{HasServed};
 ghost use Rattle.rw_text.specs.declared.tool_fault.ToolFault.TheVariants.{OutOfMemory, Device};
 
-use crate::accepting::prepare_accepts;
+use crate::next_connection::prepare_accepts;
 use crate::seat_pool::{SeatPool, serve_each};
-use crate::serving::ServerContext;
+use crate::server_context::ServerContext;
 use rw_recv_head::{Admit, Blank, Holding, Seat, SharedHead};
 use rw_text::ToolFault;
 use std::net::TcpListener;

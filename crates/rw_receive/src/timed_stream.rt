@@ -4,7 +4,7 @@
 ghost use Rattle.std.specs.Prelude.{◌+◌, ◌*◌, ◌<◌, ◌≤◌};
 
 use crate::pace::{GRACE_MS, Pace};
-use crate::serving::ServerContext;
+use crate::server_context::ServerContext;
 use rw_follow::StopRequest;
 use rw_types::Bounded;
 use std::cell::Cell;

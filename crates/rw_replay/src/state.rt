@@ -1,10 +1,10 @@
 //! The state of a world printed.
 
 ghost use Rattle.std.specs.Prelude.{◌≡◌, ◌++◌, IfOk, OnOk};
-ghost use Rattle.rw_state_text.specs.StateText.{store_text};
+ghost use Rattle.rw_report_text.specs.StateText.{store_text};
 ghost use Rattle.rw_replay.specs.WorldText.{state_text};
 
-use rw_state_text::{push_received, push_work};
+use rw_report_text::{push_received, push_work};
 use rw_world::World;
 use std::alloc::{AllocError, Global};
 

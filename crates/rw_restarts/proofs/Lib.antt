@@ -1,6 +1,7 @@
 mod AdditionLemmas
 mod AnswerLemmas
 mod BatchLemmas
+pub mod CheckpointLemmas
 mod ExampleLemmas
 mod KeptExampleLemmas
 mod KeptReceiverLemmas
@@ -8,6 +9,7 @@ mod KeptWireLemmas
 mod ListedLemmas
 mod LogLemmas
 mod OpenExampleLemmas
+pub mod OwedLemmas
 mod PartLemmas
 mod PlaceLemmas
 mod ReceivedLemmas

@@ -11,7 +11,7 @@ use Rattle.rw_head.specs.Lists.{IsEarlier}
 use Rattle.rw_head.specs.Order.{Point}
 use Rattle.rw_head.specs.Store.{list_of}
 use Rattle.rw_head.specs.Verdicts.{LabelLimits}
-use Rattle.rw_checkpoint.specs.Owed.{owed_of}
+use Rattle.rw_restarts.specs.Owed.{owed_of}
 use Rattle.rw_restarts.specs.Parts.{points_in}
 use Rattle.rw_restarts.specs.Stopped.{run_from_start}
 use Rattle.rw_restarts.specs.Runs.{SenderRun, SentMessage, acknowledged_in, acknowledged_before, IsRunOver}

@@ -21,7 +21,7 @@ use Rattle.rw_head.specs.Order.{Point}
 use Rattle.rw_head.specs.Store.{Store, list_of}
 use Rattle.rw_head.specs.Verdicts.{LabelLimits}
 use Rattle.rw_kept_head.specs.Kept.{SaysWhat, LiesBetween}
-use Rattle.rw_checkpoint.specs.Owed.{pairs_of, rising, owed_of}
+use Rattle.rw_restarts.specs.Owed.{pairs_of, rising, owed_of}
 use Rattle.rw_restarts.specs.Runs.{SenderRun, acknowledged_in}
 use Rattle.rw_restarts.specs.Receivers.{ReceiverEvent, ReceiverState, IsReceiverOf}
 use Rattle.rw_restarts.specs.Logs.{AreRunsOverLog, IsRunOverPart, HoldsLog}

@@ -16,7 +16,7 @@ use Rattle.rw_series_cache.specs.Rising.{is_after_all, rises}
 use Rattle.rw_series_cache.proofs.shared.PointLemmas.{definition_gives_none, sample_is_kept, sample_is_other}
 use Rattle.rw_sender.specs.Logs.{Sent, kept_sample, sent, sent_of, sent_by_fate}
 use Rattle.rw_head.specs.Order.{Point}
-use Rattle.rw_checkpoint.specs.Owed.{pairs_of, is_after_each, rising, owed_of}
+use Rattle.rw_restarts.specs.Owed.{pairs_of, is_after_each, rising, owed_of}
 use Rattle.rw_plain_queue.specs.Items.{Placed}
 use Rattle.rw_sender.specs.Placement.{as_sent}
 use Rattle.rw_restarts.specs.Workers.{samples_in_batch}

@@ -29,7 +29,7 @@ use Rattle.rw_fleet.specs.ShardHistories.{ShardHistory}
 use Rattle.rw_sender.specs.Logs.{Sent, sent, sent_of, sent_by_fate}
 use Rattle.rw_sender.specs.Placement.{of_shard, shard_of, samples_put, IsDealt, Places}
 use Rattle.rw_head.specs.Order.{Point}
-use Rattle.rw_checkpoint.specs.Owed.{owed_of}
+use Rattle.rw_restarts.specs.Owed.{owed_of}
 use Rattle.rw_restarts.specs.Parts.{points_in}
 use Rattle.rw_restarts.specs.Runs.{SentMessage, acknowledged_by, acknowledged_in, NoneRefused}
 use Rattle.rw_restarts.specs.Workers.{samples_in_batch, SendsSamples, HasResolvedAll, NeverRefused, WorkerSendsSamples}

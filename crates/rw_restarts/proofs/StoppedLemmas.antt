@@ -27,7 +27,7 @@ use Rattle.rw_sender.proofs.shared.PlacementLemmas.{get_some, whole_is, whole_pl
 use Rattle.rw_sender.proofs.shared.ShippingLemmas.{all_is}
 use Rattle.rw_restarts.proofs.shared.EndLemmas.{resolves-all, same_items}
 use Rattle.rw_restarts.proofs.shared.ListLemmas.{get-first, map_get}
-use Rattle.rw_checkpoint.specs.Owed.{owed_of}
+use Rattle.rw_restarts.specs.Owed.{owed_of}
 use Rattle.rw_restarts.specs.Workers.{HasResolvedAll}
 use Rattle.rw_restarts.specs.Shards.{AreAllDone, AreDone, HasMadeSteps, HaveMadeSteps, HaveRun, IsRunOfEpochs}
 use Rattle.rw_restarts.specs.Stopped.{AbandonsAsSender, IsStoppedRun, StopsAsSender, first_of_epoch, steps_at, steps_reported}

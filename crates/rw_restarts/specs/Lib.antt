@@ -1,4 +1,5 @@
 pub mod Arrivals
+pub mod Checkpoints
 pub mod Examples
 pub mod KeptExamples
 pub mod KeptReceivers
@@ -6,6 +7,7 @@ pub mod KeptWireReceivers
 pub mod Listed
 pub mod Logs
 pub mod OpenExamples
+pub mod Owed
 pub mod Parts
 pub mod Receivers
 pub mod Refusals

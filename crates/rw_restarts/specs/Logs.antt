@@ -7,7 +7,7 @@ use Rattle.rw_types.specs.declared.entry.Entry.{Entry}
 use Rattle.rw_relabel.specs.declared.choice.Choice.{Choice}
 use Rattle.rw_head.specs.Lists.{IsEarlier}
 use Rattle.rw_head.specs.Store.{list_of}
-use Rattle.rw_checkpoint.specs.Owed.{owed_of}
+use Rattle.rw_restarts.specs.Owed.{owed_of}
 use Rattle.rw_restarts.specs.Parts.{points_in}
 use Rattle.rw_restarts.specs.Runs.{SenderRun, SentMessage, acknowledged_in, NoneRefused}
 use Rattle.rw_restarts.specs.Receivers.{ReceiverEvent, ReceiverState, HoldsPrefixes}

@@ -15,7 +15,7 @@ use Rattle.rw_ledger.specs.declared.ledger.Reason.{Reason}
 use Rattle.rw_head.specs.Order.{Point}
 use Rattle.rw_head.specs.Store.{Store, list_of}
 use Rattle.rw_machine.specs.Promises.{LoggedPoint, owed, pair_of}
-use Rattle.rw_checkpoint.specs.Owed.{owed_of}
+use Rattle.rw_restarts.specs.Owed.{owed_of}
 use Rattle.rw_restarts.specs.Runs.{SenderRun, acknowledged_in}
 use Rattle.rw_restarts.specs.Logs.{SendsOwed}
 

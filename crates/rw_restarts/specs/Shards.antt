@@ -8,7 +8,7 @@ use Rattle.rw_relabel.specs.declared.choice.Choice.{Choice}
 use Rattle.rw_worker.specs.Setups.{start_of}
 use Rattle.rw_worker.specs.Steps.{Step, AreSteps, items_of}
 use Rattle.rw_fleet.specs.ShardHistories.{ShardHistory}
-use Rattle.rw_checkpoint.specs.Owed.{owed_of}
+use Rattle.rw_restarts.specs.Owed.{owed_of}
 use Rattle.rw_restarts.specs.Parts.{points_in}
 use Rattle.rw_restarts.specs.Runs.{SentMessage, acknowledged_in}
 use Rattle.rw_restarts.specs.Logs.{SendsOwed}

@@ -10,7 +10,7 @@ ghost use Rattle.rw_worker.specs.Steps.{AreSteps};
 ghost use Rattle.rw_fleet.specs.ShardHistories.{ShardHistory};
 ghost use Rattle.rw_retry.specs.declared.judgement.Judgement.TheVariants.{Done, Again};
 ghost use Rattle.rw_head.specs.Store.{list_of};
-ghost use Rattle.rw_checkpoint.specs.Owed.{rising};
+ghost use Rattle.rw_restarts.specs.Owed.{rising};
 ghost use Rattle.rw_restarts.specs.Parts.{points_in};
 ghost use Rattle.rw_restarts.specs.Runs.{AreRunsOver, acknowledged_in};
 ghost use Rattle.rw_restarts.specs.Receivers.{IsReceiverOf};

@@ -2,6 +2,7 @@
 //! times. This crate has only laws: nothing here runs.
 #![tactic(auto)]
 
+mod checkpoints;
 mod examples;
 mod logs;
 mod receivers;
@@ -12,6 +13,9 @@ mod stopped;
 mod wire;
 mod workers;
 
+pub use checkpoints::{
+    a_checkpoint_keeps_the_series, samples_from_a_time_on_rise_alike, what_is_owed_rises,
+};
 pub use examples::{
     a_small_history_is_allowed, a_small_history_over_a_folder_is_allowed,
     a_small_history_over_the_wire_is_allowed, a_small_open_receiver_is_allowed,

@@ -7,14 +7,14 @@ ghost use Rattle.rw_types.specs.declared.entry.Entry.{Entry};
 ghost use Rattle.rw_relabel.specs.declared.choice.Choice.{Choice};
 ghost use Rattle.rw_head.specs.Verdicts.{LabelLimits};
 ghost use Rattle.rw_head.specs.Order.{Point};
-ghost use Rattle.rw_checkpoint.specs.Checkpoints.{IsCheckpointFor, IsInTime};
-ghost use Rattle.rw_checkpoint.specs.Owed.{owed_of};
+ghost use Rattle.rw_restarts.specs.Checkpoints.{IsCheckpointFor, IsInTime};
+ghost use Rattle.rw_restarts.specs.Owed.{owed_of};
 ghost use Rattle.rw_restarts.specs.Runs.{SenderRun, SentMessage, IsRunOver};
 ghost use Rattle.rw_restarts.specs.Stopped.{run_from_start};
 ghost use Rattle.rw_restarts.specs.Receivers.{ReceiverEvent, ReceiverState, IsReceiverOf};
 ghost use Rattle.rw_restarts.specs.Logs.{IsRunOverPart, AreRunsOverLog, HoldsLog};
 
-use rw_checkpoint::{a_checkpoint_keeps_the_series, what_is_owed_rises};
+use crate::checkpoints::{a_checkpoint_keeps_the_series, what_is_owed_rises};
 
 /// Law: a run that sends what a part of the log owes is a run over what the whole log owes.
 pub fn a_run_over_a_part_is_a_run_over_the_log()

@@ -24,8 +24,8 @@ ghost use Rattle.rw_restarts.specs.Receivers.{ReceiverEvent, ReceiverState, IsRe
 ghost use Rattle.rw_restarts.specs.Relay.{ReadsSegments, AllReadSegments};
 ghost use Rattle.rw_restarts.specs.Relay.{IsRelayed, IsRelayedLess};
 
+use crate::checkpoints::what_is_owed_rises;
 use crate::logs::many_runs_hold_one_log;
-use rw_checkpoint::what_is_owed_rises;
 
 /// Law: a first receiver keeps what it holds in a log, which a sender sends to a second one.
 /// However often all three are started again, the second receiver holds of each label set a prefix

@@ -7,14 +7,14 @@ ghost use Rattle.rw_types.specs.declared.entry.Entry.{Entry};
 ghost use Rattle.rw_relabel.specs.declared.choice.Choice.{Choice};
 ghost use Rattle.rw_worker.specs.Steps.{Step};
 ghost use Rattle.rw_fleet.specs.ShardHistories.{ShardHistory};
-ghost use Rattle.rw_checkpoint.specs.Owed.{owed_of};
+ghost use Rattle.rw_restarts.specs.Owed.{owed_of};
 ghost use Rattle.rw_sender.specs.Logs.{sent};
 ghost use Rattle.rw_sender.specs.Placement.{Places};
 ghost use Rattle.rw_restarts.specs.Senders.{samples_sent};
 ghost use Rattle.rw_restarts.specs.Shards.{HaveRun, IsRunOfEpochs};
 
+use crate::checkpoints::what_is_owed_rises;
 use crate::workers::a_worker_sends_its_samples;
-use rw_checkpoint::what_is_owed_rises;
 
 /// Law: of each label set the samples that a sender puts into the queues of its shards are those
 /// that the log owes, in order.

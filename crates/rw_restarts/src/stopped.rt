@@ -6,11 +6,11 @@ ghost use Rattle.rw_sender.specs.declared.report.Report.{Report};
 ghost use Rattle.rw_restarts.specs.Stopped.{StopsAsSender, AbandonsAsSender};
 ghost use Rattle.rw_restarts.specs.Stopped.{AddsToReceiver, AddsOverWire};
 
+use crate::checkpoints::what_is_owed_rises;
 use crate::receivers::an_endpoint_is_such_a_receiver;
 use crate::runs::acknowledged_samples_stay;
 use crate::senders::a_sender_is_a_run;
 use crate::workers::a_worker_sends_its_samples;
-use rw_checkpoint::what_is_owed_rises;
 use rw_worker::Transport;
 
 /// Law: a shipper that was stopped is a run over the log that it was fed. What it sent is what the

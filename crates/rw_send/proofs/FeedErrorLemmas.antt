@@ -2,7 +2,7 @@
 use Rattle.std.proofs.Common.{◌≡◌, ◌⊎◌, inl, inr, ℕ, ◌≤◌, Option, None, Some, Result, Ok, Err, IfErr, refl, sym, ap, ◌∙◌, subst}
 use Rattle.std.specs.Prelude.{IsSome, is_err, true}
 use Rattle.std.specs.Result.{IsErrAnd}
-use Rattle.rw_fleet.specs.declared.running.Fault.{Fault}
+use Rattle.rw_fleet.specs.declared.running_shard.Fault.{Fault}
 use Rattle.rw_sender.specs.Placement.{IsShardCount}
 use Rattle.rw_sender.specs.Shipping.{FailsBy, Feeds, Shipping}
 use Rattle.rw_sender.specs.declared.shipper.FeedFault.{FeedFault}

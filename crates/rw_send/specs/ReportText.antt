@@ -6,7 +6,7 @@ use Rattle.rw_ledger.specs.declared.ledger.Reason.{Reason}
 use Rattle.rw_shard_core.specs.declared.outcome.Outcome.{Outcome}
 use Rattle.rw_shard_core.specs.declared.outcome.Outcome.TheVariants as outcome
 use Rattle.rw_shard_core.specs.Endings.{Ending, Complete, Abandoned, Damaged}
-use Rattle.rw_state_text.specs.StateText.{work_text}
+use Rattle.rw_report_text.specs.StateText.{work_text}
 use Rattle.rw_fleet.specs.Stopped.{names_in_parts}
 use Rattle.rw_sender.specs.Reports.{parts_of}
 use Rattle.rw_sender.specs.declared.report.Report.{Report}

@@ -14,7 +14,7 @@ ghost use Rattle.rw_send.specs.inner.Sending.{answer_to, hard_fault};
 use crate::counters::{FeedContext, count_report, update_counters};
 use crate::feed_error::FeedError;
 use crate::options::SendOptions;
-use crate::printing::print_report;
+use crate::printed_report::print_report;
 use crate::sharding::Sharding;
 use crate::shipping::{ship_all, zeros};
 use rw_sender::{Connect, Outcome, Report, Shipper};

@@ -5,8 +5,8 @@ use Rattle.rw_fleet.specs.ShardHistories.{AreFresh, AreSetUp}
 use Rattle.rw_plain_queue.specs.declared.item.Kind.TheVariants.{Reshard}
 use Rattle.rw_fleet.specs.Work.{lane_of, finished_of, AreResolved, AreWorked}
 use Rattle.rw_fleet.specs.Fleets.{Shards, AreAll, EndBy}
-use Rattle.rw_fleet.specs.declared.running.Fault.{Fault}
-use Rattle.rw_fleet.specs.declared.running.Fault.TheVariants as queue_fault
+use Rattle.rw_fleet.specs.declared.running_shard.Fault.{Fault}
+use Rattle.rw_fleet.specs.declared.running_shard.Fault.TheVariants as queue_fault
 use Rattle.rw_types.specs.Beginnings.{Begins}
 use Rattle.rw_wal_format.specs.Pieces.{Piece, entries}
 use Rattle.rw_ledger.specs.Names.{Named}

@@ -31,7 +31,7 @@ use Rattle.rw_fleet.specs.Fleets.{Shards, AreAll, EndBy}
 use Rattle.rw_fleet.specs.ShardHistories.{ShardHistory, AreSame}
 use Rattle.rw_fleet.specs.Work.{lane_of}
 use Rattle.rw_fleet.specs.declared.joined.StoppedShard.{StoppedShard}
-use Rattle.rw_fleet.specs.declared.running.Fault.{Fault}
+use Rattle.rw_fleet.specs.declared.running_shard.Fault.{Fault}
 use Rattle.rw_sender.specs.Placement.{AreTurned, IsShardCount}
 use Rattle.rw_sender.specs.Reports.{IsAbandoned, workers_of}
 use Rattle.rw_sender.specs.Shipping.{Shipping, HasEndedAs, PlacesAll}

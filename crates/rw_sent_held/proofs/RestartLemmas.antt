@@ -20,7 +20,7 @@ use Rattle.rw_shard_core.specs.declared.outcome.Outcome.TheVariants.{Complete, A
 use Rattle.rw_head.specs.Order.{Point}
 use Rattle.rw_head.specs.Store.{Store, list_of}
 use Rattle.rw_head.specs.Verdicts.{LabelLimits}
-use Rattle.rw_checkpoint.specs.Owed.{owed_of}
+use Rattle.rw_restarts.specs.Owed.{owed_of}
 use Rattle.rw_worker.specs.Transcript.{Exchange}
 use Rattle.rw_sender.specs.Reports.{IsAbandoned}
 use Rattle.rw_sender.specs.Shipping.{Shipping, HasEndedAs}

@@ -15,7 +15,7 @@ use Rattle.rw_head.specs.Head.{State}
 use Rattle.rw_head.specs.Order.{Point, holds}
 use Rattle.rw_head.specs.Store.{Store, list_of}
 use Rattle.rw_head.specs.Verdicts.{LabelLimits}
-use Rattle.rw_checkpoint.specs.Owed.{owed_of}
+use Rattle.rw_restarts.specs.Owed.{owed_of}
 use Rattle.rw_worker.specs.Transcript.{Exchange}
 use Rattle.rw_sender.specs.Shipping.{Shipping, HasStopped}
 use Rattle.rw_sender.specs.declared.report.Report.{Report}

@@ -19,7 +19,7 @@ use crate::keys::{REGEX, document_keys, receive_keys, rule_keys, send_keys};
 use crate::notes::{SettingsNote, note_keys, note_table, push_note};
 use crate::order_text::order_text;
 use crate::read::text_in;
-use crate::sending::order_fault;
+use crate::send_table::order_fault;
 use crate::values::{list_at, list_or_none, section, value_at};
 use regex::Regex;
 use std::alloc::{AllocError, Global};

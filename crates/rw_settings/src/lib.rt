@@ -3,17 +3,17 @@
 
 mod explain;
 mod fault;
-mod judging;
 mod keys;
 mod notes;
 mod order_text;
 mod print;
 mod printed_values;
 mod read;
-mod receiving;
+mod receive_table;
 mod rule_tables;
-mod sending;
+mod send_table;
 mod settings;
+mod table_faults;
 mod values;
 
 pub use explain::explain_settings;

@@ -9,8 +9,8 @@ ghost use Rattle.rw_settings.specs.inner.Keys.{row_of};
 ghost use Rattle.rw_settings.specs.declared.fault.SettingsFault.TheVariants.{UnknownKey};
 
 use crate::fault::SettingsFault;
-use crate::judging::{fault_at, is_known};
 use crate::keys::{Key, Kind};
+use crate::table_faults::{fault_at, is_known};
 use crate::values::value_at;
 use std::alloc::{AllocError, Global};
 use strsim::levenshtein;

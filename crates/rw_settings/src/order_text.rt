@@ -1,7 +1,7 @@
 //! The text of a note on shards or backoff that are not between their bounds.
 
-use crate::judging::fault_at;
 use crate::keys::{Key, MAX_BACKOFF_MS, MAX_SHARDS, MIN_BACKOFF_MS, MIN_SHARDS, SHARDS};
+use crate::table_faults::fault_at;
 use crate::values::{number_of, value_at};
 use std::alloc::{AllocError, Global};
 use toml::Table;

@@ -5,9 +5,9 @@ ghost use Rattle.rw_settings.specs.RuleTables.{written_rule};
 ghost use Rattle.rw_settings.specs.Settings.{settings_in, IsFaultOf};
 ghost use Rattle.rw_settings.specs.SettingsText.{settings_text};
 
-use crate::receiving::push_receive;
+use crate::receive_table::push_receive;
 use crate::rule_tables::push_rules;
-use crate::sending::push_send;
+use crate::send_table::push_send;
 use crate::{RuleFields, Settings, SettingsFault, read_rules, read_settings};
 use std::alloc::{AllocError, Global};
 

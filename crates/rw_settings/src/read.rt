@@ -12,12 +12,12 @@ ghost use Rattle.rw_settings.specs.Settings.{document_fault, settings_if, settin
 ghost use Rattle.rw_settings.specs.declared.fault.SettingsFault.TheVariants.{OutOfMemory, NotToml};
 
 use crate::fault::{SettingsFault, least};
-use crate::judging::{keys_fault, table_fault};
 use crate::keys::{document_keys, receive_keys};
-use crate::receiving::receive_limits;
+use crate::receive_table::receive_limits;
 use crate::rule_tables::{RuleFields, rules_fault, rules_of, written_rules};
-use crate::sending::{send_fault, send_fields};
+use crate::send_table::{send_fault, send_fields};
 use crate::settings::Settings;
+use crate::table_faults::{keys_fault, table_fault};
 use crate::values::{list_at, list_or_none, section, section_or};
 use rw_relabel::Rules;
 use rw_shard_core::Config;

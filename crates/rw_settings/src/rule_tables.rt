@@ -10,9 +10,9 @@ ghost use Rattle.rw_settings.specs.Settings.{IsRefusedRule};
 ghost use Rattle.rw_settings.specs.declared.fault.SettingsFault.TheVariants.{OutOfMemory, BadRule};
 
 use crate::fault::{SettingsFault, lesser};
-use crate::judging::table_fault;
 use crate::keys::{ACTION, REGEX, SEPARATOR, SOURCE_LABELS, rule_keys};
 use crate::printed_values::{Shown, push_lines};
+use crate::table_faults::table_fault;
 use crate::values::{list_or_none, table_or, text_or};
 use rw_relabel::{Action, DEFAULT_PATTERN, DEFAULT_SEPARATOR, Rule, RuleFault, Rules};
 use std::alloc::{AllocError, Global};

@@ -1,10 +1,10 @@
 //! TCP connections that are accepted, read and written up to a deadline.
 #![tactic(auto)]
 
-mod accepting;
+mod accepts;
 mod deadline;
 mod timely;
 
-pub use accepting::{accept, limit_accepts};
+pub use accepts::{accept, limit_accepts};
 pub use deadline::Deadline;
 pub use timely::Timely;

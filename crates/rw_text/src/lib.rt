@@ -7,9 +7,9 @@ mod bytes;
 mod fault;
 mod hex_digits;
 mod hex_fault;
+mod hex_input;
 mod hex_laws;
-mod hex_reading;
-mod hex_writing;
+mod hex_output;
 mod labels;
 mod laws;
 mod line;
@@ -26,9 +26,9 @@ pub use address::{Address, address_is_one, read_address};
 pub use bytes::split_at_byte;
 pub use fault::TextFault;
 pub use hex_fault::HexFault;
+pub use hex_input::{read_digits, read_hex};
 pub use hex_laws::hex_text_is_read;
-pub use hex_reading::{read_digits, read_hex};
-pub use hex_writing::hex_text;
+pub use hex_output::hex_text;
 pub use labels::read_labels;
 pub use laws::{
     integer_is_read, labels_are_one, line_is_one, number_is_one, number_is_read, record_is_one,

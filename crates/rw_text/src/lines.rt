@@ -7,7 +7,7 @@ ghost use Rattle.rw_text.specs.LineText.{Line, IsSeriesLine, IsSampleLine, IsRaw
 
 use crate::bytes::{after, split_at_byte};
 use crate::fault::TextFault;
-use crate::hex_reading::read_digits;
+use crate::hex_input::read_digits;
 use crate::labels::read_labels;
 use crate::line::LogLine;
 use crate::numbers::{read_integer, read_number};

@@ -1,14 +1,19 @@
-mod ItemLaws
+mod CopyLaws
+mod FedLaws
 mod FormLaws
 mod FoundLaws
 mod HeldLaws
-mod StillLaws
-mod WaitingLaws
-mod PlaceSteps
-mod StepLaws
-mod FedLaws
+mod ItemLaws
 mod KeptLaws
-mod CopyLaws
+pub mod LayoutItems
+pub mod LayoutLogs
+pub mod LayoutPassing
+pub mod LayoutReading
+pub mod LayoutWriting
+mod PlaceSteps
 mod SkipLaws
+mod StepLaws
+mod StillLaws
 mod TakingLemmas
+mod WaitingLaws
 pub mod shared

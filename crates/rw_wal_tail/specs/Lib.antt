@@ -1,4 +1,9 @@
-pub mod Places
 pub mod Fed
+pub mod LayoutExamples
+pub mod LayoutFragments
+pub mod LayoutItems
+pub mod LayoutLog
+pub mod LayoutSegment
+pub mod Places
 pub mod Taking
 pub mod inner

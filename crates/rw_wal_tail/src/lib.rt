@@ -11,6 +11,7 @@
 mod form;
 mod input;
 mod item;
+pub mod layout_laws;
 mod piece;
 mod place;
 mod read;

@@ -12,7 +12,7 @@ ghost use Rattle.rw_write_request.specs.Parts.{read_on, read_on_after, series_on
 
 use crate::fault::WireFault;
 use crate::kind::Kind;
-use crate::reading::{Part, WireValue, field_at, field_counts, nested_label, nested_sample};
+use crate::reader::{Part, WireValue, field_at, field_counts, nested_label, nested_sample};
 use rw_types::Word;
 use std::alloc::Global;
 

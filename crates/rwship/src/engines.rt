@@ -1,16 +1,16 @@
 //! The commands that read standard input, or a folder, and write what they make of it.
 
-use crate::ending::{report_settings_fault, report_unread_input};
-use crate::explaining::report_input_result;
+use crate::explanations::report_input_result;
 use crate::input::{Form, Input, Reader};
-use crate::inspecting::{note_checkpoint, print_plan, report_run_fault};
+use crate::inspect_command::{note_checkpoint, print_plan, report_run_fault};
+use crate::program_end::{report_settings_fault, report_unread_input};
 use crate::settings::settings_in;
+use rw_cli::{LogDir, SettingsFile};
 use rw_log_commands::{run_body, run_log, run_log_dir, run_plan};
 use rw_replay::run_replay;
 use rw_settings::Settings;
 use rw_text::ToolFault;
 use rw_types::{Bounded, Std};
-use rw_words::{LogDir, SettingsFile};
 use std::process::ExitCode;
 
 /// Writes the body of a segment.

@@ -1,32 +1,32 @@
 //! The program `rwship`.
 #![tactic(auto)]
 
-mod ending;
 mod engines;
-mod explaining;
+mod explanations;
 mod input;
-mod inspecting;
-mod keeping;
-mod receiving;
-mod reporting;
-mod sending;
+mod inspect_command;
+mod kept_receiver;
+mod live_report;
+mod program_end;
+mod receive_command;
+mod send_command;
 mod settings;
-mod stopping;
+mod stop;
 
 use clap::ArgMatches;
-use ending::{
+use engines::{body, log, plan, replay};
+use inspect_command::{has_output_failed, print_found, print_inspected, report_run_fault};
+use program_end::{
     report_bad_address, report_bad_arguments, report_follow_fault, report_missing,
     report_output_fault, report_parse_error, report_result, report_settings_fault,
     report_unread_input,
 };
-use engines::{body, log, plan, replay};
-use inspecting::{has_output_failed, print_found, print_inspected, report_run_fault};
-use receiving::receive;
+use receive_command::receive;
+use rw_cli::{LogDir, SettingsFile, Task, command_line, positions_of, task_of};
 use rw_send::FollowFault;
 use rw_text::ToolFault;
 use rw_types::{Std, write_all};
-use rw_words::{LogDir, SettingsFile, Task, command_line, positions_of, task_of};
-use sending::send;
+use send_command::send;
 use settings::settings_text;
 use std::env;
 use std::io::ErrorKind;

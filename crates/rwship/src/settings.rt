@@ -4,11 +4,11 @@ ghost use Rattle.std.specs.Prelude.{◌≡◌, [], None, Ok, string_bytes, IfOk,
 ghost use Rattle.rw_settings.specs.Settings as toml;
 ghost use Rattle.rw_settings.specs.SettingsText.{settings_text};
 
+use rw_cli::SettingsFile;
 use rw_settings::{
     Settings, SettingsFault, SettingsNote, explain_settings, print_settings, read_settings,
 };
 use rw_text::ToolFault;
-use rw_words::SettingsFile;
 use std::io::ErrorKind;
 use std::{fs, io};
 

@@ -4,8 +4,8 @@
 use rw_head::Limits;
 use rw_machine::Event;
 use rw_replay::{Command, read_script};
+use rw_report_text::{push_received, push_work};
 use rw_shard_core::{Config, ConfigFields};
-use rw_state_text::{push_received, push_work};
 use rw_types::Bounded;
 use rw_world::World;
 use std::alloc::{AllocError, Global};

@@ -6,7 +6,7 @@ use rw_kept_folder::{FolderJournal, FolderMonitor, FolderRules, OpenFolder, open
 use rw_kept_head::{HeadReading, KeptHead};
 use rw_metrics::ReceiveCounters;
 use rw_receive::{ServeUntil, Service, serve_connections};
-use rw_state_text::push_store;
+use rw_report_text::push_store;
 use rw_text::ToolFault;
 use rw_types::Bounded;
 use std::alloc::Global;

@@ -15,7 +15,7 @@ use Rattle.rw_plain_queue.specs.declared.item.Kind.{Kind}
 use Rattle.rw_plain_queue.specs.declared.item.Kind.TheVariants.{Reshard}
 use Rattle.rw_fleet.specs.ShardHistories.{ShardHistory, put_into, AreFresh, AreSame, IsPut, marked, marks_of}
 use Rattle.rw_fleet.specs.Work.{AreEndedBy, lane_of, put_by, finished_of, AreResolved, HasCut}
-use Rattle.rw_fleet.specs.declared.running.Fault.{Fault}
+use Rattle.rw_fleet.specs.declared.running_shard.Fault.{Fault}
 use Rattle.rw_fleet.specs.Fleets.{Shards, AreAll, EndBy, HasClosed}
 use Rattle.rw_fleet.specs.declared.joined.Finished.{Finished}
 use Rattle.rw_fleet.specs.declared.joined.StoppedShard.{StoppedShard}

@@ -3,7 +3,7 @@
 use Rattle.std.specs.Prelude.{◌≡◌, List, [], ◌++◌, length, map, Option, Some, None, ⊤, ℕ}
 use Rattle.rw_fleet.specs.ShardHistories.{marks_of}
 use Rattle.rw_fleet.specs.Fleets.{Shards}
-use Rattle.rw_fleet.specs.declared.running.Fault.{Fault}
+use Rattle.rw_fleet.specs.declared.running_shard.Fault.{Fault}
 use Rattle.rw_types.specs.declared.entry.Entry.{Entry}
 use Rattle.rw_wal_format.specs.declared.tail_fault.TailFault.{TailFault}
 use Rattle.rw_sender.specs.Feeders.{Sorting, HasRead}

@@ -1,7 +1,7 @@
 use Rattle.std.proofs.Common.{length}
 use Rattle.rw_head.specs.Store.{list_of}
-use Rattle.rw_state_text.specs.StateText.{received_text, store_text}
-use Rattle.rw_state_text.proofs.shared.StateLemmas.{Written}
+use Rattle.rw_report_text.specs.StateText.{received_text, store_text}
+use Rattle.rw_report_text.proofs.shared.StateLemmas.{Written}
 use Rattle.rw_replay.proofs.state.push_all_received.Given as goal
 
 abbrev pub invariant-loop-labels : goal.invariant-loop-labels

@@ -2,7 +2,7 @@ use Rattle.std.proofs.Common.{Option, sym, ◌∙◌, subst}
 use Rattle.std.specs.Prelude.{is_some}
 use Rattle.rw_text.specs.declared.tool_fault.ToolFault.{ToolFault}
 use Rattle.rw_fleet.specs.Fleets.{EndBy}
-use Rattle.rw_fleet.specs.declared.running.Fault.{Fault}
+use Rattle.rw_fleet.specs.declared.running_shard.Fault.{Fault}
 use Rattle.rw_sender.specs.Reports.{end_kind, workers_of}
 use Rattle.rw_send.proofs.AnswerLemmas.{abandons_so, answers_orderly, answers_hard, goes_on, same_answer}
 use Rattle.rw_send.proofs.send.stop_shipper.Goals as goal

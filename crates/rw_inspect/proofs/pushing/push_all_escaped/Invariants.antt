@@ -1,6 +1,0 @@
-use Rattle.std.proofs.Common.{◌≡◌, ◌++◌, take, flat_map}
-use Rattle.rw_inspect.specs.Texts.{json_escaped}
-use Rattle.rw_inspect.proofs.pushing.push_all_escaped.Given as goal
-
-abbrev pub invariant-loop-byte : goal.invariant-loop-byte
-invariant-loop-byte l = l.out.items ≡ l.fn.out.items ++ flat_map json_escaped (take l.byte-index l.text)

@@ -1,7 +1,0 @@
-use Rattle.rw_wal_format.specs.Pieces.{reading}
-use Rattle.rw_log_layout.proofs.Logs.{log_read, log_laid_out}
-use Rattle.rw_log_layout.proofs.laws.logs_are_read.Goals as goal
-
-pub returns : goal.returns
-unfolding reading
-returns c = λ page pieces whole place p. (log_laid_out page pieces whole place p, log_read page pieces whole place p)

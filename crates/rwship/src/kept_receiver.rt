@@ -1,0 +1,341 @@
+//! The command `receive` with a folder in which it keeps what it takes.
+
+use crate::live_report::is_watched;
+use crate::program_end::{report_output_fault, report_result};
+use rw_cli::Receiving;
+use rw_head::Limits;
+use rw_kept_folder::{
+    FaultCause, FolderError, FolderFault, FolderJournal, FolderMonitor, FolderRules, OpenFolder,
+    open_journal, refuse_running_server,
+};
+use rw_kept_head::{HeadReading, KeptHead, Oddities, OpenError, Opened};
+use rw_kept_log::{Damage, ReopenError, whole_len};
+use rw_metrics::ReceiveCounters;
+use rw_receive::Received;
+use rw_text::ToolFault;
+use std::alloc::Global;
+use std::fs::{File, TryLockError};
+use std::io::{Error, Read};
+use std::process::ExitCode;
+use std::sync::Arc;
+use std::{fs, io};
+
+/// A log in the files of a folder.
+type Log = FolderJournal<OpenFolder<HostRuntime>>;
+
+/// A head whose log is in the files of a folder.
+pub type FolderHead = KeptHead<Log>;
+
+/// The most pages of a segment: 128 MiB, as a segment of Prometheus has.
+const PAGES: usize = 4096;
+
+/// Why the log in a folder cannot be opened.
+pub enum KeepError {
+    /// Another receiver keeps samples there.
+    InUse,
+    /// The folder cannot be locked.
+    Unlocked(Error),
+    Folder(FolderError),
+    /// The log is damaged, in the segment of this number.
+    Damaged(Damage, u64),
+    /// The last segment, of this number, has a fault, and a whole record after it begins at this
+    /// byte.
+    RecordFollows(Damage, u64, usize),
+    Log(OpenError, Option<FolderFault>),
+}
+
+/// Returns why the last segment is not cut at its fault, if a whole record follows that.
+fn doubt_of(reading: &HeadReading, journal: &Log) -> Option<KeepError> {
+    let (damage, at) = reading.record_after_fault()?;
+    let number = journal.files().number_of(damage.place.segment);
+    Some(KeepError::RecordFollows(damage, number, at))
+}
+
+/// Locks a folder until the file is dropped, so that no second receiver writes there.
+pub fn lock_folder(rt: &HostRuntime, dir: &str) -> Result<File, KeepError> {
+    let folder = match fs::open(rt, dir) {
+        Ok(folder) => folder,
+        Err(error) => return Err(KeepError::Unlocked(error)),
+    };
+    match folder.try_lock() {
+        Ok(()) => Ok(folder),
+        Err(TryLockError::WouldBlock) => Err(KeepError::InUse),
+        Err(TryLockError::Error(error)) => Err(KeepError::Unlocked(error)),
+    }
+}
+
+/// Returns why the log in these files cannot be opened.
+fn open_error(error: OpenError, files: &OpenFolder<HostRuntime>) -> KeepError {
+    match error {
+        OpenError::Log(ReopenError::Damaged(damage)) => {
+            KeepError::Damaged(damage, files.number_of(damage.place.segment))
+        }
+        _ => KeepError::Log(error, files.fault()),
+    }
+}
+
+/// Returns which folders the arguments let a receiver go on in.
+fn rules_of(receiving: &Receiving<'_>) -> FolderRules {
+    FolderRules {
+        adopts: receiving.adopts,
+        allows_missing_start: receiving.allows_missing_start,
+    }
+}
+
+/// Opens the log in a folder. The counters count what is written to it.
+pub fn open_head(
+    rt: &HostRuntime,
+    limits: &Limits,
+    dir: &str,
+    receiving: &Receiving<'_>,
+    counters: &Arc<ReceiveCounters, Global>,
+) -> Result<Opened<Log>, KeepError> {
+    let Ok(counters) = Arc::try_clone(counters) else {
+        return Err(KeepError::Folder(FolderError::OutOfMemory));
+    };
+    if let Err(error) = refuse_running_server(rt, dir) {
+        return Err(KeepError::Folder(error));
+    }
+    let Ok(mut reading) = HeadReading::new(rt.alloc(), limits) else {
+        return Err(KeepError::Folder(FolderError::OutOfMemory));
+    };
+    let monitor = FolderMonitor::new(counters);
+    let journal = match open_journal(rt, dir, rules_of(receiving), monitor, &mut reading) {
+        Ok(journal) => journal,
+        Err(error) => return Err(KeepError::Folder(error)),
+    };
+    if !receiving.cuts_at_fault {
+        if let Some(error) = doubt_of(&reading, &journal) {
+            return Err(error);
+        }
+    }
+    match KeptHead::open(reading, journal, PAGES) {
+        Ok(opened) => Ok(opened),
+        Err((error, journal)) => Err(open_error(error, journal.files())),
+    }
+}
+
+/// Returns the fault that stands for an error in the exit status.
+fn fault_of(error: &KeepError) -> ToolFault {
+    match error {
+        KeepError::Folder(FolderError::OutOfMemory)
+        | KeepError::Log(OpenError::Log(ReopenError::OutOfMemory), _) => ToolFault::OutOfMemory,
+        KeepError::Damaged(damage, _) | KeepError::RecordFollows(damage, ..) => {
+            ToolFault::from(damage.fault)
+        }
+        _ => ToolFault::Device,
+    }
+}
+
+/// Returns the bytes of a segment in a folder.
+fn read_segment(rt: &HostRuntime, dir: &str, number: u64) -> io::Result<Vec<u8>> {
+    let alloc = rt.alloc();
+    let path = format!(in alloc; "{dir}/{number:08}")?;
+    let mut file = fs::open(rt, path.as_str())?;
+    let mut bytes = Vec::new(alloc);
+    file.read_to_end(&mut bytes)?;
+    Ok(bytes)
+}
+
+/// Says where the log in a folder is damaged, and where to cut it, if that segment can be read.
+fn print_damage(rt: &HostRuntime, dir: &str, damage: &Damage, number: u64) {
+    let (fault, at) = (damage.fault, damage.place.offset);
+    let _ = eprintln!(rt;
+        "  cannot keep samples in {dir}: {fault} in segment {number} at byte {at}"
+    );
+    let Ok(text) = read_segment(rt, dir, number) else {
+        return;
+    };
+    let whole = whole_len(&text, at as usize);
+    let _ = eprintln!(rt;
+        "  next: copy {dir}/{number:08}, then cut it after its last whole record, 'truncate -s {whole} {dir}/{number:08}', and start the receiver and its sender again; of that segment, what came after the cut is lost unless the sender's log still has it"
+    );
+}
+
+/// What to do if the reason of a failed call does not say it.
+const MAKE_READABLE: &str =
+    "make the folder and its files readable and writable, or choose another one";
+
+const SEE_THE_DISK: &str = "see whether the disk is full or fails, and start the receiver again";
+
+/// Returns what to do about a call on the files of a folder that failed for this reason.
+fn step_after_cause(cause: FaultCause, otherwise: &'static str) -> &'static str {
+    match cause {
+        FaultCause::DiskFull => "make room on its disk, and start the receiver again",
+        FaultCause::ReadOnly => "mount its file system for writing, and start the receiver again",
+        FaultCause::NoPermission =>
+            "let the user of the receiver read and write the folder and its files",
+        _ => otherwise,
+    }
+}
+
+/// Returns what to do if a folder cannot be used because of this error, or `None` if the text of
+/// the error says so.
+fn step_after_folder(error: &FolderError) -> Option<&'static str> {
+    match error {
+        FolderError::OutOfMemory
+        | FolderError::ServerRuns
+        | FolderError::LockUnreadable(_)
+        | FolderError::NotReceived
+        | FolderError::BesideServer
+        | FolderError::OwnerUnknown(_)
+        | FolderError::StartMissing(_) => None,
+        FolderError::Missing(_) => {
+            Some("copy the missing segment there, or move all after it out of the folder")
+        }
+        FolderError::Twice(_) => Some("move one of the two out of the folder"),
+        FolderError::Checkpoint => {
+            Some("choose a folder that no Prometheus has written to; an empty one will do")
+        }
+        FolderError::Unmarked(_) => {
+            Some("make the folder writable, and room on its disk, or choose another one")
+        }
+        FolderError::Unreadable(cause) => Some(step_after_cause(*cause, MAKE_READABLE)),
+        FolderError::Fault(fault) => Some(step_after_cause(fault.cause, MAKE_READABLE)),
+    }
+}
+
+/// Returns what to do if the log in a folder cannot be opened because of this error, or `None` if
+/// the text of the error says so.
+fn next_step(error: &KeepError) -> Option<&'static str> {
+    match error {
+        KeepError::InUse => Some("stop that one, or choose another folder"),
+        KeepError::Unlocked(_) => {
+            Some("see whether the folder exists and may be read; 'mkdir -p' makes one")
+        }
+        KeepError::Folder(error) => step_after_folder(error),
+        KeepError::Log(OpenError::Foreign(_), None) => {
+            Some("give the settings with which the folder was written, or another folder")
+        }
+        KeepError::Log(OpenError::NoReferenceLeft, None) => Some("choose another folder"),
+        KeepError::Log(_, Some(fault)) => Some(step_after_cause(fault.cause, SEE_THE_DISK)),
+        KeepError::RecordFollows(..) => Some(
+            "after a power failure this may be the end of a write, and otherwise it is damage, which acknowledged samples follow: copy that segment, then give --cut-at-fault to cut it there, and start the sender again at once, so that it ships once more what its log still has",
+        ),
+        KeepError::Damaged(..) | KeepError::Log(..) => None,
+    }
+}
+
+/// Reports why the log in a folder cannot be opened, and what to do. Returns the exit status.
+pub fn report_keep_error(rt: &HostRuntime, dir: &str, error: KeepError) -> ExitCode {
+    let status = report_result(rt, Err(fault_of(&error)));
+    let next = next_step(&error);
+    let _ = match error {
+        KeepError::InUse => eprintln!(rt; "  another receiver keeps samples in {dir}"),
+        KeepError::Unlocked(error) => eprintln!(rt; "  cannot lock the folder {dir}: {error}"),
+        KeepError::Folder(error) => eprintln!(rt; "  cannot keep samples in {dir}: {error}"),
+        KeepError::Log(OpenError::Foreign(at), None) => eprintln!(rt;
+            "  cannot keep samples in {dir}: entry {at} of the log there is refused; rwship inspect --dir {dir} --at {at} prints it"
+        ),
+        KeepError::Log(_, Some(fault)) => eprintln!(rt; "  cannot keep samples in {dir}: {fault}"),
+        KeepError::Damaged(damage, number) => {
+            print_damage(rt, dir, &damage, number);
+            Ok(())
+        }
+        KeepError::RecordFollows(damage, number, at) => eprintln!(rt;
+            "  cannot keep samples in {dir}: {} in segment {number} at byte {}, and a whole record follows at byte {at}",
+            damage.fault, damage.place.offset
+        ),
+        KeepError::Log(error, None) => eprintln!(rt; "  cannot keep samples in {dir}: {error}"),
+    };
+    if let Some(next) = next {
+        let _ = eprintln!(rt; "  next: {next}");
+    }
+    status
+}
+
+/// Reports that the first segments of a folder are missing, if they are.
+fn report_missing_start(rt: &HostRuntime, dir: &str, opened: &Opened<Log>) {
+    let first = opened.kept.journal().files().number_of(0);
+    if first > 0 && opened.segments > 0 {
+        let _ = eprintln!(rt; "rwship: {dir} has no segment before segment {first}");
+    }
+}
+
+/// Reports what was cut off the end of a folder's log, and what to do.
+fn report_cut(rt: &HostRuntime, dir: &str, opened: &Opened<Log>) {
+    let torn = opened.end.torn.len();
+    if torn == 0 {
+        return;
+    }
+    let last = opened.segments.saturating_sub(1) as u64;
+    let number = opened.kept.journal().files().number_of(last);
+    let _ = eprintln!(rt;
+        "rwship: the end of {dir} is not whole: {torn} bytes are cut off, and copied to {dir}/torn-{number:08}"
+    );
+    if let Some(at) = opened.end.follows {
+        let _ = eprintln!(rt;
+            "  a whole record follows the fault, at byte {at} of segment {number}"
+        );
+    }
+    let _ = eprintln!(rt;
+        "  next: if no crash and no failed write left them, they may hold acknowledged samples: start the sender again now, so that it ships them once more"
+    );
+}
+
+/// Reports what the log of a folder has that one which this version began never has.
+fn report_oddities(rt: &HostRuntime, dir: &str, oddities: &Oddities) {
+    let (repeated, passed) = (
+        oddities.repeated_definitions,
+        oddities.samples_without_series,
+    );
+    if repeated > 0 {
+        let _ = eprintln!(rt;
+            "rwship: the log in {dir} defines label sets again, {repeated} times, as an earlier version did at each start: a Prometheus over it answers only what follows the last definition"
+        );
+        let _ = eprintln!(rt;
+            "  next: for a folder that a Prometheus can read, ship it to a receiver with a new one: rwship send --dir {dir}"
+        );
+    }
+    if passed > 0 {
+        let _ = eprintln!(rt;
+            "rwship: {passed} samples in {dir} have no label set, and are not held"
+        );
+    }
+}
+
+/// Reports what a folder holds, if somebody may read that, and in any case what was cut off, and
+/// what is odd of its log.
+pub fn report_opened(rt: &HostRuntime, dir: &str, opened: &Opened<Log>, receiving: &Receiving<'_>) {
+    report_cut(rt, dir, opened);
+    report_missing_start(rt, dir, opened);
+    report_oddities(rt, dir, &opened.oddities);
+    if is_watched(rt, &receiving.reporting) {
+        let (head, segments) = (opened.kept.head(), opened.segments);
+        let (samples, series) = (head.total(), head.places());
+        let _ = eprintln!(rt;
+            "rwship: {dir} holds {samples} samples of {series} series in {segments} segments"
+        );
+    }
+}
+
+/// Says why nothing more could be kept in a folder, and what to do.
+fn print_write_fault(rt: &HostRuntime, dir: &str, fault: FolderFault) {
+    let _ = eprintln!(rt; "  cannot keep samples in {dir}: {fault}");
+    let _ = eprintln!(rt;
+        "  next: make room on its disk, or mend it, and start the receiver again; nothing acknowledged is lost"
+    );
+}
+
+/// Reports how serving, printing what is held, and keeping ended. Returns the exit status.
+pub fn report_kept(
+    rt: &HostRuntime,
+    dir: &str,
+    outcome: Result<Received<FolderHead>, ToolFault>,
+    is_explained: bool,
+) -> ExitCode {
+    let Received { holder, printed } = match outcome {
+        Ok(received) => received,
+        Err(fault) => return report_result(rt, Err(fault)),
+    };
+    let status = match printed {
+        Err(ToolFault::Device) => report_output_fault(rt, is_explained),
+        Err(fault) => report_result(rt, Err(fault)),
+        Ok(()) if holder.fault().is_none() => ExitCode::SUCCESS,
+        Ok(()) => report_result(rt, Err(ToolFault::Device)),
+    };
+    if let Some(fault) = holder.journal().files().fault() {
+        print_write_fault(rt, dir, fault);
+    }
+    status
+}

@@ -1,0 +1,221 @@
+//! How the program ends: what it prints of a fault, and its exit status.
+
+ghost use Rattle.std.specs.Prelude.{◌≡◌, MatchResult};
+ghost use Rattle.std.specs.Process as process;
+ghost use Rattle.rw_text.specs.Printed.{exit_status};
+ghost use Rattle.rwship.specs.Statuses.{follow_status, unset_status};
+
+use crate::settings::Unset;
+use clap::ArgMatches;
+use clap::error::ErrorKind;
+use rw_cli::bad_address;
+use rw_send::FollowFault;
+use rw_settings::SettingsNote;
+use rw_text::ToolFault;
+use std::io::{Error, IsTerminal};
+use std::process::ExitCode;
+
+/// The exit status for arguments and settings that are not valid.
+const BAD_ARGUMENTS: u8 = 2;
+
+/// The exit status for dropped samples, if they are a fault.
+const DROPPED: u8 = 1;
+
+/// The exit status for skipped records that may hold samples, if they are a fault.
+const SKIPPED: u8 = 1;
+
+/// The exit status for a folder without a segment, if that is a fault.
+const EMPTY: u8 = 1;
+
+/// The exit status for positions that have no entry.
+const NOT_THERE: u8 = 1;
+
+/// The exit status for work that was ended from outside.
+const CUT_OFF: u8 = 4;
+
+/// Writes the one line of a fault to standard error, and returns its exit status.
+pub fn report_result(rt: &HostRuntime, outcome: Result<(), ToolFault>) -> ExitCode
+    ensures { MatchResult outcome (λ _. process.exit_status result
+        ≡ 0) (λ fault. process.exit_status result ≡ exit_status fault) }
+{
+    match outcome {
+        Ok(()) => ExitCode::SUCCESS,
+        Err(fault) => {
+            let _ = eprintln!(rt; "rwship: {fault}");
+            ExitCode::from(fault.exit_status())
+        }
+    }
+}
+
+/// Reports why following a log ended, and returns the exit status.
+pub fn report_follow_fault(rt: &HostRuntime, fault: FollowFault) -> ExitCode
+    ensures { process.exit_status result ≡ follow_status fault }
+{
+    match fault {
+        FollowFault::Tool(fault) => report_result(rt, Err(fault)),
+        FollowFault::Missing(number) => {
+            let _ = eprintln!(rt; "rwship: segment {number} is missing");
+            ExitCode::from(CUT_OFF)
+        }
+        FollowFault::Stopped => {
+            let _ = eprintln!(rt; "rwship: stopped");
+            ExitCode::from(CUT_OFF)
+        }
+    }
+}
+
+/// Reports how many samples were dropped, if that is a fault.
+pub fn report_dropped(rt: &HostRuntime, count: u64) -> ExitCode
+    ensures { process.exit_status result ≡ 1 }
+{
+    let _ = eprintln!(rt; "rwship: samples dropped: {count}");
+    ExitCode::from(DROPPED)
+}
+
+/// Reports how many records were skipped that may hold samples, if that is a fault.
+pub fn report_skipped(rt: &HostRuntime, count: u64) -> ExitCode
+    ensures { process.exit_status result ≡ 1 }
+{
+    let _ = eprintln!(rt; "rwship: records skipped that may hold samples: {count}");
+    ExitCode::from(SKIPPED)
+}
+
+/// Returns the exit status for a folder without a segment, if that is a fault.
+pub fn empty_status() -> ExitCode
+    ensures { process.exit_status result ≡ 1 }
+{
+    ExitCode::from(EMPTY)
+}
+
+/// Reports how many positions have no entry.
+pub fn report_missing(rt: &HostRuntime, count: u64) -> ExitCode
+    ensures { process.exit_status result ≡ 1 }
+{
+    let _ = eprintln!(rt; "rwship: positions without an entry: {count}");
+    ExitCode::from(NOT_THERE)
+}
+
+/// On a terminal, writes that `--explain` says more.
+pub fn point_to_explain(rt: &HostRuntime) {
+    if rt.stderr().is_terminal() {
+        let _ = eprintln!(rt; "  run again with --explain for details");
+    }
+}
+
+/// Says that standard output could not be written, and what to do.
+pub fn print_output_error(rt: &HostRuntime) {
+    let _ = eprintln!(rt;
+        "  cannot write to standard output; next: see whether its disk is full, or its reader has ended, and run again"
+    );
+}
+
+/// Reports that standard output could not be written, with more if that is asked for. Returns the
+/// exit status.
+pub fn report_output_fault(rt: &HostRuntime, is_explained: bool) -> ExitCode
+    ensures { process.exit_status result ≡ 4 }
+{
+    let status = report_result(rt, Err(ToolFault::Device));
+    if is_explained {
+        print_output_error(rt);
+    } else {
+        point_to_explain(rt);
+    }
+    status
+}
+
+/// Reports that standard input could not be read, and returns the exit status.
+pub fn report_unread_input(rt: &HostRuntime, fault: ToolFault) -> ExitCode
+    ensures { process.exit_status result ≡ exit_status fault }
+{
+    let status = report_result(rt, Err(fault));
+    if matches!(fault, ToolFault::Device) {
+        let _ = eprintln!(rt;
+            "  cannot read standard input; next: see whether it is a file or a pipe"
+        );
+    }
+    status
+}
+
+/// Prints what could not be done with what, and the error of the system.
+pub fn print_device_error(rt: &HostRuntime, action: &str, name: &str, error: &Error) {
+    let _ = eprintln!(rt; "  cannot {action} {name}: {error}");
+}
+
+/// Writes a line for each note on settings to standard error.
+fn print_notes(rt: &HostRuntime, notes: &[SettingsNote]) {
+    for note in notes {
+        let place = note.place.as_str();
+        let text = note.text.as_str();
+        let _ = eprintln!(rt; "  {place}: {text}");
+    }
+}
+
+/// Reports that settings cannot be read and, if that is asked for, what is wrong with them. Returns
+/// the exit status.
+pub fn report_settings_fault(rt: &HostRuntime, fault: Unset) -> ExitCode
+    ensures { process.exit_status result ≡ unset_status fault }
+{
+    match fault {
+        Unset::Tool(fault) => report_result(rt, Err(fault)),
+        Unset::Settings(fault, notes) => {
+            let number = fault.number();
+            let _ = eprintln!(rt; "rwship: settings fault {number}");
+            if notes.is_empty() {
+                point_to_explain(rt);
+            }
+            print_notes(rt, notes.as_slice());
+            ExitCode::from(BAD_ARGUMENTS)
+        }
+        Unset::Unreadable(said) => {
+            let status = report_result(rt, Err(ToolFault::Device));
+            if said.is_empty() {
+                point_to_explain(rt);
+            } else {
+                let _ = eprintln!(rt; "  {said}");
+            }
+            status
+        }
+    }
+}
+
+/// Prints the text of the command-line parser: help and version on standard output with status 0,
+/// and otherwise what is wrong with the arguments.
+pub fn report_parse_error(rt: &HostRuntime, error: clap::Error) -> ExitCode {
+    if error.kind() == ErrorKind::OutOfMemory {
+        return report_result(rt, Err(ToolFault::OutOfMemory));
+    }
+    match error.print(rt) {
+        Err(_) if !error.use_stderr() => report_result(rt, Err(ToolFault::Device)),
+        _ if error.use_stderr() => ExitCode::from(BAD_ARGUMENTS),
+        _ => ExitCode::SUCCESS,
+    }
+}
+
+/// Prints what is wrong with the arguments.
+pub fn report_bad_arguments(rt: &HostRuntime, text: &str) -> ExitCode
+    ensures { process.exit_status result ≡ 2 }
+{
+    let _ = eprintln!(rt; "{text}");
+    ExitCode::from(BAD_ARGUMENTS)
+}
+
+/// Reports that the folder of the stop file is missing, in the form of the command-line parser, and
+/// returns the exit status.
+pub fn report_misplaced(rt: &HostRuntime, stop_file: &str) -> ExitCode
+    ensures { process.exit_status result ≡ 2 }
+{
+    let _ = eprintln!(rt;
+        "error: invalid value '{stop_file}' for '--stop-file <FILE>': expected a file in a folder that exists\n"
+    );
+    report_bad_arguments(rt, "For more information, try '--help'.")
+}
+
+/// Reports which HOST:PORT is not valid, in the form of the command-line parser.
+pub fn report_bad_address(rt: &HostRuntime, words: &ArgMatches<'_>) -> ExitCode {
+    if let Some((option, value)) = bad_address(words) {
+        let _ = eprintln!(rt;
+            "error: invalid value '{value}' for '--{option} <HOST:PORT>': expected a host, a colon and a port from 1 to 65535\n"
+        );
+    }
+    report_bad_arguments(rt, "For more information, try '--help'.")
+}

@@ -1,0 +1,263 @@
+//! The command `receive`.
+
+use crate::inspect_command::has_output_failed;
+use crate::kept_receiver::{
+    FolderHead, lock_folder, open_head, report_keep_error, report_kept, report_opened,
+};
+use crate::live_report::{OutputAfterReport, begin_reporting, end_reporting, print_listen_error};
+use crate::program_end::{
+    point_to_explain, report_misplaced, report_output_fault, report_result, report_settings_fault,
+};
+use crate::settings::settings_in;
+use crate::stop::{is_misplaced, report_write_error, stop_signal};
+use rw_cli::{Receiving, SettingsFile, Until};
+use rw_follow::StopSignal;
+use rw_head::Capacity;
+use rw_metrics::{Counters, ReceiveCounters};
+use rw_receive::{Received, ServeUntil, Service, run_receive, serve_and_print, serve_connections};
+use rw_settings::Settings;
+use rw_text::ToolFault;
+use rw_types::{Bounded, Std};
+use std::alloc::{AllocError, Global};
+use std::net::TcpListener;
+use std::process::ExitCode;
+use std::rt::Stdout;
+use std::sync::{Arc, Wait};
+use std::thread::Threads;
+use std::time::Clock;
+
+/// A receiver: what it runs on, and what it is asked for.
+#[derive(Drop)]
+struct Receiver<'a, R> {
+    rt: &'a HostRuntime,
+    /// The same runtime, as one that has threads: a `HostRuntime` has them in `main` alone.
+    threads: &'a R,
+    settings: &'a Settings,
+    receiving: &'a Receiving<'a>,
+    is_explained: bool,
+}
+
+/// Returns how much the head may hold.
+fn capacity_of(receiving: &Receiving<'_>) -> Capacity {
+    Capacity {
+        max_samples: receiving.max_samples.unwrap_or(u64::MAX),
+        max_series: receiving.max_series.unwrap_or(u64::MAX),
+    }
+}
+
+/// Returns counters that have counted nothing.
+fn new_counters(
+    rt: &HostRuntime,
+    receiving: &Receiving<'_>,
+) -> Result<Arc<ReceiveCounters, Global>, AllocError> {
+    let counters = match receiving.dir {
+        Some(_) => ReceiveCounters::of_kept_log(rt.alloc())?,
+        None => ReceiveCounters::new(rt.alloc())?,
+    };
+    counters.set_limits(
+        receiving.max_samples.unwrap_or(0),
+        receiving.max_series.unwrap_or(0),
+    );
+    Ok(Arc::new(rt.alloc(), counters)?)
+}
+
+impl<R: Threads + Wait + Clock + Sync> Receiver<'_, R> {
+    /// Returns counters that have counted nothing, and reports them from here on, as far as that is
+    /// asked for. The second ones are what is shown.
+    fn begin_counting(&self) -> Result<(Arc<ReceiveCounters, Global>, Counters), ToolFault> {
+        let counters = new_counters(self.rt, self.receiving)?;
+        let shown = Counters::Receive(Arc::try_clone(&counters)?);
+        begin_reporting(self.rt, self.threads, &self.receiving.reporting, &shown)?;
+        Ok((counters, shown))
+    }
+
+    /// Returns the stop signal, or `None` if a number of connections ends the receiver. Whether
+    /// writing to the log of a folder has failed is reported at once from here on, and sets the
+    /// signal too if that is asked for.
+    fn stop_signal(
+        &self,
+        counters: &Arc<ReceiveCounters, Global>,
+    ) -> Result<Option<Arc<StopSignal, Global>>, AllocError> {
+        let stop_file = match &self.receiving.until {
+            Until::Connections(_) => return Ok(None),
+            Until::FileIs(path) => Some(*path),
+            Until::InputEnds => None,
+        };
+        let signal = stop_signal(self.rt, self.threads, stop_file, None)?;
+        if let Some(dir) = self.receiving.dir {
+            let ends = self.receiving.ends_on_write_error;
+            report_write_error(self.rt, self.threads, dir, counters, &signal, ends)?;
+        }
+        Ok(Some(signal))
+    }
+
+    /// Returns the service that is asked for, with the stop signal if there is one.
+    fn service<'s>(
+        &self,
+        signal: &'s Option<Arc<StopSignal, Global>>,
+        counters: &'s ReceiveCounters,
+    ) -> Service<'s> {
+        let most = match &self.receiving.until {
+            Until::Connections(count) => *count,
+            _ => Bounded::new(1_000),
+        };
+        Service {
+            until: match signal {
+                Some(signal) => ServeUntil::Stop(signal),
+                None => ServeUntil::Connections(most.get()),
+            },
+            most,
+            idle_ms: self.receiving.idle_ms,
+            request_ms: self.receiving.request_ms,
+            capacity: capacity_of(self.receiving),
+            counters,
+        }
+    }
+
+    /// Serves connections over a new head, and prints what it holds.
+    fn serve_new(
+        &self,
+        listener: TcpListener,
+        counters: &Arc<ReceiveCounters, Global>,
+        output: &mut Std<Stdout>,
+    ) -> Result<(), ToolFault> {
+        let signal = self.stop_signal(counters)?;
+        let service = self.service(&signal, counters);
+        let (alloc, settings) = (self.rt.alloc(), self.settings);
+        run_receive(self.threads, alloc, settings, service, listener, output)
+    }
+
+    /// Serves connections over a head whose log is in a folder, and prints what it holds, if that
+    /// is wanted.
+    fn serve_kept(
+        &self,
+        listener: TcpListener,
+        counters: &Arc<ReceiveCounters, Global>,
+        head: FolderHead,
+        output: &mut OutputAfterReport<'_, Std<Stdout>>,
+    ) -> Result<Received<FolderHead>, ToolFault> {
+        let signal = self.stop_signal(counters)?;
+        let service = self.service(&signal, counters);
+        let (alloc, limits) = (self.rt.alloc(), &self.settings.limits);
+        if self.receiving.is_quiet {
+            let holder = serve_connections(self.threads, alloc, limits, service, listener, head)?;
+            return Ok(Received {
+                holder,
+                printed: Ok(()),
+            });
+        }
+        serve_and_print(self.threads, alloc, limits, service, listener, head, output)
+    }
+
+    /// Serves connections and keeps nothing in a folder, and reports how that goes as far as it is
+    /// asked for.
+    fn receive_in_memory(
+        &self,
+        listener: TcpListener,
+        output: &mut Std<Stdout>,
+    ) -> Result<(), ToolFault> {
+        let (counters, shown) = self.begin_counting()?;
+        let outcome = self.serve_new(listener, &counters, output);
+        end_reporting(self.rt, &self.receiving.reporting, &shown);
+        outcome
+    }
+
+    /// Reports how a receiver ended that keeps nothing in a folder, and returns the exit status.
+    fn report_served(&self, output: &mut Std<Stdout>, outcome: Result<(), ToolFault>) -> ExitCode {
+        if !has_output_failed(output) {
+            return report_result(self.rt, outcome);
+        }
+        let status = report_output_fault(self.rt, self.is_explained);
+        if self.is_explained {
+            let _ = eprintln!(self.rt;
+                "  what was held is not printed in full, and is lost; with --dir DIR it is kept"
+            );
+        }
+        status
+    }
+
+    /// Opens the log in a folder that is locked, and serves connections over it. What is asked for
+    /// is reported from the beginning, so that one can see how far the log is read.
+    fn receive_into(&self, listener: TcpListener, dir: &str) -> ExitCode {
+        let (counters, shown) = match self.begin_counting() {
+            Ok(begun) => begun,
+            Err(fault) => return report_result(self.rt, Err(fault)),
+        };
+        let limits = &self.settings.limits;
+        match open_head(self.rt, limits, dir, self.receiving, &counters) {
+            Ok(opened) => {
+                report_opened(self.rt, dir, &opened, self.receiving);
+                let head = opened.kept;
+                counters.begin_with(head.head().total(), head.head().places());
+                let output = Std::new(self.rt.stdout());
+                let reporting = &self.receiving.reporting;
+                let mut output = OutputAfterReport::new(self.rt, reporting, &shown, output);
+                let outcome = self.serve_kept(listener, &counters, head, &mut output);
+                output.report();
+                report_kept(self.rt, dir, outcome, self.is_explained)
+            }
+            Err(error) => report_keep_error(self.rt, dir, error),
+        }
+    }
+
+    /// Serves connections that a listener accepts, and returns the exit status.
+    fn receive_from(&self, listener: TcpListener) -> ExitCode {
+        let Some(dir) = self.receiving.dir else {
+            let mut output = Std::new(self.rt.stdout());
+            let outcome = self.receive_in_memory(listener, &mut output);
+            return self.report_served(&mut output, outcome);
+        };
+        match lock_folder(self.rt, dir) {
+            Ok(lock) => {
+                let status = self.receive_into(listener, dir);
+                drop(lock);
+                status
+            }
+            Err(error) => report_keep_error(self.rt, dir, error),
+        }
+    }
+
+    /// Listens at the address that is given, serves connections, and returns the exit status.
+    fn receive(&self) -> ExitCode {
+        let listen = self.receiving.listen;
+        match TcpListener::bind(self.rt, (listen.name(), listen.port)) {
+            Ok(listener) => self.receive_from(listener),
+            Err(error) => {
+                let status = report_result(self.rt, Err(ToolFault::Device));
+                if self.is_explained {
+                    print_listen_error(self.rt, listen, &error);
+                } else {
+                    point_to_explain(self.rt);
+                }
+                status
+            }
+        }
+    }
+}
+
+/// Serves connections by the settings in a file, at an address.
+pub fn receive<R: Threads + Wait + Clock + Sync>(
+    rt: &HostRuntime,
+    threads: &R,
+    file: SettingsFile<'_>,
+    receiving: &Receiving<'_>,
+) -> ExitCode {
+    if let Until::FileIs(path) = receiving.until {
+        if is_misplaced(rt, path) {
+            return report_misplaced(rt, path);
+        }
+    }
+    match settings_in(rt, file) {
+        Ok(settings) => {
+            let receiver = Receiver {
+                rt,
+                threads,
+                settings: &settings,
+                receiving,
+                is_explained: file.is_explained,
+            };
+            receiver.receive()
+        }
+        Err(fault) => report_settings_fault(rt, fault),
+    }
+}
