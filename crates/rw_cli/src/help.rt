@@ -101,9 +101,10 @@ docs/SETTINGS.md the settings.
 Exit status: 0 if each sample is acknowledged, dropped or filtered (look for
 'dropped' lines); 1 if the log has a fault, with --fail-on-drop if samples were
 dropped, with --fail-on-skip if records were skipped that may hold samples, with
---fail-on-empty if DIR has no segment; 2 for bad options or settings; 3 out of
-memory; 4 if a file, the look-up of HOST or standard output failed, if a segment
-is missing, or after a line 'hard'.";
+--fail-on-empty if DIR has no segment, with --fail-on-gap if a segment is missing
+between two; 2 for bad options or settings; 3 out of memory; 4 if a file, the
+look-up of HOST or standard output failed, if a segment is missing with --follow
+or --checkpoint, or after a line 'hard'.";
 
 pub(crate) const RECEIVE: &str = "\
 Example:

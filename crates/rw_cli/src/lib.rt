@@ -88,6 +88,8 @@ pub struct Sending<'a> {
     pub fails_on_drop: bool,
     /// Whether a folder without a segment is a fault.
     pub fails_on_empty: bool,
+    /// Whether a missing number between two segments is a fault.
+    pub fails_on_gap: bool,
     /// Whether a record that is skipped and may hold samples is a fault.
     pub fails_on_skip: bool,
     /// The most bytes of a batch's body, or `None` for no limit.

@@ -39,6 +39,7 @@ pub(crate) fn send_task<'a>(
             reporting,
             fails_on_drop: options.get_flag("fail-on-drop"),
             fails_on_empty: options.get_flag("fail-on-empty"),
+            fails_on_gap: options.get_flag("fail-on-gap"),
             fails_on_skip: options.get_flag("fail-on-skip"),
             max_batch_bytes: options.get_one::<u64>("max-batch-bytes"),
         },

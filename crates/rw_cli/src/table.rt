@@ -292,6 +292,12 @@ static SEND: Words = Words {
             help: "End with status 1 if DIR has no segment",
         },
         Opt {
+            name: "fail-on-gap",
+            takes: Takes::Nothing,
+            bonds: &[Bond::Excludes("follow")],
+            help: "End with status 1 if a number is missing between\ntwo segments",
+        },
+        Opt {
             name: "fail-on-skip",
             takes: Takes::Nothing,
             bonds: &[],

@@ -2,8 +2,10 @@
 use Rattle.std.proofs.Common.{◌≡◌, subst, ℕ, ◌+◌, ◌≤◌, List, [], ◌∷◌, ◌++◌, length, take, refl, sym, ap, ◌∙◌, arith}
 use Rattle.std.proofs.lemmas.Grind.{common_steps}
 use Rattle.std.proofs.lemmas.List.{append-nil, append_assoc}
-use Rattle.std.specs.Prelude.{Option, None, Some}
-use Rattle.rw_follow.specs.Growth.{Grown, HadAll, HasNextSegment, IsGivenAt, IsLastSegment, IsSegmentRead, Known, Later, Meal, Moment, MovesOn, Stepped, Steps, texts, with_next, with_piece}
+use Rattle.std.specs.Prelude.{Option, Result, Ok, Err}
+use Rattle.std.specs.Result.{IsErrAnd}
+use Rattle.rw_follow.specs.Growth.{Gives, Grown, HadAll, HasNextSegment, IsGivenAt, IsLastSegment, IsReadOf, IsSegmentRead, Later, Moment, texts}
+use Rattle.rw_follow.specs.Meals.{Meal, read_by, with_next}
 
 -- no segment goes
 pub grown_length : (xs ys : List (List ℕ)) → Grown xs ys → length xs ≤ length ys
@@ -28,50 +30,17 @@ after_grows m n bytes p =
     let d = ap (λ (xs : List (List ℕ)). length xs) p.done in
     omega (arith, l, a, b, d)
 
--- ---- what was fed is what was given
-
-pub passed : (o n : Option Moment) (bytes : List ℕ) (meal : Meal) → Known o (λ m. IsGivenAt meal m) → MovesOn o bytes n → Known n (λ m. IsGivenAt (with_piece meal bytes) m)
-passed None None bytes meal h p = h
-passed None (Some n) bytes meal h p = absurd p
-passed (Some m) None bytes meal h p = absurd p
-passed (Some m) (Some n) bytes meal h p = record { whole = h.whole ∙ sym p.done; begun = ap (λ b. b ++ bytes) h.begun ∙ sym p.given }
-
-pub same_given : (o n : Option Moment) (meal : Meal) → Known o (λ m. IsGivenAt meal m) → MovesOn o [] n → Known n (λ m. IsGivenAt meal m)
-same_given None None meal h p = h
-same_given None (Some n) meal h p = absurd p
-same_given (Some m) None meal h p = absurd p
-same_given (Some m) (Some n) meal h p = record { whole = h.whole ∙ sym p.done; begun = let v = p.given in let b = h.begun in grind (arith, common_steps) }
-
-pub stepped : (o n : Option Moment) (meal : Meal) → Known o (λ m. IsGivenAt meal m) → Steps o n → Known n (λ m. IsGivenAt (with_next meal) m)
-stepped None None meal h p = h
-stepped None (Some n) meal h p = absurd p
-stepped (Some m) None meal h p = absurd p
-stepped (Some m) (Some n) meal h p = record {
-  whole = let d = p.done in let w = h.whole in let b = h.begun in grind (arith, common_steps);
-  begun = sym p.given;
-}
-
--- a read of no byte gave nothing
-pub nothing : (o n : Option Moment) (k : ℕ) (bytes : List ℕ) → k ≡ 0 → MovesOn o (take k bytes) n → MovesOn o [] n
-nothing o n k bytes e p = subst (λ j. MovesOn o (take j bytes) n) e p
-
 -- ---- what comes after
 
-pub stays_followed : (o n : Option Moment) (bytes : List ℕ) → MovesOn o bytes n → Known o HasNextSegment → Known n HasNextSegment
-stays_followed None None bytes p h = h
-stays_followed None (Some n) bytes p h = absurd p
-stays_followed (Some m) None bytes p h = absurd p
-stays_followed (Some m) (Some n) bytes p h = let l = after_grows m n bytes p in omega (arith, l, h)
+pub stays_followed : (m n : Moment) (bytes : List ℕ) → Later m bytes n → HasNextSegment m → HasNextSegment n
+stays_followed m n bytes p h = let l = after_grows m n bytes p in omega (arith, l, h)
 
 was_last : (m n : Moment) → Later m [] n → IsLastSegment n → IsLastSegment m
 was_last m n p h = let l = after_grows m n [] p in let z = ap (λ (xs : List (List ℕ)). length xs) h in none_of m.after (omega (arith, l, z))
 
 -- nothing was left, and then nothing came after it
-pub had_all : (o n : Option Moment) (meal : Meal) → Known o (λ m. IsGivenAt meal m) → Known o IsSegmentRead → MovesOn o [] n → Known n IsLastSegment → Known n (HadAll meal)
-had_all None None meal h r p l = h
-had_all None (Some n) meal h r p l = absurd p
-had_all (Some m) None meal h r p l = absurd p
-had_all (Some m) (Some n) meal h r p l = record { earlier = m; later = p; given = h; is_read = r; is_last = was_last m n p l }
+pub had_all : (m n : Moment) (meal : Meal) → Later m [] n → IsGivenAt meal m → IsSegmentRead m → IsLastSegment n → HadAll meal n
+had_all m n meal p h r l = record { earlier = m; later = p; given = h; is_read = r; is_last = was_last m n p l }
 
 -- ---- a log in memory
 
@@ -138,12 +107,45 @@ later_turn m bytes text none =
     let more : Moment = record m { rest = m.rest ++ bytes } in
     later_on m more (record more { after = more.after ++ text ∷ [] }) (later_more m bytes none) (later_next more text)
 
+-- ---- what was read
+
+-- nothing more was read
+pub read_same : (start m n : Moment) (meal : Meal) → Later m [] n → IsReadOf start meal m → IsReadOf start meal n
+read_same start m n meal p h = record {
+  given = record { whole = h.given.whole ∙ sym p.done; begun = h.given.begun ∙ sym (append-nil m.given) ∙ sym p.given };
+  grown = grown_on (texts start) (texts m) (texts n) h.grown p.grown;
+}
+
+-- and a read that fails gives nothing
+pub read_failed : {E : Type 0} (P : E → Type 0) (r : Result ℕ E) (buf : List ℕ) (start m n : Moment) (meal : Meal) → IsErrAnd r P → Later m [] n → IsReadOf start meal m → IsReadOf start (read_by r buf meal) n
+read_failed P (Ok k) buf start m n meal is p h = absurd is
+read_failed P (Err e) buf start m n meal is p h = read_same start m n meal p h
+
+given_texts : (m n : Moment) (bytes : List ℕ) → n.done ≡ m.done → n.after ≡ m.after → m.rest ≡ bytes ++ n.rest → n.given ≡ m.given ++ bytes → texts m ≡ texts n
+given_texts m n bytes d a r v = rw (d, a, r, v) (ap (λ t. m.done ++ t ∷ m.after) (sym (append_assoc m.given bytes n.rest)))
+
+-- these bytes more
+read_bytes : (start m n : Moment) (bytes : List ℕ) (meal : Meal) → n.done ≡ m.done → n.after ≡ m.after → m.rest ≡ bytes ++ n.rest → n.given ≡ m.given ++ bytes → IsReadOf start meal m → IsReadOf start (record meal { begun = meal.begun ++ bytes }) n
+read_bytes start m n bytes meal d a r v h = record {
+  given = record { whole = h.given.whole ∙ sym d; begun = ap (λ b. b ++ bytes) h.given.begun ∙ sym v };
+  grown = subst (λ t. Grown (texts start) t) (given_texts m n bytes d a r v) h.grown;
+}
+
+pub read_on : {E : Type 0} (r : Result ℕ E) (buf : List ℕ) (start l m n : Moment) (meal : Meal) → Later l [] m → Gives m n r buf → n.done ≡ m.done → n.after ≡ m.after → IsReadOf start meal l → IsReadOf start (read_by r buf meal) n
+read_on (Ok k) buf start l m n meal p g d a h = read_bytes start m n (take k buf) meal d a g.0 g.1.0 (read_same start l m meal p h)
+read_on (Err e) buf start l m n meal p g d a h =
+    let same = read_bytes start m n [] meal d a (sym g.1) (g.0 ∙ sym (append-nil m.given)) (read_same start l m meal p h) in
+    subst (λ b. IsReadOf start (record meal { begun = b }) n) (append-nil meal.begun) same
+
 same_texts : (m n : Moment) → n.done ≡ m.done ++ m.given ∷ [] → n.given ≡ [] → n.rest ∷ n.after ≡ m.after → m.rest ≡ [] → texts m ≡ texts n
 same_texts m n d v a r = rw (sym a, r, d, v, append-nil) (sym (append_assoc m.done (m.given ∷ []) (n.rest ∷ n.after)))
 
-pub stepped_by : (m n : Moment) → n.done ≡ m.done ++ m.given ∷ [] → n.given ≡ [] → n.rest ∷ n.after ≡ m.after → m.rest ≡ [] → Stepped m n
-stepped_by m n d v a r = record {
-  done = d;
-  given = v;
-  grown = subst (λ t. Grown (texts m) t) (same_texts m n d v a r) (grown_same (texts m));
+-- and the end of the segment
+pub read_next : (start m n : Moment) (meal : Meal) → n.done ≡ m.done ++ m.given ∷ [] → n.given ≡ [] → n.rest ∷ n.after ≡ m.after → m.rest ≡ [] → IsReadOf start meal m → IsReadOf start (with_next meal) n
+read_next start m n meal d v a r h = record {
+  given = record {
+    whole = let w = h.given.whole in let b = h.given.begun in grind (arith, common_steps);
+    begun = sym v;
+  };
+  grown = subst (λ t. Grown (texts start) t) (same_texts m n d v a r) h.grown;
 }

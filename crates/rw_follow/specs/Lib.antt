@@ -1,2 +1,5 @@
 pub mod Growth
+pub mod Meals
+pub mod Queues
 pub mod Turns
+pub mod inner

@@ -1,6 +1,6 @@
 -- How a following goes on.
-use Rattle.std.specs.Prelude.{ℕ, ◌≤◌, List, take, ⊤, Option}
-use Rattle.rw_follow.specs.Growth.{IsGivenAt, Known, Meal, Moment, with_next, with_piece}
+use Rattle.std.specs.Prelude.{ℕ, ◌≤◌, List, take, ⊤, Result, Ok, Err}
+use Rattle.rw_follow.specs.Meals.{Meal, with_next, with_piece}
 use Rattle.rw_follow.specs.declared.follower.Turn.{Turn}
 use Rattle.rw_follow.specs.declared.follower.Turn.TheVariants as turn
 
@@ -13,6 +13,11 @@ given_by turn.Nothing buf meal = meal
 given_by turn.Finished buf meal = meal
 given_by turn.Aborted buf meal = meal
 
+-- one that fails gives nothing
+abbrev pub given_with : {E : Type 0} → Result Turn E → List ℕ → Meal → Meal
+given_with (Ok t) buf meal = given_by t buf meal
+given_with (Err e) buf meal = meal
+
 -- its bytes are in a buffer of this length
 abbrev pub FitsBuffer : Turn → ℕ → Type 0
 FitsBuffer (turn.Piece n) len = n ≤ len
@@ -21,7 +26,3 @@ FitsBuffer turn.Flush len = ⊤
 FitsBuffer turn.Nothing len = ⊤
 FitsBuffer turn.Finished len = ⊤
 FitsBuffer turn.Aborted len = ⊤
-
--- this much more of the log was read
-abbrev pub Moves : Option Moment → Option Moment → (Meal → Meal) → Type 0
-Moves old new more = (meal : Meal) → Known old (λ m. IsGivenAt meal m) → Known new (λ m. IsGivenAt (more meal) m)

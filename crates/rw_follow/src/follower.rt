@@ -1,8 +1,8 @@
 //! What a follower does at each turn.
 
-ghost use Rattle.std.specs.Prelude.{◌≡◌, ◌<◌, ℕ, length, suc, true, Ok, Err, IfErr, IfOk};
-ghost use Rattle.rw_follow.specs.Growth.{HadAll, HasGap, HasNextSegment, IsGivenAt, Known, Meal};
-ghost use Rattle.rw_follow.specs.Turns.{FitsBuffer, Moves, given_by};
+ghost use Rattle.std.specs.Prelude.{◌≡◌, ◌<◌, ℕ, length, suc, true, Ok, Err, IfOk};
+ghost use Rattle.rw_follow.specs.Meals.{Meal};
+ghost use Rattle.rw_follow.specs.Turns.{FitsBuffer, given_with};
 ghost use Rattle.rw_types.specs.declared.transfer.ReadFault.{ReadFault};
 ghost use Rattle.rw_follow.specs.declared.follower.SegmentError.TheVariants as SegmentError;
 ghost use Rattle.rw_follow.specs.declared.follower.Turn.TheVariants as Turn;
@@ -91,16 +91,13 @@ impl Follower {
         buf: &mut [u8],
     ) -> Result<Turn, SegmentError>
         requires buffer { 0 < length buf.old }
-        requires followed { self.old ≡ true → Known (S.now segments.old) HasNextSegment }
-        ensures given { IfOk result
-            (λ turn. Moves (S.now segments.old) (S.now segments.new) (given_by turn buf.new)) }
-        ensures stays { IfErr result
-            (λ _. Moves (S.now segments.old) (S.now segments.new) (λ meal. meal)) }
+        requires followed { self.old ≡ true → S.is_followed segments.old }
+        ensures given { (start : S.Start) (meal : Meal) → S.gave segments.old start meal
+            → S.gave segments.new start (given_with result buf.new meal) }
         ensures piece { IfOk result (λ turn. FitsBuffer turn (length buf.new)) }
         ensures some { (n : ℕ) → result ≡ Ok (Turn.Piece n) → 0 < n }
-        ensures orderly { result ≡ Ok Turn.Finished → (meal : Meal)
-            → Known (S.now segments.old) (λ m. IsGivenAt meal m)
-            → Known (S.now segments.new) (HadAll meal) }
+        ensures orderly { result ≡ Ok Turn.Finished → (start : S.Start) (meal : Meal)
+            → S.gave segments.old start meal → S.had_all segments.new start meal }
         ensures finished { result ≡ Ok Turn.Finished → W.said watch.new ≡ StopRequest.Finish }
         ensures aborted { result ≡ Ok Turn.Aborted → W.said watch.new ≡ StopRequest.Abort }
         ensures counted { W.counts watch.new → W.counts watch.old }
@@ -109,11 +106,14 @@ impl Follower {
         ensures busy { W.counts watch.new → (result ≡ Ok Turn.Nothing → self.new ≡ true)
             → W.sleeps watch.new ≡ W.sleeps watch.old }
         ensures flushed { result ≡ Ok Turn.Flush → W.due watch.new ≡ true }
+        ensures hushed { W.is_quiet watch.old ≡ true → W.is_quiet watch.new ≡ true }
+        ensures unasked { W.is_quiet watch.old ≡ true → result ≡ Ok Turn.Flush → ⊥ }
         ensures missing { (n : ℕ) → result ≡ Err (SegmentError.Missing n)
-            → Known (S.now segments.new) (HasGap n) }
-        ensures followed { self.new ≡ true → Known (S.now segments.new) HasNextSegment }
-        ensures sure { S.is_sure segments.old ≡ true → (S.is_sure segments.new ≡ true)
-            × ((f : ReadFault) → result ≡ Err (SegmentError.Unreadable f) → ⊥) }
+            → S.lacks segments.new n }
+        ensures followed { self.new ≡ true → S.is_followed segments.new }
+        ensures fails { (f : ReadFault) → result ≡ Err (SegmentError.Unreadable f)
+            → S.may_fail segments.old f }
+        ensures later { (f : ReadFault) → S.may_fail segments.new f → S.may_fail segments.old f }
         ensures room { length buf.new ≡ length buf.old }
     {
         if self.is_waiting && watch.is_flush_due() {

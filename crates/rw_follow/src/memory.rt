@@ -149,11 +149,24 @@ impl Listed {
 }
 
 impl Segments for Listed {
-    ghost use Rattle.std.specs.Prelude.{Some, false};
+    ghost use Rattle.std.specs.Prelude.{⊤};
+    ghost use Rattle.rw_follow.specs.Growth.{HadAll, HasGap, HasNextSegment, IsLastSegment, IsReadOf, IsSegmentRead, Moment};
 
-    ghost now = { λ l. Some l };
+    ghost Start = { Moment };
 
-    ghost is_sure = { λ _. false };
+    ghost gave = { λ l start meal. IsReadOf start meal l };
+
+    ghost had_all = { λ l _ meal. HadAll meal l };
+
+    ghost is_read = { λ l. IsSegmentRead l };
+
+    ghost is_followed = { λ l. HasNextSegment l };
+
+    ghost is_last = { λ l. IsLastSegment l };
+
+    ghost lacks = { λ l n. HasGap n l };
+
+    ghost may_fail = { λ _ _. ⊤ };
 
     fn read(&mut self, buf: &mut [u8]) -> Result<usize, ReadFault> {
         self.play()?;

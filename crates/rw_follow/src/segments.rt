@@ -1,9 +1,10 @@
-//! The segments of a log that grows while it is read.
+//! The segments of a log that may grow while it is read.
 
-ghost use Rattle.std.specs.Prelude.{◌≡◌, ◌<◌, ℕ, [], Bool, true, Option, Ok, IsOk, OnOk, OnErr};
+ghost use Rattle.std.specs.Prelude.{◌≡◌, ◌<◌, ℕ, Ok, Err, OnOk, OnErr, length};
 ghost use Rattle.std.specs.Io.{ReadsAtMost};
-ghost use Rattle.rw_follow.specs.Growth.{HasGap, HasNextSegment, IsLastSegment, IsSegmentRead, Known, Moment, MovesOn, Reads, Steps};
+ghost use Rattle.rw_follow.specs.Meals.{Meal, read_by, with_next};
 ghost use Rattle.rw_follow.specs.declared.segments.Ahead.TheVariants as Ahead;
+ghost use Rattle.rw_types.specs.declared.transfer.ReadFault.{ReadFault};
 
 use rw_types::ReadFault;
 
@@ -18,36 +19,65 @@ pub enum Ahead {
     Missing(u64),
 }
 
-/// The segments of a log, read in order while the log grows at its end. The log may grow before
-/// each call and within one.
+/// The segments of a log, read in order. The log may grow at its end before each call and within
+/// one. Contracts see what was read of a log of which something was known at its start.
 pub trait Segments {
-    /// What exists, and how much of it was read, if that is known.
-    ghost now: { Self → Option Moment };
+    /// What is known of a log before it is read.
+    ghost Start: { Type 0 };
 
-    /// Whether no call from here on fails.
-    ghost is_sure: { Self → Bool };
+    /// Whether this is what was read of a log of which that was known.
+    ghost gave: { Self → Self.Start → Meal → Type 0 };
+
+    /// Whether this was all of it when it was last looked at.
+    ghost had_all: { Self → Self.Start → Meal → Type 0 };
+
+    /// Whether nothing is left of the current segment.
+    ghost is_read: { Self → Type 0 };
+
+    /// Whether a segment comes after the current one.
+    ghost is_followed: { Self → Type 0 };
+
+    /// Whether none does.
+    ghost is_last: { Self → Type 0 };
+
+    /// Whether the segment of this number is missing after the current one.
+    ghost lacks: { Self → ℕ → Type 0 };
+
+    /// Whether a call from here on may fail so.
+    ghost may_fail: { Self → ReadFault → Type 0 };
 
     /// Reads some bytes of the current segment into the front of the buffer, and returns how many.
     /// `Ok(0)` into a buffer that is not empty means that nothing is left of it now.
     fn read(&mut self, buf: &mut [u8]) -> Result<usize, ReadFault>
         ensures bound { ReadsAtMost result buf.new }
-        ensures reads { Reads (now self.old) (now self.new) result buf.new }
-        ensures sure { is_sure self.old ≡ true → (is_sure self.new ≡ true) × IsOk result };
+        ensures gives { (start : Self.Start) (meal : Meal) → gave self.old start meal
+            → gave self.new start (read_by result buf.new meal) }
+        ensures end { result ≡ Ok 0 → 0 < length buf.new → is_read self.new }
+        ensures followed { is_followed self.old → is_followed self.new }
+        ensures fails { (f : ReadFault) → result ≡ Err f → may_fail self.old f }
+        ensures later { (f : ReadFault) → may_fail self.new f → may_fail self.old f };
 
     /// Returns what comes after the current segment.
     fn look(&mut self) -> Result<Ahead, ReadFault>
-        ensures passes { MovesOn (now self.old) [] (now self.new) }
-        ensures nothing { result ≡ Ok Ahead.Nothing → Known (now self.new) IsLastSegment }
-        ensures followed { result ≡ Ok Ahead.Segment → Known (now self.new) HasNextSegment }
-        ensures missing { (n : ℕ) → result ≡ Ok (Ahead.Missing n)
-            → Known (now self.new) (HasGap n) }
-        ensures sure { is_sure self.old ≡ true → (is_sure self.new ≡ true) × IsOk result };
+        ensures stays { (start : Self.Start) (meal : Meal) → gave self.old start meal
+            → gave self.new start meal }
+        ensures nothing { result ≡ Ok Ahead.Nothing → is_last self.new }
+        ensures all { result ≡ Ok Ahead.Nothing → is_read self.old → (start : Self.Start)
+            (meal : Meal) → gave self.old start meal → had_all self.new start meal }
+        ensures followed { result ≡ Ok Ahead.Segment → is_followed self.new }
+        ensures missing { (n : ℕ) → result ≡ Ok (Ahead.Missing n) → lacks self.new n }
+        ensures fails { (f : ReadFault) → result ≡ Err f → may_fail self.old f }
+        ensures later { (f : ReadFault) → may_fail self.new f → may_fail self.old f };
 
     /// Goes to the next segment. An `Err` stays at the current one.
     fn advance(&mut self) -> Result<(), ReadFault>
-        requires read { Known (now self.old) IsSegmentRead }
-        requires followed { Known (now self.old) HasNextSegment }
-        ensures steps { OnOk result (Steps (now self.old) (now self.new)) }
-        ensures stays { OnErr result (MovesOn (now self.old) [] (now self.new)) }
-        ensures sure { is_sure self.old ≡ true → (is_sure self.new ≡ true) × IsOk result };
+        requires read { is_read self.old }
+        requires followed { is_followed self.old }
+        ensures steps { OnOk result ((start : Self.Start) (meal : Meal)
+            → gave self.old start meal → gave self.new start (with_next meal)) }
+        ensures stays { OnErr result ((start : Self.Start) (meal : Meal)
+            → gave self.old start meal → gave self.new start meal) }
+        ensures followed { OnErr result (is_followed self.new) }
+        ensures fails { (f : ReadFault) → result ≡ Err f → may_fail self.old f }
+        ensures later { (f : ReadFault) → may_fail self.new f → may_fail self.old f };
 }

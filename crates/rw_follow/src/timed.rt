@@ -70,9 +70,13 @@ impl<K: Clock> Timed<K> {
 }
 
 impl<K: Clock> Watch for Timed<K> {
+    ghost use Rattle.std.specs.Prelude.{false};
+
     ghost said = { λ w. w.said };
 
     ghost due = { λ w. w.is_due };
+
+    ghost is_quiet = { λ _. false };
 
     ghost counts = { λ _. ⊥ };
 

@@ -1,6 +1,6 @@
 //! The files of a log in a folder.
 
-ghost use Rattle.std.specs.Prelude.{◌≡◌, ◌<◌, ◌^◌, ℕ, IfOk, MatchOption, string_bytes};
+ghost use Rattle.std.specs.Prelude.{◌≡◌, ◌<◌, ◌≤◌, ◌^◌, ℕ, suc, IfOk, MatchOption, string_bytes};
 ghost use Rattle.std.specs.List.Sorted.{IsPermutation, IsSortedBy};
 ghost use Rattle.rw_log_folder.specs.Folders.{comes_before};
 ghost use Rattle.rw_log_folder.specs.inner.Folders.{IsNameOf};
@@ -21,6 +21,13 @@ use std::{fs, io};
 /// The longest name of a segment.
 const MAX_DIGITS: usize = 8;
 
+/// The numbers of segments that are missing one after the other, from `first` to `last`.
+#[derive(Clone, Copy, Debug, PartialEq, Eq)]
+pub struct Gap {
+    pub first: u64,
+    pub last: u64,
+}
+
 /// The file at a path.
 #[derive(Drop)]
 pub struct SegmentFile<R> {
@@ -38,6 +45,21 @@ impl<R> SegmentFile<R> {
         ensures { result.now ≡ string_bytes self.now.name }
     {
         self.name.as_str()
+    }
+
+    /// Returns the numbers between those of two segments that are read one after the other.
+    pub fn gap_before(&self, next: &SegmentFile<R>) -> Option<Gap>
+        ensures { MatchOption result (next.now.number ≤ suc self.now.number)
+            (λ gap. (gap.first ≡ suc self.now.number) × ((suc gap.last ≡ next.now.number)
+            × (gap.first ≤ gap.last))) }
+    {
+        if next.number.saturating_sub(self.number) < 2 {
+            return None;
+        }
+        Some(Gap {
+            first: self.number + 1,
+            last: next.number - 1,
+        })
     }
 }
 

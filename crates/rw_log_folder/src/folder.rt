@@ -169,11 +169,23 @@ impl<R: Files<File = File> + AllocGlobal + Copy> Folder<R> {
 }
 
 impl<R: Files<File = File> + AllocGlobal + Copy> Segments for Folder<R> {
-    ghost use Rattle.std.specs.Prelude.{None, false};
+    ghost use Rattle.std.specs.Prelude.{⊤};
 
-    ghost now = { λ _. None };
+    ghost Start = { ⊤ };
 
-    ghost is_sure = { λ _. false };
+    ghost gave = { λ _ _ _. ⊤ };
+
+    ghost had_all = { λ _ _ _. ⊤ };
+
+    ghost is_read = { λ _. ⊤ };
+
+    ghost is_followed = { λ _. ⊤ };
+
+    ghost is_last = { λ _. ⊤ };
+
+    ghost lacks = { λ _ _. ⊤ };
+
+    ghost may_fail = { λ _ _. ⊤ };
 
     fn read(&mut self, buf: &mut [u8]) -> Result<usize, ReadFault> {
         if self.current.is_none() {

@@ -15,7 +15,7 @@ mod opened;
 mod order;
 
 pub use checkpoint::{has_checkpoint, log_files};
-pub use files::{SegmentFile, SegmentName, check_folder, segment_files, segment_names};
+pub use files::{Gap, SegmentFile, SegmentName, check_folder, segment_files, segment_names};
 pub use folder::Folder;
 pub use folder_fault::FolderFault;
 pub use listing::{Checkpoint, Listing, Name, Place};

@@ -158,9 +158,9 @@ module _ {T : Type 0} where
   fleets old new (inr next) = inr next
 
   -- the number of shards was set between two segments
-  pub sizes_set : (fewest most : ℕ) (old new : Shipping T) → fewest ≤ most → PlacesAll old.log old.fleet → IsSet true fewest most old new → KeepsEpochSizes fewest most old.fleet new.fleet
+  pub sizes_set : (fewest most : ℕ) (old new : Shipping T) → fewest ≤ most → PlacesAll old.log old.fleet → IsSet fewest most old new → KeepsEpochSizes fewest most old.fleet new.fleet
   sizes_set fewest most old new range placed set =
-      sizes_wanted fewest most (wanted_under fewest most (length old.fleet.current) set.load) old.log old.fleet new.fleet placed (fleets old new set.epoch) (set.shards refl)
+      sizes_wanted fewest most (wanted_under fewest most (length old.fleet.current) set.load) old.log old.fleet new.fleet placed (fleets old new set.epoch) set.shards
       (wanted_bounds (length old.fleet.current) set.load.placed set.load.resolved set.load.backlog fewest most range)
 
   -- or because the clock asked for it

@@ -10,7 +10,7 @@ use Rattle.rw_sender.specs.Feeders.{Sorting}
 use Rattle.rw_sender.specs.Shipping.{Joins}
 use Rattle.rw_sender.specs.declared.shipper.FeedFault.{FeedFault}
 use Rattle.rw_send.specs.Segments.{AreSoundButLast}
-use Rattle.rw_send.proofs.PartLemmas.{joins_or_not}
+use Rattle.rw_send.proofs.MealLemmas.{joins_or_not}
 
 none_before : (r s : Reading) → Extends r s → fault_at s.stop ≡ None → (stop : Stop) → r.stop ≡ stop → fault_at stop ≡ None
 none_before r s x e between is = refl

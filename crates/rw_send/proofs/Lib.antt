@@ -1,12 +1,12 @@
 pub mod AnswerLemmas
-pub mod FollowLemmas
-pub mod PrintLemmas
 pub mod EpochLemmas
 pub mod EpochSizeLemmas
 pub mod FeedErrorLemmas
 pub mod IntactLemmas
-pub mod PartLemmas
-pub mod SegmentLemmas
+pub mod LapLemmas
+pub mod LoopLemmas
+pub mod MealLemmas
+pub mod PrintLemmas
 pub mod ShortLemmas
 pub mod StepLemmas
-pub mod SureLemmas
+pub mod TurnLemmas

@@ -5,7 +5,7 @@ use Rattle.rw_sender.specs.Feeders.{Sorting}
 use Rattle.rw_sender.specs.Shipping.{Joins}
 use Rattle.rw_sender.specs.declared.shipper.FeedFault.{FeedFault}
 use Rattle.rw_send.specs.Segments.{IsShortPiece, AreShortPieces}
-use Rattle.rw_send.proofs.PartLemmas.{joins_or_not}
+use Rattle.rw_send.proofs.MealLemmas.{joins_or_not}
 
 short_behind : (ps : List Piece) (p : Piece) → AreShortPieces ps → IsShortPiece p → AreShortPieces (ps ++ p ∷ [])
 short_behind [] p h s = (s, tt)

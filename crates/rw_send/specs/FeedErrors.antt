@@ -1,9 +1,6 @@
 -- Why the reading of a log ends early.
-use Rattle.std.specs.Prelude.{◌≡◌, None, Some, ⊤}
 use Rattle.rw_follow.specs.declared.follower.SegmentError.{SegmentError}
 use Rattle.rw_follow.specs.declared.follower.SegmentError.TheVariants as segment
-use Rattle.rw_sender.specs.Feeders.{HasRead}
-use Rattle.rw_sender.specs.Shipping.{Shipping}
 use Rattle.rw_sender.specs.declared.shipper.FeedFault.{FeedFault}
 use Rattle.rw_sender.specs.declared.shipper.FeedFault.TheVariants as feed
 use Rattle.rw_types.specs.declared.transfer.ReadFault.TheVariants as read
@@ -21,12 +18,3 @@ abbrev pub segment_error_of : SegmentError → FeedError
 segment_error_of (segment.Unreadable read.OutOfMemory) = error.Failed
 segment_error_of (segment.Unreadable read.Failed) = error.Unreadable
 segment_error_of (segment.Missing n) = error.Missing n
-
--- If reading ends at a damaged log, the log has that fault, and the shipper goes on. This log has
--- its segments given, lacks none, and is not left at once.
-abbrev pub IsHalted : {T : Type 0} → Shipping T → FeedError → Type 0
-IsHalted s (error.Damaged f) = HasRead s.log.pieces s.log.placed (Some f) × (s.fault ≡ None)
-IsHalted s error.Failed = ⊤
-IsHalted s error.Unreadable = ⊤
-IsHalted s (error.Missing n) = ⊥
-IsHalted s error.Aborted = ⊥

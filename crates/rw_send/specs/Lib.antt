@@ -1,4 +1,4 @@
-pub mod Following
+pub mod Logs
 pub mod ReportText
 pub mod Sending
 pub mod EpochSizes

@@ -1,6 +1,8 @@
 -- How the segments of a log are shipped one after another, and how many shards there are for each.
-use Rattle.std.specs.Prelude.{◌≡◌, ◌⊎◌, ℕ, ◌≤◌, ◌+◌, ◌-◌, Bool, true, false, List, [], ◌∷◌, Option, None, length, map}
-use Rattle.rw_wal_format.specs.Pieces.{Piece, entries}
+use Rattle.std.specs.Prelude.{◌≡◌, ◌⊎◌, ℕ, zero, suc, ◌≤◌, ◌+◌, ◌-◌, [], ◌∷◌, ◌++◌, Option, None, length, map}
+use Rattle.rw_types.specs.Beginnings.{Begins}
+use Rattle.rw_wal_format.specs.Pieces.{entries, next_segment}
+use Rattle.rw_follow.specs.Meals.{Meal, with_next}
 use Rattle.rw_fleet.specs.Fleets.{Shards, AreAll}
 use Rattle.rw_fleet.specs.ShardHistories.{AreFresh, marks_of}
 use Rattle.rw_fleet.specs.Loads.{IsLoad}
@@ -9,11 +11,12 @@ use Rattle.rw_fleet.specs.declared.load.Load.{Load}
 use Rattle.rw_reshard.specs.Wanted.{wanted}
 use Rattle.rw_shard_core.specs.declared.config.ConfigFields.{ConfigFields}
 use Rattle.rw_sender.specs.Shipping.{Shipping, HasCompared, PlacesAll}
-use Rattle.rw_send.specs.Segments.{OpensSegment, IsFed, IsFedPart}
+use Rattle.rw_send.specs.Segments.{meal_of}
 
--- more may have been put to the same shards, and without a limit in bytes no mark
+-- more may have been fed, and put to the same shards, and without a limit in bytes no mark
 pub record StaysOpen {T : Type 0} (old new : Shipping T) : Type 0 where
   pub choice : new.log.choice ≡ old.log.choice
+  pub pieces : Begins old.log.pieces new.log.pieces
   pub fleet : new.fleet ≡ record old.fleet { current = new.fleet.current }
   pub shards : length new.fleet.current ≡ length old.fleet.current
   pub limit : new.limit ≡ old.limit
@@ -38,13 +41,12 @@ pub record IsNextEpoch {T : Type 0} (old new : Shards T) : Type 0 where
   pub epoch : new.epoch ≡ old.epoch + 1
   pub fresh : AreFresh new.epoch new.current
 
--- if more is to come, there are as many shards as are wanted under the load; if there were as
--- many before, all stays as it is
-pub record IsSet {T : Type 0} (more : Bool) (fewest most : ℕ) (old new : Shipping T) : Type 0 where
+-- there are as many shards as are wanted under the load; if there were as many before, all stays as
+-- it is
+pub record IsSet {T : Type 0} (fewest most : ℕ) (old new : Shipping T) : Type 0 where
   pub load : Load
   pub advised : IsLoad old.fleet load
-  pub shards : more ≡ true → length new.fleet.current ≡ wanted_under fewest most (length old.fleet.current) load
-  pub last : more ≡ false → new ≡ old
+  pub shards : length new.fleet.current ≡ wanted_under fewest most (length old.fleet.current) load
   pub log : new.log ≡ old.log
   pub limit : new.limit ≡ old.limit
   pub stays : length new.fleet.current ≡ length old.fleet.current → new ≡ old
@@ -54,40 +56,42 @@ pub record IsSet {T : Type 0} (more : Bool) (fewest most : ℕ) (old new : Shipp
 abbrev pub HasPutAll : {T : Type 0} → Shipping T → Type 0
 HasPutAll s = (s.log.placed ≡ entries s.log.pieces) × PlacesAll s.log s.fleet
 
--- all that a reader had left was fed, after the end of the segment before unless it is the first,
--- and then the number of shards was set, if more is to come
-pub record IsSegmentShipped {T : Type 0} (fewest most : ℕ) (first : Bool) (left : Option (List ℕ)) (more : Bool) (old new : Shipping T) : Type 0 where
-  pub begun : List Piece
-  pub begins : OpensSegment first old.log.pieces begun
-  pub fed : Shipping T
-  pub is_fed : IsFed left begun fed.log.pieces
-  pub put : HasPutAll fed
-  pub stays : StaysOpen old fed
-  pub set : IsSet more fewest most fed new
+-- A segment is over: all that was fed was put to the shards, then their number was set, and then
+-- the end of the segment was fed, and what follows of the next one.
+pub record IsLap {T : Type 0} (fewest most : ℕ) (old new : Shipping T) : Type 0 where
+  pub put : HasPutAll old
+  pub between : Shipping T
+  pub set : IsSet fewest most old between
+  pub stays : StaysOpen between new
+  pub begins : Begins (old.log.pieces ++ next_segment ∷ []) new.log.pieces
+  pub ends : (meal_of new.log.pieces).whole ≡ (with_next (meal_of old.log.pieces)).whole
 
-abbrev pub is_some_more : {A : Type 0} → List A → Bool
-is_some_more [] = false
-is_some_more (x ∷ xs) = true
+-- the number of shards could not be set
+pub record IsUnset {T : Type 0} (old new : Shipping T) : Type 0 where
+  pub log : new.log ≡ old.log
+  pub limit : new.limit ≡ old.limit
+  pub fleet : (new.fleet ≡ old.fleet) ⊎ HasCompared old.fleet new.fleet
 
--- the same for the segments of these readers, in order
-abbrev pub AreShipped : {T : Type 0} → (fewest most : ℕ) → Bool → List (Option (List ℕ)) → Shipping T → Shipping T → Type 0
-AreShipped fewest most first [] old new = new ≡ old
-AreShipped {T} fewest most first (left ∷ lefts) old new = (next : Shipping T) × IsSegmentShipped fewest most first left (is_some_more lefts) old next × AreShipped fewest most false lefts next new
+-- this many segments are over, one after the other, and the next one is being fed
+abbrev pub HasLapped : {T : Type 0} → (fewest most : ℕ) → ℕ → Shipping T → Shipping T → Type 0
+HasLapped fewest most zero old new = StaysOpen old new
+HasLapped {T} fewest most (suc n) old new =
+    (last : Shipping T) × HasLapped fewest most n old last × IsLap fewest most last new
 
--- the reading halted before a segment or within it, or the number of shards could not be set after
--- it
-pub record HasHalted {T : Type 0} (first : Bool) (left : Option (List ℕ)) (old new : Shipping T) : Type 0 where
-  pub fed : Shipping T
-  pub part : (fed.log.pieces ≡ old.log.pieces) ⊎ ((begun : List Piece) × OpensSegment first old.log.pieces begun × IsFedPart left begun fed.log.pieces)
-  pub stays : StaysOpen old fed
-  pub log : new.log ≡ fed.log
-  pub limit : new.limit ≡ fed.limit
-  pub fleet : (new.fleet ≡ fed.fleet) ⊎ HasCompared fed.fleet new.fleet
+-- the end of a segment was not fed: the number of shards could not be set, or was set before
+pub record HasBroken {T : Type 0} (fewest most : ℕ) (old new : Shipping T) : Type 0 where
+  pub put : HasPutAll old
+  pub pieces : new.log.pieces ≡ old.log.pieces
+  pub how : IsUnset old new
+      ⊎ ((between : Shipping T) × IsSet fewest most old between × StaysOpen between new)
 
--- the same for the segments of these readers, in order, as far as the reading came
-abbrev pub AreShippedPart : {T : Type 0} → (fewest most : ℕ) → Bool → List (Option (List ℕ)) → Shipping T → Shipping T → Type 0
-AreShippedPart fewest most first [] old new = new ≡ old
-AreShippedPart {T} fewest most first (left ∷ lefts) old new = HasHalted first left old new ⊎ ((next : Shipping T) × IsSegmentShipped fewest most first left (is_some_more lefts) old next × AreShippedPart fewest most false lefts next new)
+-- This was fed, over one segment after the other. Or the end of the current one was not, at the end
+-- of what was read of it (`gave` says whether something is what was read).
+abbrev pub HasComeTo : {T : Type 0} → (fewest most : ℕ) → (gave : Meal → Type 0) → Meal
+    → Shipping T → Shipping T → Type 0
+HasComeTo {T} fewest most gave fed old new = HasLapped fewest most (length fed.whole) old new
+    ⊎ (gave (with_next fed) × ((last : Shipping T)
+    × HasLapped fewest most (length fed.whole) old last × HasBroken fewest most last new))
 
 -- a shipper with as many shards as are configured and this limit in bytes, which was fed nothing
 pub record HasStarted {T : Type 0} (c : ConfigFields) (limit : Option ℕ) (s : Shipping T) : Type 0 where

@@ -1,5 +1,4 @@
 pub mod EpochSizes
 pub mod FeedErrors
-pub mod Following
-pub mod Segments
 pub mod Sending
+pub mod Turns

@@ -2,7 +2,7 @@
 
 use rw_follow::SegmentError;
 use rw_sender::FeedFault;
-use rw_types::{Failed, ReadFault};
+use rw_types::ReadFault;
 use rw_wal_tail::TailFault;
 use std::alloc::AllocError;
 
@@ -58,16 +58,5 @@ impl From<AllocError> for FeedError {
 
     fn from(_e: AllocError) -> FeedError {
         FeedError::Failed
-    }
-}
-
-impl From<Failed> for FeedError {
-    ghost use Rattle.std.specs.Prelude.{◌≡◌};
-    ghost use Rattle.rw_send.specs.declared.feed_error.FeedError.TheVariants.{Unreadable};
-
-    ghost from_gives = { λ _ h. h ≡ Unreadable };
-
-    fn from(_failed: Failed) -> FeedError {
-        FeedError::Unreadable
     }
 }

@@ -1,25 +1,22 @@
-//! The command `send --follow`, over any segments, connections, watch and writer.
+//! The command `send`, over any segments, connections, watch and writer.
 
-ghost use Rattle.std.specs.Prelude.{◌≡◌, ◌⊎◌, ℕ, Ok, Err, true, false, IfOk, OnOk};
-ghost use Rattle.rw_wal_format.specs.declared.tail_fault.TailFault.{TailFault};
-ghost use Rattle.rw_follow.specs.Growth.{Known};
+ghost use Rattle.std.specs.Prelude.{◌≡◌, ◌⊎◌, [], true, false, Err, IfOk, OnOk};
 ghost use Rattle.rw_follow.specs.declared.signal.StopRequest.TheVariants as StopRequest;
-ghost use Rattle.rw_text.specs.declared.tool_fault.ToolFault.TheVariants.{OutOfMemory, Log, Line, SegmentFull, Device};
-ghost use Rattle.rw_send.specs.Following.{IsFollowPrinted, IsFollowPrintedPart, IsFollowed, IsUnread};
-ghost use Rattle.rw_send.specs.inner.Following.{follow_result, left_undone, as_follow_result};
-ghost use Rattle.rw_send.specs.declared.follow_fault.FollowFault.TheVariants.{Tool, Missing, Stopped};
+ghost use Rattle.rw_send.specs.Logs.{seen_of};
+ghost use Rattle.rw_send.specs.Segments.{meal_of};
+ghost use Rattle.rw_send.specs.Sending.{IsSent, Prints};
+ghost use Rattle.rw_send.specs.inner.Sending.{left_undone};
+ghost use Rattle.rw_send.specs.declared.follow_fault.FollowFault.TheVariants.{Stopped};
 
 use crate::counters::{FeedContext, count_report, update_counters};
-use crate::feed_error::FeedError;
 use crate::follow_fault::FollowFault;
-use crate::live::ship_live;
+use crate::live::{room_for_piece, ship_live};
 use crate::options::SendOptions;
 use crate::printed_report::print_report;
-use crate::send::{Sent, stop_shipper};
 use crate::sharding::Sharding;
-use crate::shipping::zeros;
+use crate::stopping::{Sent, stop_shipper};
 use rw_follow::{Segments, StopRequest, Watch};
-use rw_sender::{Connect, Report, Shipper};
+use rw_sender::{Connect, Shipper};
 use rw_settings::Settings;
 use rw_shard_core::Config;
 use rw_text::ToolFault;
@@ -29,41 +26,8 @@ use std::sync::Wait;
 use std::thread::Threads;
 use std::time::Clock;
 
-/// The report and the answer of a following.
-#[derive(Drop)]
-struct Followed<T> {
-    report: Report<T>,
-    answer: Result<(), FollowFault>,
-}
-
-/// Returns an answer of `send` as that of a log that is followed.
-fn as_follow_result(answer: Result<(), ToolFault>) -> Result<(), FollowFault>
-    ensures { result ≡ as_follow_result answer }
-{
-    match answer {
-        Ok(()) => Ok(()),
-        Err(fault) => Err(FollowFault::Tool(fault)),
-    }
-}
-
-/// Returns how a following answers that ended so, if its shipper's stop is answered so.
-fn follow_result(
-    ended: Result<(), FeedError>,
-    answer: Result<(), ToolFault>,
-) -> Result<(), FollowFault>
-    ensures { result ≡ follow_result ended answer }
-{
-    match ended {
-        Err(FeedError::Missing(number)) => Err(FollowFault::Missing(number)),
-        Err(FeedError::Aborted) => Err(FollowFault::Stopped),
-        Ok(()) | Err(FeedError::Damaged(_) | FeedError::Failed | FeedError::Unreadable) => {
-            as_follow_result(answer)
-        }
-    }
-}
-
-/// Returns the answer of a following that has ended. If its work was cut short, a request to end at
-/// once may have cut it: the stop signal is looked at once more.
+/// Returns the answer of a run that has ended. If its work was cut short, a request to end at once
+/// may have cut it: the stop signal is looked at once more.
 fn or_stopped<W: Watch>(watch: &mut W, answer: Result<(), FollowFault>) -> Result<(), FollowFault>
     ensures answer { (result ≡ answer) ⊎ ((answer ≡ left_undone) × (result ≡ Err Stopped)
         × (W.said watch.new ≡ StopRequest.Abort)) }
@@ -79,8 +43,8 @@ fn or_stopped<W: Watch>(watch: &mut W, answer: Result<(), FollowFault>) -> Resul
     answer
 }
 
-/// Follows a log, and stops.
-fn ship_on<
+/// Ships a log, and stops.
+fn ship<
     R: Threads + Wait + Clock + Copy + Send + 'static,
     S: Segments,
     C: Connect + Drop,
@@ -92,14 +56,15 @@ fn ship_on<
     segments: &mut S,
     options: SendOptions<'_, C>,
     watch: &mut W,
-) -> Result<Followed<C::T>, AllocError>
-    requires unread { Known (S.now segments.old) IsUnread }
-    ensures { IfOk result
-        (λ f. IsFollowed C.T.tells C.T.seen C.T.is_for config options.entry.max_batch_bytes
-        (S.is_sure segments.old) (S.now segments.new) (W.said watch.new) f.report f.answer) }
+) -> Result<Sent<C::T>, AllocError>
+    ensures { IfOk result (λ sent. (start : S.Start) → S.gave segments.old start (meal_of [])
+        → IsSent C.T.tells C.T.seen C.T.is_for config options.entry.max_batch_bytes
+        (seen_of (S.gave segments.new start) (S.had_all segments.new start)
+        (S.lacks segments.new) (S.may_fail segments.old))
+        (W.is_quiet watch.old) (W.said watch.new) sent.report sent.answer) }
 {
     let sharding = Sharding::of(&config);
-    let mut buf = zeros(alloc)?;
+    let mut buf = room_for_piece(alloc)?;
     let SendOptions {
         connect,
         counters,
@@ -120,21 +85,27 @@ fn ship_on<
     update_counters(counters, &shipper);
     let Sent { report, answer } = stop_shipper(rt, shipper, ended);
     count_report(counters, &report);
-    let answer = or_stopped(watch, follow_result(ended, answer));
-    Ok(Followed { report, answer })
+    let answer = or_stopped(watch, answer);
+    Ok(Sent { report, answer })
 }
 
-/// Ships a log while it grows, until the watch asks to stop, then stops and prints the report as
-/// the command `send` does. Of what was read it keeps the labels and last timestamps of series, the
-/// samples that wait to be acknowledged, and the dropped ones, and nothing else.
+/// Ships a log until the watch asks to stop, then stops, and prints the report: `dropped POS
+/// REASON` by position, `filtered COUNT`, `abandoned POS` by position, and `report ..`, each line
+/// ended by LF. Of what was read it keeps the labels and last timestamps of series, the samples
+/// that wait to be acknowledged, and the dropped ones, and nothing else.
 ///
-/// A segment is over once the next one exists and, read again after that was seen, it gives no more
-/// bytes. Between two of them the number of shards is changed to what is wanted under the load.
+/// A segment is fed as it is read, in pieces of at most 64 KiB. It is over once the next one exists
+/// and, read again after that was seen, it gives no more bytes. Between two of them the number of
+/// shards is changed to what is wanted under the load, for which the workers are given a moment to
+/// catch up. A log fault ends the reading, and what comes before it is still shipped. If there is
+/// no memory or no thread, a worker has gone, a segment is missing between two or cannot be read,
+/// the work is stopped at once. If it could not start, or there is no memory to print the report,
+/// nothing is printed.
+///
 /// Asked to finish, it reads what the log has, and waits until the receiver has acknowledged all of
 /// it; asked to end at once, it leaves what is not done. While it waits for room in a queue, or for
 /// the receiver, it sees that only if the stop flag of `options` is set too, after the stop signal.
-/// The counters are updated after each turn, and once the work has stopped. If a segment is missing
-/// between two, or cannot be read, the work is stopped at once too.
+/// The counters are updated after each turn, and once the work has stopped.
 pub fn run_follow<
     R: Threads + Wait + Clock + Copy + Send + 'static,
     S: Segments,
@@ -150,50 +121,18 @@ pub fn run_follow<
     watch: &mut W,
     writer: &mut K,
 ) -> Result<(), FollowFault>
-    requires unread { Known (S.now segments.old) IsUnread }
-    ensures complete { OnOk result
-        (IsFollowPrinted C.T.tells C.T.seen C.T.is_for settings.config options.entry.max_batch_bytes
-        (S.is_sure segments.old) (S.now segments.new) (W.said watch.new)
-        (K.contents writer.old) (K.contents writer.new)
-        (Ok tt)) }
+    ensures prints { (start : S.Start) → S.gave segments.old start (meal_of [])
+        → Prints C.T.tells C.T.seen C.T.is_for settings.config options.entry.max_batch_bytes
+        (seen_of (S.gave segments.new start) (S.had_all segments.new start)
+        (S.lacks segments.new) (S.may_fail segments.old))
+        (W.is_quiet watch.old) (W.said watch.new) (K.contents writer.old)
+        (K.contents writer.new) (writer.new ≡ writer.old) (K.has_failed writer.new ≡ true)
+        result }
     ensures sound { OnOk result
         (K.has_failed writer.old ≡ false → K.has_failed writer.new ≡ false) }
-    ensures damaged { (f : TailFault) → result ≡ Err (Tool (Log f))
-        → IsFollowPrinted C.T.tells C.T.seen C.T.is_for settings.config options.entry.max_batch_bytes
-        (S.is_sure segments.old) (S.now segments.new) (W.said watch.new)
-        (K.contents writer.old) (K.contents writer.new)
-        (Err (Tool (Log f))) }
-    ensures missing { (n : ℕ) → result ≡ Err (Missing n)
-        → IsFollowPrinted C.T.tells C.T.seen C.T.is_for settings.config options.entry.max_batch_bytes
-        (S.is_sure segments.old) (S.now segments.new) (W.said watch.new)
-        (K.contents writer.old) (K.contents writer.new)
-        (Err (Missing n)) }
-    ensures stopped { result ≡ Err Stopped
-        → IsFollowPrinted C.T.tells C.T.seen C.T.is_for settings.config options.entry.max_batch_bytes
-        (S.is_sure segments.old) (S.now segments.new) (W.said watch.new)
-        (K.contents writer.old) (K.contents writer.new)
-        (Err Stopped) }
-    ensures memory { result ≡ Err (Tool OutOfMemory) → (writer.new ≡ writer.old)
-        ⊎ IsFollowPrinted C.T.tells C.T.seen C.T.is_for settings.config options.entry.max_batch_bytes
-        (S.is_sure segments.old) (S.now segments.new) (W.said watch.new)
-        (K.contents writer.old) (K.contents writer.new)
-        (Err (Tool OutOfMemory)) }
-
-    // A segment cannot be read, or the writer holds a prefix of the report.
-    ensures device { result ≡ Err (Tool Device)
-        → IsFollowPrinted C.T.tells C.T.seen C.T.is_for settings.config options.entry.max_batch_bytes
-        (S.is_sure segments.old) (S.now segments.new) (W.said watch.new)
-        (K.contents writer.old) (K.contents writer.new)
-        (Err (Tool Device))
-        ⊎ ((K.has_failed writer.new ≡ true)
-        × IsFollowPrintedPart C.T.tells C.T.seen C.T.is_for settings.config options.entry.max_batch_bytes
-        (S.is_sure segments.old) (S.now segments.new) (W.said watch.new)
-        (K.contents writer.old) (K.contents writer.new)) }
-    ensures no_line { (n : ℕ) → result ≡ Err (Tool (Line n)) → ⊥ }
-    ensures no_full { result ≡ Err (Tool SegmentFull) → ⊥ }
 {
     let Settings { config, limits: _ } = settings;
-    let Followed { report, answer } = ship_on(rt, alloc, config, segments, options, watch)?;
+    let Sent { report, answer } = ship(rt, alloc, config, segments, options, watch)?;
     print_report(alloc, report, writer)?;
     answer
 }

@@ -1,5 +1,5 @@
-//! The command `send`: the segments of a log are shipped over many shards, once or as the log
-//! grows, and the report is printed.
+//! The command `send`: the segments of a log are shipped over many shards, to its present end or as
+//! it grows, and the report is printed.
 #![tactic(auto)]
 
 mod connect;
@@ -12,7 +12,7 @@ mod options;
 mod printed_report;
 mod send;
 mod sharding;
-mod shipping;
+mod stopping;
 
 pub use connect::TcpConnect;
 pub use counters::FeedContext;
@@ -23,4 +23,3 @@ pub use options::SendOptions;
 pub use rw_worker::StopFlag;
 pub use send::run_send;
 pub use sharding::{Sharding, resharded, retuned};
-pub use shipping::ship_all;

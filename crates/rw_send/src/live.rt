@@ -1,67 +1,60 @@
-//! Feeds a log to a shipper as it grows.
+//! Feeds a log to a shipper, as it grows or to its end.
 
-ghost use Rattle.std.specs.Prelude.{◌≡◌, ◌<◌, ◌≤◌, ◌⊎◌, [], length, map, true, false, None, IfErr, IfOk, IsSome, OnOk, OnErr};
-ghost use Rattle.rw_follow.specs.Growth as growth;
-ghost use Rattle.rw_follow.specs.Growth.{HadAll, IsFedPrefix, Known, with_next, with_piece};
-ghost use Rattle.rw_follow.specs.Turns.{FitsBuffer, given_by};
+ghost use Rattle.std.specs.Prelude.{◌≡◌, ◌<◌, ◌≤◌, ℕ, List, [], length, true, false, None, IfErr, IfOk, OnOk, vec_len};
+ghost use Rattle.rw_follow.specs.Turns.{FitsBuffer};
+ghost use Rattle.rw_follow.specs.declared.follower.Turn.TheVariants as Turn;
 ghost use Rattle.rw_follow.specs.declared.signal.StopRequest.TheVariants as StopRequest;
-ghost use Rattle.rw_fleet.specs.ShardHistories.{marked, marks_of};
 ghost use Rattle.rw_fleet.specs.Work.{AreResolved};
 ghost use Rattle.rw_fleet.specs.Loads.{IsLoad};
 ghost use Rattle.rw_fleet.specs.declared.load.Load.{Load};
-ghost use Rattle.rw_sender.specs.Placement.{IsShardCount};
-ghost use Rattle.rw_send.specs.Following.{IsUnread, meal_of};
-ghost use Rattle.rw_send.specs.inner.Following.{FailsWith, HaltsAt, IsCut, MarksBy};
-ghost use Rattle.rw_send.specs.Segments.{AreShortPieces, AreSoundButLast};
-ghost use Rattle.rw_send.specs.FeedErrors.{IsHalted};
+ghost use Rattle.rw_send.specs.Logs.{GaveNothing, IsAlmostRead, seen_of};
+ghost use Rattle.rw_send.specs.Segments.{AreShortPieces, AreSoundButLast, meal_of};
+ghost use Rattle.rw_send.specs.Steps.{HasComeTo, HasLapped, KeepsSetup, HasLastEpoch};
+ghost use Rattle.rw_send.specs.inner.Turns.{Goes, IsCut, Reshards};
 ghost use Rattle.rw_send.specs.inner.EpochSizes.{KeepsEpochSizes};
-ghost use Rattle.rw_send.specs.inner.FeedErrors.{IsIntact};
-ghost use Rattle.rw_send.specs.Steps.{HasLastEpoch, KeepsSetup};
+ghost use Rattle.rw_send.specs.inner.FeedErrors.{HasDamage, IsIntact};
+ghost use Rattle.rw_sender.specs.Placement.{IsShardCount};
 
 use crate::counters::{FeedContext, update_counters};
 use crate::feed_error::FeedError;
 use crate::sharding::{Sharding, resharded, retuned};
-use crate::shipping::begin_segment;
 use rw_follow::{Follower, Segments, Turn, Watch};
 use rw_sender::{Connect, Shipper};
 use rw_wal_tail::Piece;
-use std::alloc::Global;
+use std::alloc::{AllocError, Global};
 use std::sync::Wait;
 use std::thread::Threads;
 use std::time::Clock;
 
-/// Feeds some bytes of the current segment.
+/// The most bytes of a piece.
+const PIECE_BYTES: usize = 65_536;
+
+/// Returns room for a piece.
+pub(crate) fn room_for_piece(alloc: Global) -> Result<Vec<u8>, AllocError>
+    ensures { IfOk result (λ v. vec_len v ≡ PIECE_BYTES) }
+{
+    vec![in alloc; 0; PIECE_BYTES]
+}
+
+/// Feeds some bytes of the current segment: the first ones of the buffer.
 fn feed_bytes<R: Wait, C: Connect + Drop>(
     rt: &R,
+    alloc: Global,
     shipper: &mut Shipper<C>,
-    piece: Vec<u8>,
-) -> Result<(), FeedError>
+    sharding: Sharding,
+    buf: &[u8],
+    count: usize,
+) -> Result<Sharding, FeedError>
     requires live { shipper.old.fault ≡ None }
     requires intact { IsIntact shipper.old }
-    requires short { length piece.items ≤ 65_536 }
-    ensures kept { KeepsSetup shipper.old shipper.new }
-    ensures limit { shipper.new.limit ≡ shipper.old.limit }
-    ensures marks { shipper.old.limit ≡ None
-        → map marks_of shipper.new.fleet.current ≡ map marks_of shipper.old.fleet.current }
-    ensures shards { length shipper.new.fleet.current ≡ length shipper.old.fleet.current }
-    ensures short { AreShortPieces shipper.old.log.pieces → AreShortPieces shipper.new.log.pieces }
-    ensures but_last { AreSoundButLast shipper.old.log.pieces
-        → AreSoundButLast shipper.new.log.pieces }
-    ensures live { OnOk result (shipper.new.fault ≡ None) }
-    ensures intact { OnOk result (IsIntact shipper.new) }
-    ensures fed { OnOk result (meal_of shipper.new.log.pieces
-        ≡ with_piece (meal_of shipper.old.log.pieces) piece.items) }
-    ensures part { OnErr result ((meal_of shipper.new.log.pieces ≡ meal_of shipper.old.log.pieces)
-        ⊎ (meal_of shipper.new.log.pieces
-        ≡ with_piece (meal_of shipper.old.log.pieces) piece.items)) }
-
-    ensures halted { IfErr result (IsHalted shipper.new) }
-    ensures fails { IfErr result (FailsWith shipper.new) }
-    ensures rest { shipper.new.fleet
-        ≡ record shipper.old.fleet { current = shipper.new.fleet.current } }
+    requires shards { length shipper.old.fleet.current ≡ sharding.shards }
+    requires within { count ≤ length buf.now }
+    requires short { length buf.now ≤ 65_536 }
+    ensures { Goes (Turn.Piece count) buf.now sharding shipper.old shipper.new result }
 {
+    let piece = Vec::from_slice(alloc, &buf[..count])?;
     shipper.feed(rt, Piece::Bytes(piece))?;
-    Ok(())
+    Ok(sharding)
 }
 
 /// Feeds word that the next segment begins, with as many shards as are wanted under the load.
@@ -73,54 +66,26 @@ fn feed_next<R: Threads + Wait + Clock + Copy + Send + 'static, C: Connect + Dro
     requires live { shipper.old.fault ≡ None }
     requires intact { IsIntact shipper.old }
     requires shards { length shipper.old.fleet.current ≡ sharding.shards }
-    ensures kept { KeepsSetup shipper.old shipper.new }
-    ensures limit { shipper.new.limit ≡ shipper.old.limit }
-    ensures shards { IfOk result (λ s. length shipper.new.fleet.current ≡ s.shards) }
-    ensures number { shipper.new.fault ≡ None → IsShardCount (length shipper.new.fleet.current) }
-    ensures range { IfOk result (λ s. (s.fewest ≡ sharding.fewest) × (s.most ≡ sharding.most)) }
-    ensures sizes { shipper.new.fault ≡ None → KeepsEpochSizes sharding.fewest sharding.most
-        shipper.old.fleet shipper.new.fleet }
-    ensures start { IfOk result
-        (λ s. (s.placed ≡ sharding.placed) × (s.resolved ≡ sharding.resolved)) }
-    ensures short { AreShortPieces shipper.old.log.pieces → AreShortPieces shipper.new.log.pieces }
-    ensures but_last { AreSoundButLast shipper.old.log.pieces
-        → AreSoundButLast shipper.new.log.pieces }
-    ensures live { OnOk result (shipper.new.fault ≡ None) }
-    ensures intact { OnOk result (IsIntact shipper.new) }
-    ensures fed { OnOk result
-        (meal_of shipper.new.log.pieces ≡ with_next (meal_of shipper.old.log.pieces)) }
-    ensures part { OnErr result ((meal_of shipper.new.log.pieces ≡ meal_of shipper.old.log.pieces)
-        ⊎ (meal_of shipper.new.log.pieces ≡ with_next (meal_of shipper.old.log.pieces))) }
-
-    ensures halted { IfErr result (IsHalted shipper.new) }
-    ensures fails { IfErr result (FailsWith shipper.new) }
-    ensures last { AreResolved shipper.old.fleet.ended → HasLastEpoch shipper.new }
-    ensures resolved { AreResolved shipper.old.fleet.ended
-        → OnOk result (AreResolved shipper.new.fleet.ended) }
+    ensures { (buf : List ℕ) → Goes Turn.Over buf sharding shipper.old shipper.new result }
 {
-    let next = resharded(rt, shipper, sharding, true)?;
-    begin_segment(rt, shipper, false)?;
+    let next = resharded(rt, shipper, sharding)?;
+    shipper.feed(rt, Piece::NextSegment)?;
     Ok(next)
 }
 
 /// Makes each shard send what waits for a full batch.
-fn flush<R: Wait, C: Connect + Drop>(rt: &R, shipper: &mut Shipper<C>) -> Result<(), FeedError>
+fn flush<R: Wait, C: Connect + Drop>(
+    rt: &R,
+    shipper: &mut Shipper<C>,
+    sharding: Sharding,
+) -> Result<Sharding, FeedError>
     requires live { shipper.old.fault ≡ None }
-    ensures kept { KeepsSetup shipper.old shipper.new }
-    ensures limit { shipper.new.fault ≡ None → shipper.new.limit ≡ shipper.old.limit }
-    ensures marked { OnOk result
-        (shipper.new.fleet.current ≡ map marked shipper.old.fleet.current) }
-    ensures shards { length shipper.new.fleet.current ≡ length shipper.old.fleet.current }
-    ensures log { shipper.new.log ≡ shipper.old.log }
-    ensures live { OnOk result (shipper.new.fault ≡ None) }
-    ensures failed { OnErr result (IsSome shipper.new.fault) }
-    ensures halted { IfErr result (IsHalted shipper.new) }
-    ensures fails { IfErr result (FailsWith shipper.new) }
-    ensures rest { shipper.new.fleet
-        ≡ record shipper.old.fleet { current = shipper.new.fleet.current } }
+    requires intact { IsIntact shipper.old }
+    requires shards { length shipper.old.fleet.current ≡ sharding.shards }
+    ensures { (buf : List ℕ) → Goes Turn.Flush buf sharding shipper.old shipper.new result }
 {
     shipper.flush(rt)?;
-    Ok(())
+    Ok(sharding)
 }
 
 /// Does what a turn of a follower asks for.
@@ -137,44 +102,12 @@ fn obey<R: Threads + Wait + Clock + Copy + Send + 'static, C: Connect + Drop>(
     requires shards { length shipper.old.fleet.current ≡ sharding.shards }
     requires within { FitsBuffer turn (length buf.now) }
     requires short { length buf.now ≤ 65_536 }
-    ensures kept { KeepsSetup shipper.old shipper.new }
-    ensures limit { shipper.new.fault ≡ None → shipper.new.limit ≡ shipper.old.limit }
-    ensures marks { OnOk result (MarksBy turn shipper.old shipper.new) }
-    ensures shards { IfOk result (λ s. length shipper.new.fleet.current ≡ s.shards) }
-    ensures number { shipper.new.fault ≡ None → IsShardCount (length shipper.new.fleet.current) }
-    ensures range { IfOk result (λ s. (s.fewest ≡ sharding.fewest) × (s.most ≡ sharding.most)) }
-    ensures sizes { shipper.new.fault ≡ None → KeepsEpochSizes sharding.fewest sharding.most
-        shipper.old.fleet shipper.new.fleet }
-    ensures start { IfOk result
-        (λ s. (s.placed ≡ sharding.placed) × (s.resolved ≡ sharding.resolved)) }
-    ensures short { AreShortPieces shipper.old.log.pieces → AreShortPieces shipper.new.log.pieces }
-    ensures but_last { AreSoundButLast shipper.old.log.pieces
-        → AreSoundButLast shipper.new.log.pieces }
-    ensures live { OnOk result (shipper.new.fault ≡ None) }
-    ensures intact { OnOk result (IsIntact shipper.new) }
-    ensures fed { OnOk result (meal_of shipper.new.log.pieces
-        ≡ given_by turn buf.now (meal_of shipper.old.log.pieces)) }
-    ensures part { OnErr result ((meal_of shipper.new.log.pieces ≡ meal_of shipper.old.log.pieces)
-        ⊎ (meal_of shipper.new.log.pieces
-        ≡ given_by turn buf.now (meal_of shipper.old.log.pieces))) }
-
-    ensures halted { IfErr result (IsHalted shipper.new) }
-    ensures halts { IfErr result (HaltsAt turn shipper.old shipper.new) }
-    ensures last { AreResolved shipper.old.fleet.ended → HasLastEpoch shipper.new }
-    ensures resolved { AreResolved shipper.old.fleet.ended
-        → OnOk result (AreResolved shipper.new.fleet.ended) }
+    ensures { Goes turn buf.now sharding shipper.old shipper.new result }
 {
     match turn {
-        Turn::Piece(count) => {
-            let piece = Vec::from_slice(alloc, &buf[..count])?;
-            feed_bytes(rt, shipper, piece)?;
-            Ok(sharding)
-        }
+        Turn::Piece(count) => feed_bytes(rt, alloc, shipper, sharding, buf, count),
         Turn::Over => feed_next(rt, shipper, sharding),
-        Turn::Flush => {
-            flush(rt, shipper)?;
-            Ok(sharding)
-        }
+        Turn::Flush => flush(rt, shipper, sharding),
         Turn::Nothing | Turn::Finished | Turn::Aborted => Ok(sharding),
     }
 }
@@ -194,34 +127,12 @@ fn step<R: Threads + Wait + Clock + Copy + Send + 'static, C: Connect + Drop>(
     requires shards { length shipper.old.fleet.current ≡ sharding.shards }
     requires within { FitsBuffer turn (length buf.now) }
     requires short { length buf.now ≤ 65_536 }
-    ensures kept { KeepsSetup shipper.old shipper.new }
-    ensures limit { shipper.new.fault ≡ None → shipper.new.limit ≡ shipper.old.limit }
     ensures asked { is_reshard_due ≡ true → IfOk result (λ s. (load : Load)
         × IsLoad shipper.old.fleet load × (s.placed ≡ load.placed)
         × (s.resolved ≡ load.resolved)) }
-    ensures start { is_reshard_due ≡ false → IfOk result
-        (λ s. (s.placed ≡ sharding.placed) × (s.resolved ≡ sharding.resolved)) }
-    ensures shards { IfOk result (λ s. length shipper.new.fleet.current ≡ s.shards) }
-    ensures number { shipper.new.fault ≡ None → IsShardCount (length shipper.new.fleet.current) }
-    ensures range { IfOk result (λ s. (s.fewest ≡ sharding.fewest) × (s.most ≡ sharding.most)) }
-    ensures sizes { shipper.new.fault ≡ None → KeepsEpochSizes sharding.fewest sharding.most
-        shipper.old.fleet shipper.new.fleet }
-    ensures short { AreShortPieces shipper.old.log.pieces → AreShortPieces shipper.new.log.pieces }
-    ensures but_last { AreSoundButLast shipper.old.log.pieces
-        → AreSoundButLast shipper.new.log.pieces }
-    ensures live { OnOk result (shipper.new.fault ≡ None) }
-    ensures intact { OnOk result (IsIntact shipper.new) }
-    ensures fed { OnOk result (meal_of shipper.new.log.pieces
-        ≡ given_by turn buf.now (meal_of shipper.old.log.pieces)) }
-    ensures part { OnErr result ((meal_of shipper.new.log.pieces ≡ meal_of shipper.old.log.pieces)
-        ⊎ (meal_of shipper.new.log.pieces
-        ≡ given_by turn buf.now (meal_of shipper.old.log.pieces))) }
-
-    ensures halted { IfErr result (IsHalted shipper.new) }
-    ensures halts { IfErr result (HaltsAt turn shipper.old shipper.new) }
-    ensures last { AreResolved shipper.old.fleet.ended → HasLastEpoch shipper.new }
-    ensures resolved { AreResolved shipper.old.fleet.ended
-        → OnOk result (AreResolved shipper.new.fleet.ended) }
+    ensures goes { is_reshard_due ≡ false
+        → Goes turn buf.now sharding shipper.old shipper.new result }
+    ensures reshards { Reshards turn buf.now sharding shipper.old shipper.new result }
 {
     let next = retuned(rt, shipper, sharding, is_reshard_due)?;
     obey(rt, alloc, shipper, next, turn, buf)
@@ -241,7 +152,7 @@ fn count_turn<C: Connect + Drop>(
     update_counters(context.counters, shipper);
 }
 
-/// Feeds a log as it grows, until the watch asks to stop.
+/// Feeds a log until the watch asks to stop.
 pub(crate) fn ship_live<
     R: Threads + Wait + Clock + Copy + Send + 'static,
     S: Segments,
@@ -259,7 +170,6 @@ pub(crate) fn ship_live<
     requires begun { shipper.old.log.pieces ≡ [] }
     requires live { shipper.old.fault ≡ None }
     requires shards { length shipper.old.fleet.current ≡ sharding.shards }
-    requires unread { Known (S.now segments.old) IsUnread }
     requires buffer { 0 < length buf.old }
     requires short { length buf.old ≤ 65_536 }
     ensures kept { KeepsSetup shipper.old shipper.new }
@@ -267,20 +177,33 @@ pub(crate) fn ship_live<
     ensures number { shipper.new.fault ≡ None → IsShardCount (length shipper.new.fleet.current) }
     ensures sizes { shipper.new.fault ≡ None → KeepsEpochSizes sharding.fewest sharding.most
         shipper.old.fleet shipper.new.fleet }
+    ensures laps { W.is_quiet watch.old ≡ true → (start : S.Start)
+        → S.gave segments.old start (meal_of []) → HasComeTo sharding.fewest sharding.most
+        (S.gave segments.new start) (meal_of shipper.new.log.pieces) shipper.old shipper.new }
+    ensures lapped { OnOk result (W.is_quiet watch.old ≡ true
+        → HasLapped sharding.fewest sharding.most
+        (length (meal_of shipper.new.log.pieces).whole) shipper.old shipper.new) }
+    ensures idle { W.is_quiet watch.old ≡ true → (start : S.Start)
+        → S.gave segments.old start (meal_of []) → GaveNothing (S.gave segments.new start)
+        → shipper.new ≡ shipper.old }
     ensures short { AreShortPieces shipper.new.log.pieces }
     ensures but_last { AreSoundButLast shipper.new.log.pieces }
     ensures live { OnOk result (shipper.new.fault ≡ None) }
-    ensures begins { Known (S.now segments.new)
-        (λ m. IsFedPrefix (meal_of shipper.new.log.pieces) (growth.texts m)) }
-    ensures whole { OnOk result
-        (Known (S.now segments.new) (HadAll (meal_of shipper.new.log.pieces))) }
+    ensures begins { (start : S.Start) → S.gave segments.old start (meal_of [])
+        → IsAlmostRead (S.gave segments.new start) (meal_of shipper.new.log.pieces) }
+    ensures whole { OnOk result ((start : S.Start) → S.gave segments.old start (meal_of [])
+        → S.had_all segments.new start (meal_of shipper.new.log.pieces)) }
     ensures signed { OnOk result (W.said watch.new ≡ StopRequest.Finish) }
-    ensures cut { IfErr result (IsCut shipper.new (S.now segments.new) (W.said watch.new)
-        (S.is_sure segments.old ≡ true → ⊥)) }
+    ensures damaged { IfErr result (HasDamage shipper.new) }
+    ensures cut { IfErr result (λ e. (start : S.Start)
+        → S.gave segments.old start (meal_of []) → IsCut shipper.new
+        (seen_of (S.gave segments.new start) (S.had_all segments.new start)
+        (S.lacks segments.new) (S.may_fail segments.old)) (W.said watch.new) e) }
     ensures last { AreResolved shipper.old.fleet.ended → HasLastEpoch shipper.new }
 {
     let mut sharding = sharding;
     let mut follower = Follower::new();
+    context.counters.set_shards(sharding.shards);
     for _ in rt.forever() {
         let turn = follower.turn(segments, watch, buf)?;
         if let Turn::Finished = turn {

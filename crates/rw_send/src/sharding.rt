@@ -126,18 +126,16 @@ fn let_catch_up<R: Clock, C: Connect + Drop>(rt: &R, shipper: &Shipper<C>) {
     }
 }
 
-/// Changes the number of shards to what is wanted under the load, if that is another one and more
-/// is to come.
+/// Changes the number of shards to what is wanted under the load, if that is another one.
 pub fn resharded<R: Threads + Wait + Clock + Copy + Send + 'static, C: Connect + Drop>(
     rt: &R,
     shipper: &mut Shipper<C>,
     sharding: Sharding,
-    is_more: bool,
 ) -> Result<Sharding, FeedError>
     requires { length shipper.old.fleet.current ≡ sharding.shards }
     ensures put { shipper.old.fault ≡ None → HasPutAll shipper.old }
     ensures set { OnOk result
-        (IsSet is_more sharding.fewest sharding.most shipper.old shipper.new) }
+        (IsSet sharding.fewest sharding.most shipper.old shipper.new) }
     ensures shards { IfOk result (λ s. s.shards ≡ length shipper.new.fleet.current) }
     ensures range { IfOk result (λ s. (s.fewest ≡ sharding.fewest) × (s.most ≡ sharding.most)) }
     ensures start { IfOk result
@@ -151,11 +149,11 @@ pub fn resharded<R: Threads + Wait + Clock + Copy + Send + 'static, C: Connect +
     ensures err { OnErr result (result ≡ Err FeedError.Failed) }
     ensures failed { OnErr result (IsSome shipper.new.fault) }
 {
-    if is_more && sharding.fewest < sharding.most {
+    if sharding.fewest < sharding.most {
         let_catch_up(rt, shipper);
     }
     let next = sharding.under(shipper.load());
-    if !is_more || next.shards == sharding.shards {
+    if next.shards == sharding.shards {
         return Ok(sharding);
     }
     if shipper.reshard(rt, next.shards).is_err() {

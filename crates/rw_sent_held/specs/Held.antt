@@ -1,5 +1,5 @@
 -- What one receiver holds of a log that was sent.
-use Rattle.std.specs.Prelude.{◌≡◌, ℕ, ◌≤◌, Bool, true, List, length, map, Option, Result}
+use Rattle.std.specs.Prelude.{◌≡◌, ℕ, ◌≤◌, Bool, List, length, map, Option, Result}
 use Rattle.std.specs.Ordering.{nat_cmp}
 use Rattle.std.specs.FinMap.{FinMap}
 use Rattle.rw_types.specs.Labels.{Labels}
@@ -22,13 +22,11 @@ use Rattle.rw_restarts.specs.Arrivals.{Arrival, AreExchangesOf}
 use Rattle.rw_simulation.specs.OneReceivers.{IsOneReceiver}
 use Rattle.rw_simulation.specs.Received.{IsHeld}
 use Rattle.rw_simulation.specs.StoppedRuns.{NamesAll}
-use Rattle.rw_follow.specs.Growth.{Moment}
 use Rattle.rw_follow.specs.declared.signal.StopRequest.{StopRequest}
-use Rattle.rw_text.specs.declared.tool_fault.ToolFault.{ToolFault}
 use Rattle.rw_send.specs.declared.follow_fault.FollowFault.{FollowFault}
-use Rattle.rw_send.specs.Segments.{AreSure, HasMoreBytes}
+use Rattle.rw_send.specs.Logs.{Seen}
+use Rattle.rw_send.specs.Segments.{meal_of}
 use Rattle.rw_send.specs.Sending.{IsReportOf, IsSent, StopsAtOnce}
-use Rattle.rw_send.specs.Following.{FollowStopsAtOnce, IsFollowed, meal_of}
 
 -- a sender with this configuration, and a receiver with these limits
 abbrev pub machine_of : ConfigFields → LabelLimits → (max_body busy : ℕ) → Setup
@@ -84,19 +82,9 @@ ReportIsHeld tells seen is_for c limit cause pieces r report =
     → Holds c report.shipping pieces r store
 
 abbrev pub SentIsHeld : {T : Type 0} → (T → Type 0) → (T → List Exchange) → (ℕ → ℕ → T → Type 0)
-    → ConfigFields → Option ℕ → List (Option (List ℕ)) → List Bool → Report T
-    → Result (Unit {0}) ToolFault → Type 0
-SentIsHeld tells seen is_for c limit lefts sures r answer =
-    (sent : IsSent tells seen is_for c limit lefts sures r answer)
-    → ReportIsHeld tells seen is_for c limit
-    (StopsAtOnce (HasMoreBytes lefts sent.pieces) (AreSure sures → ⊥) answer) sent.pieces r
-    sent.report
-
-abbrev pub FollowedIsHeld : {T : Type 0} → (T → Type 0) → (T → List Exchange)
-    → (ℕ → ℕ → T → Type 0) → ConfigFields → Option ℕ → Bool → Option Moment → StopRequest → Report T
+    → ConfigFields → Option ℕ → Seen → Bool → StopRequest → Report T
     → Result (Unit {0}) FollowFault → Type 0
-FollowedIsHeld tells seen is_for c limit is_sure now said r answer =
-    (sent : IsFollowed tells seen is_for c limit is_sure now said r answer)
-    → ReportIsHeld tells seen is_for c limit
-    (FollowStopsAtOnce now said (is_sure ≡ true → ⊥) (meal_of sent.pieces) answer) sent.pieces r
-    sent.report
+SentIsHeld tells seen is_for c limit log quiet said r answer =
+    (sent : IsSent tells seen is_for c limit log quiet said r answer)
+    → ReportIsHeld tells seen is_for c limit (StopsAtOnce log said (meal_of sent.pieces) answer)
+    sent.pieces r sent.report

@@ -27,12 +27,10 @@ use Rattle.rw_restarts.specs.Refusals.{IsAnyReceiver}
 use Rattle.rw_restarts.specs.Logs.{AreRunsOverLog, IsRunOverPart}
 use Rattle.rw_restarts.specs.Workers.{NeverRefused}
 use Rattle.rw_restarts.specs.Stopped.{IsGrown, IsOpenReceiver, IsStoppedRun, run_from_start}
-use Rattle.rw_follow.specs.Growth.{Moment}
 use Rattle.rw_follow.specs.declared.signal.StopRequest.{StopRequest}
-use Rattle.rw_text.specs.declared.tool_fault.ToolFault.{ToolFault}
 use Rattle.rw_send.specs.declared.follow_fault.FollowFault.{FollowFault}
+use Rattle.rw_send.specs.Logs.{Seen}
 use Rattle.rw_send.specs.Sending.{IsSent}
-use Rattle.rw_send.specs.Following.{IsFollowed}
 use Rattle.rw_sender.specs.Reports.{parts_of}
 use Rattle.rw_sent_held.specs.Held.{machine_of}
 
@@ -60,17 +58,10 @@ pub record IsRunOverFed {T : Type 0} (tells : T → Type 0) (seen : T → List E
       (list_of (states (length events)).store l)
 
 abbrev pub SentIsRun : {T : Type 0} → (T → Type 0) → (T → List Exchange) → (ℕ → ℕ → T → Type 0)
-    → ConfigFields → Option ℕ → List (Option (List ℕ)) → List Bool → Report T
-    → Result (Unit {0}) ToolFault → Type 0
-SentIsRun tells seen is_for c limit lefts sures r answer =
-    (sent : IsSent tells seen is_for c limit lefts sures r answer)
-    → IsRunOverFed tells seen is_for c sent.pieces sent.report.shipping r sent.report.stopped
-
-abbrev pub FollowedIsRun : {T : Type 0} → (T → Type 0) → (T → List Exchange)
-    → (ℕ → ℕ → T → Type 0) → ConfigFields → Option ℕ → Bool → Option Moment → StopRequest → Report T
+    → ConfigFields → Option ℕ → Seen → Bool → StopRequest → Report T
     → Result (Unit {0}) FollowFault → Type 0
-FollowedIsRun tells seen is_for c limit is_sure now said r answer =
-    (sent : IsFollowed tells seen is_for c limit is_sure now said r answer)
+SentIsRun tells seen is_for c limit log quiet said r answer =
+    (sent : IsSent tells seen is_for c limit log quiet said r answer)
     → IsRunOverFed tells seen is_for c sent.pieces sent.report.shipping r sent.report.stopped
 
 -- ---- what it adds to a receiver
@@ -118,15 +109,8 @@ pub record AddsFed {T : Type 0} (tells : T → Type 0) (seen : T → List Exchan
       → HasAddedFed c pieces r (heads 0).store (heads (length arrivals)).store
 
 abbrev pub SentAdds : {T : Type 0} → (T → Type 0) → (T → List Exchange) → (ℕ → ℕ → T → Type 0)
-    → ConfigFields → Option ℕ → List (Option (List ℕ)) → List Bool → Report T
-    → Result (Unit {0}) ToolFault → Type 0
-SentAdds tells seen is_for c limit lefts sures r answer =
-    (sent : IsSent tells seen is_for c limit lefts sures r answer)
-    → AddsFed tells seen is_for c sent.pieces sent.report.shipping r sent.report.stopped
-
-abbrev pub FollowedAdds : {T : Type 0} → (T → Type 0) → (T → List Exchange)
-    → (ℕ → ℕ → T → Type 0) → ConfigFields → Option ℕ → Bool → Option Moment → StopRequest → Report T
+    → ConfigFields → Option ℕ → Seen → Bool → StopRequest → Report T
     → Result (Unit {0}) FollowFault → Type 0
-FollowedAdds tells seen is_for c limit is_sure now said r answer =
-    (sent : IsFollowed tells seen is_for c limit is_sure now said r answer)
+SentAdds tells seen is_for c limit log quiet said r answer =
+    (sent : IsSent tells seen is_for c limit log quiet said r answer)
     → AddsFed tells seen is_for c sent.pieces sent.report.shipping r sent.report.stopped

@@ -2,15 +2,15 @@
 //! rests on: its contract is the law.
 
 ghost use Rattle.std.specs.Prelude.{ℕ, Bool, List, Option, Result};
-ghost use Rattle.rw_follow.specs.Growth.{Moment};
 ghost use Rattle.rw_follow.specs.declared.signal.StopRequest.{StopRequest};
 ghost use Rattle.rw_shard_core.specs.declared.config.ConfigFields.{ConfigFields};
 ghost use Rattle.rw_sender.specs.declared.report.Report.{Report};
-ghost use Rattle.rw_text.specs.declared.tool_fault.ToolFault.{ToolFault};
+ghost use Rattle.rw_send.specs.Logs.{readers, seen_of};
 ghost use Rattle.rw_send.specs.declared.follow_fault.FollowFault.{FollowFault};
-ghost use Rattle.rw_sent_held.specs.Held.{FollowedIsHeld, SentIsHeld};
-ghost use Rattle.rw_sent_held.specs.Restarts.{FollowedAdds, FollowedIsRun, SentAdds, SentIsRun};
+ghost use Rattle.rw_sent_held.specs.Held.{SentIsHeld};
+ghost use Rattle.rw_sent_held.specs.Restarts.{SentAdds, SentIsRun};
 
+use rw_follow::Segments;
 use rw_restarts::{
     a_stopped_shipper_adds_its_samples, a_stopped_shipper_is_such_a_sender, many_runs_hold_one_log,
 };
@@ -24,13 +24,16 @@ use rw_worker::Transport;
 /// holds all samples that were placed, less those listed. If the outcome is complete, these are the
 /// samples of all that was fed. The premises on the network and the receiver are those of
 /// `one_receiver_holds_the_samples`.
-pub fn one_receiver_holds_what_was_sent<T: Transport>()
-    ensures sent { (c : ConfigFields) (limit : Option ℕ) (lefts : List (Option (List ℕ)))
-        (sures : List Bool) (r : Report T) (answer : Result (Unit {0}) ToolFault)
-        → SentIsHeld T.tells T.seen T.is_for c limit lefts sures r answer }
-    ensures followed { (c : ConfigFields) (limit : Option ℕ) (is_sure : Bool) (now : Option Moment)
-        (said : StopRequest) (r : Report T) (answer : Result (Unit {0}) FollowFault)
-        → FollowedIsHeld T.tells T.seen T.is_for c limit is_sure now said r answer }
+pub fn one_receiver_holds_what_was_sent<T: Transport, S: Segments>()
+    ensures sent { (c : ConfigFields) (limit : Option ℕ) (lefts now : List (Option (List ℕ)))
+        (sures : List Bool) (quiet : Bool) (said : StopRequest) (r : Report T)
+        (answer : Result (Unit {0}) FollowFault) → SentIsHeld T.tells T.seen T.is_for c limit
+        (readers lefts now sures) quiet said r answer }
+    ensures followed { (c : ConfigFields) (limit : Option ℕ) (start : S.Start) (before after : S)
+        (quiet : Bool) (said : StopRequest) (r : Report T)
+        (answer : Result (Unit {0}) FollowFault) → SentIsHeld T.tells T.seen T.is_for c limit
+        (seen_of (S.gave after start) (S.had_all after start) (S.lacks after)
+        (S.may_fail before)) quiet said r answer }
 {
     one_receiver_holds_the_samples::<T>();
 }
@@ -41,13 +44,16 @@ pub fn one_receiver_holds_what_was_sent<T: Transport>()
 /// If the outcome is complete, all that what was fed owes of a label set was acknowledged, if no
 /// message was refused of it; and a receiver of these many runs, which refuses none, holds it.
 /// There is no premise on how the run ended.
-pub fn a_send_is_such_a_sender<T: Transport>()
-    ensures sent { (c : ConfigFields) (limit : Option ℕ) (lefts : List (Option (List ℕ)))
-        (sures : List Bool) (r : Report T) (answer : Result (Unit {0}) ToolFault)
-        → SentIsRun T.tells T.seen T.is_for c limit lefts sures r answer }
-    ensures followed { (c : ConfigFields) (limit : Option ℕ) (is_sure : Bool) (now : Option Moment)
-        (said : StopRequest) (r : Report T) (answer : Result (Unit {0}) FollowFault)
-        → FollowedIsRun T.tells T.seen T.is_for c limit is_sure now said r answer }
+pub fn a_send_is_such_a_sender<T: Transport, S: Segments>()
+    ensures sent { (c : ConfigFields) (limit : Option ℕ) (lefts now : List (Option (List ℕ)))
+        (sures : List Bool) (quiet : Bool) (said : StopRequest) (r : Report T)
+        (answer : Result (Unit {0}) FollowFault) → SentIsRun T.tells T.seen T.is_for c limit
+        (readers lefts now sures) quiet said r answer }
+    ensures followed { (c : ConfigFields) (limit : Option ℕ) (start : S.Start) (before after : S)
+        (quiet : Bool) (said : StopRequest) (r : Report T)
+        (answer : Result (Unit {0}) FollowFault) → SentIsRun T.tells T.seen T.is_for c limit
+        (seen_of (S.gave after start) (S.had_all after start) (S.lacks after)
+        (S.may_fail before)) quiet said r answer }
 {
     a_stopped_shipper_is_such_a_sender::<T>();
     many_runs_hold_one_log();
@@ -58,13 +64,16 @@ pub fn a_send_is_such_a_sender<T: Transport>()
 /// neither as left nor as dropped. What it held before is in its place, and each list rises, so
 /// that nothing is held twice. The premises on the network and the receiver are those of
 /// `a_stopped_shipper_adds_its_samples`.
-pub fn a_send_adds_its_samples<T: Transport>()
-    ensures sent { (c : ConfigFields) (limit : Option ℕ) (lefts : List (Option (List ℕ)))
-        (sures : List Bool) (r : Report T) (answer : Result (Unit {0}) ToolFault)
-        → SentAdds T.tells T.seen T.is_for c limit lefts sures r answer }
-    ensures followed { (c : ConfigFields) (limit : Option ℕ) (is_sure : Bool) (now : Option Moment)
-        (said : StopRequest) (r : Report T) (answer : Result (Unit {0}) FollowFault)
-        → FollowedAdds T.tells T.seen T.is_for c limit is_sure now said r answer }
+pub fn a_send_adds_its_samples<T: Transport, S: Segments>()
+    ensures sent { (c : ConfigFields) (limit : Option ℕ) (lefts now : List (Option (List ℕ)))
+        (sures : List Bool) (quiet : Bool) (said : StopRequest) (r : Report T)
+        (answer : Result (Unit {0}) FollowFault) → SentAdds T.tells T.seen T.is_for c limit
+        (readers lefts now sures) quiet said r answer }
+    ensures followed { (c : ConfigFields) (limit : Option ℕ) (start : S.Start) (before after : S)
+        (quiet : Bool) (said : StopRequest) (r : Report T)
+        (answer : Result (Unit {0}) FollowFault) → SentAdds T.tells T.seen T.is_for c limit
+        (seen_of (S.gave after start) (S.had_all after start) (S.lacks after)
+        (S.may_fail before)) quiet said r answer }
 {
     a_stopped_shipper_adds_its_samples::<T>();
 }

@@ -13,7 +13,7 @@ pub use Rattle.rw_send.specs.FeedErrors
 pub use Rattle.rw_send.specs.Segments
 pub use Rattle.rw_send.specs.Steps
 pub use Rattle.rw_log_folder.specs.Folders
-pub use Rattle.rw_send.specs.Following
+pub use Rattle.rw_send.specs.Logs
 pub use Rattle.rw_log_folder.specs.Opening
 pub use Rattle.rw_send.specs.ReportText
 pub use Rattle.rw_send.specs.Sending

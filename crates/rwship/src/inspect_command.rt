@@ -7,7 +7,9 @@ use crate::program_end::{
 use rw_cli::LogDir;
 use rw_inspect::{Report, find_entries, inspect, json_of, table_of};
 use rw_log_commands::plan_log;
-use rw_log_folder::{FolderFault, Opened, SegmentFile, has_checkpoint, log_files, segment_files};
+use rw_log_folder::{
+    FolderFault, Gap, Opened, SegmentFile, has_checkpoint, log_files, segment_files,
+};
 use rw_log_read::{Damage, Named, SegmentList, SkippedRecords};
 use rw_metrics::SendCounters;
 use rw_send::FollowFault;
@@ -86,6 +88,37 @@ pub fn note_empty(rt: &HostRuntime, dir: LogDir<'_>, is_asked_for: bool) {
             "rwship: no segment in {path} (names of one to eight digits); is it the folder 'wal' of Prometheus?"
         );
     }
+}
+
+/// Says which segments of a folder are missing.
+fn print_missing(rt: &HostRuntime, dir: LogDir<'_>, gap: Gap) {
+    let path = dir.path;
+    let Gap { first, last } = gap;
+    let _ = if first < last {
+        eprintln!(rt; "rwship: segments {first} to {last} are missing in {path}")
+    } else {
+        eprintln!(rt; "rwship: segment {first} is missing in {path}")
+    };
+}
+
+/// Reports which segments are missing between two that are read, if that is asked for. Returns
+/// whether some are.
+pub fn note_gaps(
+    rt: &HostRuntime,
+    dir: LogDir<'_>,
+    files: &[Opened<SegmentFile<HostRuntime>>],
+    is_asked_for: bool,
+) -> bool {
+    let mut has_gap = false;
+    for at in 1..files.len() {
+        if let Some(gap) = files[at - 1].place().gap_before(files[at].place()) {
+            has_gap = true;
+            if is_asked_for {
+                print_missing(rt, dir, gap);
+            }
+        }
+    }
+    has_gap
 }
 
 /// Returns the files of the log in a folder, each with its name. That a folder has no segment is

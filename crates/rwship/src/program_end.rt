@@ -27,6 +27,9 @@ const SKIPPED: u8 = 1;
 /// The exit status for a folder without a segment, if that is a fault.
 const EMPTY: u8 = 1;
 
+/// The exit status for a number that is missing between two segments, if that is a fault.
+const GAP: u8 = 1;
+
 /// The exit status for positions that have no entry.
 const NOT_THERE: u8 = 1;
 
@@ -85,6 +88,13 @@ pub fn empty_status() -> ExitCode
     ensures { process.exit_status result ≡ 1 }
 {
     ExitCode::from(EMPTY)
+}
+
+/// Returns the exit status for a number that is missing between two segments, if that is a fault.
+pub fn gap_status() -> ExitCode
+    ensures { process.exit_status result ≡ 1 }
+{
+    ExitCode::from(GAP)
 }
 
 /// Reports how many positions have no entry.

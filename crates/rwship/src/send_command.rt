@@ -1,13 +1,13 @@
 //! The command `send`.
 
 use crate::inspect_command::{
-    fault_of_folder, files_of, log_fault, note_checkpoint, note_empty, passes_checkpoint_over,
-    report_run_fault,
+    fault_of_folder, files_of, log_fault, note_checkpoint, note_empty, note_gaps,
+    passes_checkpoint_over, report_run_fault,
 };
 use crate::live_report::{begin_reporting, end_reporting};
 use crate::program_end::{
-    empty_status, point_to_explain, print_device_error, report_dropped, report_misplaced,
-    report_result, report_settings_fault, report_skipped,
+    empty_status, gap_status, point_to_explain, print_device_error, report_dropped,
+    report_misplaced, report_result, report_settings_fault, report_skipped,
 };
 use crate::settings::settings_in;
 use crate::stop::{is_misplaced, stop_signal};
@@ -261,11 +261,19 @@ fn explain_missing(rt: &HostRuntime, sending: &Sending<'_>, counters: &SendCount
     note_skipped(rt, counters.skipped().lost());
 }
 
-/// How many samples and records a run did not ship.
+/// What is wrong with the segments of a folder before a run.
+#[derive(Clone, Copy)]
+struct Noted {
+    has_nothing: bool,
+    has_gap: bool,
+}
+
+/// What a run did not ship.
 #[derive(Clone, Copy)]
 struct Unshipped {
     dropped_samples: u64,
     skipped_records: u64,
+    has_gap: bool,
 }
 
 /// Reports that a receiver cannot be looked up and, if that is asked for, why. Returns the exit
@@ -294,23 +302,33 @@ fn report_unshipped(rt: &HostRuntime, sending: &Sending<'_>, unshipped: Unshippe
         report_dropped(rt, unshipped.dropped_samples)
     } else if unshipped.skipped_records > 0 && sending.fails_on_skip {
         report_skipped(rt, unshipped.skipped_records)
+    } else if unshipped.has_gap && sending.fails_on_gap {
+        gap_status()
     } else {
         ExitCode::SUCCESS
     }
 }
 
-/// Returns whether the folder has no segment.
-fn is_empty(log: &Log) -> bool {
-    match log {
-        Log::Whole(files) => files.is_empty(),
-        Log::Growing(..) => false,
+/// Reports that the folder has no segment, or lacks some between others, if somebody may read that.
+fn note(rt: &HostRuntime, sending: &Sending<'_>, log: &Log, is_explained: bool) -> Noted {
+    let is_asked_for = is_explained || sending.reporting.has_progress;
+    let files = match log {
+        Log::Whole(files) => files,
+        Log::Growing(..) => {
+            return Noted {
+                has_nothing: false,
+                has_gap: false,
+            };
+        }
+    };
+    if files.is_empty() {
+        note_empty(rt, sending.dir, is_asked_for || sending.fails_on_empty);
     }
-}
-
-/// Reports that the folder has no segment, if somebody may read that.
-fn note_nothing(rt: &HostRuntime, sending: &Sending<'_>, is_explained: bool) {
-    let is_asked_for = is_explained || sending.fails_on_empty || sending.reporting.has_progress;
-    note_empty(rt, sending.dir, is_asked_for);
+    let tells_gaps = is_asked_for || sending.fails_on_gap;
+    Noted {
+        has_nothing: files.is_empty(),
+        has_gap: note_gaps(rt, sending.dir, files, tells_gaps),
+    }
 }
 
 /// Looks the receiver up and prepares to ship. If that fails, it reports why, and returns the exit
@@ -341,7 +359,7 @@ fn finish(
     rt: &HostRuntime,
     sending: &Sending<'_>,
     counters: Arc<SendCounters, Global>,
-    has_nothing: bool,
+    noted: Noted,
     outcome: Result<(), FollowFault>,
     output: &mut Std<Stdout>,
     is_explained: bool,
@@ -349,13 +367,14 @@ fn finish(
     let unshipped = Unshipped {
         dropped_samples: counters.dropped(),
         skipped_records: counters.skipped().lost(),
+        has_gap: noted.has_gap,
     };
     if is_explained {
         explain_missing(rt, sending, &counters);
     }
     end_reporting(rt, &sending.reporting, &Counters::Send(counters));
     match outcome {
-        Ok(()) if has_nothing && sending.fails_on_empty => empty_status(),
+        Ok(()) if noted.has_nothing && sending.fails_on_empty => empty_status(),
         Ok(()) => report_unshipped(rt, sending, unshipped),
         Err(fault) => report_run_fault(rt, output, sending.dir, fault, is_explained),
     }
@@ -387,10 +406,7 @@ fn ship<R: Threads + Wait + Clock + Copy + Send + 'static>(
         stop,
         counters,
     } = shipment;
-    let has_nothing = is_empty(&log);
-    if has_nothing {
-        note_nothing(rt, sending, is_explained);
-    }
+    let noted = note(rt, sending, &log, is_explained);
     let options = SendOptions {
         connect,
         counters: &counters,
@@ -403,7 +419,7 @@ fn ship<R: Threads + Wait + Clock + Copy + Send + 'static>(
         rt,
         sending,
         counters,
-        has_nothing,
+        noted,
         outcome,
         &mut output,
         is_explained,

@@ -2,7 +2,7 @@
 //! space.
 
 use rw_follow::{Ahead, Segments};
-use rw_log_folder::{Folder, FolderFault, Opened, SegmentFile, log_files};
+use rw_log_folder::{Folder, FolderFault, Gap, Opened, SegmentFile, log_files, segment_files};
 use rw_metrics::SendCounters;
 use rw_types::read_to_end;
 use std::alloc::{AllocError, Global};
@@ -291,5 +291,47 @@ fn a_checkpoint_that_goes_before_it_is_opened_is_a_fault(rt: HostRuntime) -> Res
     let is_reported = is_fault(&rt, dir.as_str(), Some("checkpoint.00000003/00000000"));
     fs::remove_dir_all(&rt, dir.as_path())?;
     assert!(rt; is_so && is_reported);
+    Ok(())
+}
+
+/// Its segments, in order, are 2 twice, 3, 5 and 10.
+static GAPS: Row = Row {
+    name: "segments are missing between others",
+    folders: &[],
+    files: &["00000010", "2", "00000005", "00000002", "00000003"],
+    text: "",
+    missing: None,
+};
+
+/// The segments that are missing before the second file and each later one.
+static GAPS_BEFORE: [Option<Gap>; 4] = [
+    None,
+    None,
+    Some(Gap { first: 4, last: 4 }),
+    Some(Gap { first: 6, last: 9 }),
+];
+
+/// Returns whether the segments that are missing in a folder are those of `GAPS_BEFORE`.
+fn has_gaps(rt: &HostRuntime, dir: &str) -> bool {
+    let Ok(files) = segment_files(rt, dir, None) else {
+        return false;
+    };
+    if files.len() != 5 {
+        return false;
+    }
+    for at in 1..5 {
+        if files[at - 1].place().gap_before(files[at].place()) != GAPS_BEFORE[at - 1] {
+            return false;
+        }
+    }
+    true
+}
+
+#[test]
+fn missing_segments_are_named(rt: HostRuntime) -> Result<(), Fail> {
+    let dir = make_folder(&rt, "rwship-missing-segments", &GAPS)?;
+    let is_so = has_gaps(&rt, dir.as_str());
+    fs::remove_dir_all(&rt, dir.as_path())?;
+    assert!(rt; is_so);
     Ok(())
 }

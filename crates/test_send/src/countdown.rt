@@ -34,9 +34,13 @@ impl Countdown {
 }
 
 impl Watch for Countdown {
+    ghost use Rattle.std.specs.Prelude.{false};
+
     ghost said = { λ c. c.said };
 
     ghost due = { λ c. c.flushes };
+
+    ghost is_quiet = { λ _. false };
 
     ghost counts = { λ c. c.sleeps < 4_294_967_295 };
 
@@ -96,9 +100,13 @@ impl<K: Clock> Onlooker<'_, K> {
 }
 
 impl<K: Clock> Watch for Onlooker<'_, K> {
+    ghost use Rattle.std.specs.Prelude.{false};
+
     ghost said = { λ o. o.said };
 
     ghost due = { λ o. o.is_due };
+
+    ghost is_quiet = { λ _. false };
 
     ghost counts = { λ _. ⊥ };
 

@@ -100,6 +100,8 @@ impl<R: Files<File = File> + AllocGlobal> Watch for Writer<R> {
 
     ghost due = { λ _. false };
 
+    ghost is_quiet = { λ _. false };
+
     ghost counts = { λ _. ⊥ };
 
     ghost sleeps = { λ _. 0 };

@@ -1,8 +1,5 @@
 //! Logs that are shipped while they grow.
 
-ghost use Rattle.std.specs.Prelude.{IfOk};
-ghost use Rattle.rw_send.specs.Following.{IsUnread};
-
 use crate::countdown::{Countdown, Onlooker};
 use crate::counted::tells_as_printed;
 use crate::logs::{UP, segment};
@@ -89,9 +86,7 @@ fn put_events(
     Ok(())
 }
 
-fn log_of(alloc: Global, parts: &[Part<'_>]) -> Result<Listed, AllocError>
-    ensures { IfOk result (λ log. IsUnread log) }
-{
+fn log_of(alloc: Global, parts: &[Part<'_>]) -> Result<Listed, AllocError> {
     let mut events = VecDeque::new(alloc);
     put_events(alloc, &mut events, parts)?;
     Ok(Listed::new(alloc, events))

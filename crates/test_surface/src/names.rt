@@ -105,6 +105,7 @@ pub use rw_shard_queue::Whole;
 pub use rw_tool::Folder;
 pub use rw_tool::FolderFault;
 pub use rw_tool::FollowFault;
+pub use rw_tool::Gap;
 pub use rw_tool::Open as OpenSegment;
 pub use rw_tool::Opened;
 pub use rw_tool::ReceiveCounters;

@@ -38,7 +38,7 @@ pub fn of_folders<R: Files<File = File> + AllocGlobal + Copy>() {
         Folder::<R>::from_checkpoint,
         segment_files::<R>,
     );
-    let _ = SegmentFile::<R>::name;
+    let _ = (SegmentFile::<R>::name, SegmentFile::<R>::gap_before);
 }
 
 /// The calls of what the engines are given.

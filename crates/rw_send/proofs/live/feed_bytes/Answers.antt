@@ -1,36 +1,56 @@
-use Rattle.std.proofs.Common.{Ok, Err}
+use Rattle.std.proofs.Common.{◌≡◌, take, Result, Ok, Err, subst, rules}
 use Rattle.rw_wal_format.specs.Pieces.{bytes}
-use Rattle.rw_send.proofs.FollowLemmas.{err_so, fed_piece, feed_fails, part_piece}
-use Rattle.rw_send.proofs.PartLemmas.{joins_or_not}
-use Rattle.rw_send.proofs.IntactLemmas.{sound_fed}
+use Rattle.rw_follow.specs.declared.follower.Turn.TheVariants.{Piece}
+use Rattle.rw_send.specs.Steps.{StaysOpen}
+use Rattle.rw_send.specs.declared.feed_error.FeedError.{FeedError}
+use Rattle.rw_send.specs.declared.sharding.Sharding.{Sharding}
+use Rattle.rw_send.specs.inner.Turns.{Goes}
+use Rattle.rw_send.proofs.FeedErrorLemmas.{err_is}
+use Rattle.rw_send.proofs.MealLemmas.{begins_fed}
 use Rattle.rw_send.proofs.ShortLemmas.{short_fed}
-use Rattle.rw_send.specs.inner.Following.{FailsWith}
+use Rattle.rw_send.proofs.TurnLemmas.{piece_fails, piece_goes, piece_refused, same_fed, short_piece}
 use Rattle.rw_send.proofs.live.feed_bytes.Goals as goal
-use Rattle.rw_types.proofs.shared.AnswerLemmas.{OnErr-always}
 
-pub returns-in_err-feed-clause-part : goal.returns-in_err-feed-clause-part
-returns-in_err-feed-clause-part g c =
-    OnErr-always _ (part_piece _ _ _ (joins_or_not c.args.shipper.now.log c.feed.new.self.log (bytes c.args.piece.items) c.in_err-feed.field-0.0 (c.in_err-feed.ensures.pieces c.requires.live)))
+pub returns-in_err-piece : goal.returns-in_err-piece
+returns-in_err-piece g c =
+    subst (λ (r : Result Sharding FeedError). Goes (Piece c.args.count) c.args.buf.now c.args.sharding c.args.shipper.now c.args.shipper.now r) (err_is _ _ c.from_residual.ensures.1)
+    (piece_refused c.args.count c.args.buf.now c.args.sharding c.args.shipper.now c.requires.shards)
 
-pub returns-in_err-feed-clause-short : goal.returns-in_err-feed-clause-short
-returns-in_err-feed-clause-short g c =
-    short_fed c.args.shipper.now.log c.feed.new.self.log (bytes c.args.piece.items) (Err c.in_err-feed.field-0.0) (c.in_err-feed.ensures.pieces c.requires.live) c.requires.short
+pub returns-in_err-feed : goal.returns-in_err-feed
+returns-in_err-feed g c =
+    let fed = c.in_err-feed.ensures in
+    let items = c.in_ok-piece.piece.items in
+    let e = c.in_err-feed.field-0.0 in
+    let is : items ≡ take c.args.count c.args.buf.now = search rules in
+    let joins = fed.pieces c.requires.live in
+    let st : StaysOpen c.args.shipper.now c.feed.new.self = record {
+      choice = fed.choice;
+      pieces = begins_fed c.args.shipper.now.log c.feed.new.self.log (bytes items) (Err e) joins;
+      fleet = fed.rest;
+      shards = fed.len;
+      limit = fed.limit;
+      marks = fed.marks;
+    } in
+    let short = short_fed c.args.shipper.now.log c.feed.new.self.log (bytes items) (Err e) joins (short_piece c.args.count c.args.buf.now items is c.requires.within c.requires.short) in
+    subst (λ (r : Result Sharding FeedError). Goes (Piece c.args.count) c.args.buf.now c.args.sharding c.args.shipper.now c.feed.new.self r) (err_is _ _ c.from_residual-in_err-feed.ensures.1)
+    (piece_fails c.args.count c.args.buf.now items c.args.sharding c.args.shipper.now c.feed.new.self e is st
+    (same_fed c.args.sharding c.args.shipper.now c.feed.new.self (bytes items) (Err e) st c.requires.shards short joins c.requires.intact) joins (fed.fed c.requires.live))
 
-pub returns-clause-short : goal.returns-clause-short
-returns-clause-short g c = short_fed c.args.shipper.now.log c.feed.new.self.log (bytes c.args.piece.items) (Ok tt) (c.in_ok-feed.ensures.pieces c.requires.live) c.requires.short
-
-pub returns-in_err-feed-clause-but_last : goal.returns-in_err-feed-clause-but_last
-returns-in_err-feed-clause-but_last g c = λ _.
-    sound_fed c.args.shipper.now.log c.feed.new.self.log (bytes c.args.piece.items) (Err c.in_err-feed.field-0.0) (c.in_err-feed.ensures.pieces c.requires.live) c.requires.intact
-
-pub returns-clause-but_last : goal.returns-clause-but_last
-returns-clause-but_last g c = λ _. sound_fed c.args.shipper.now.log c.feed.new.self.log (bytes c.args.piece.items) (Ok tt) (c.in_ok-feed.ensures.pieces c.requires.live) c.requires.intact
-
-pub returns-clause-intact : goal.returns-clause-intact
-returns-clause-intact g c = (c.in_ok-feed.ensures.fed c.requires.live).0.fault_is
-
-pub returns-clause-fed : goal.returns-clause-fed
-returns-clause-fed g c = fed_piece _ _ _ (c.in_ok-feed.ensures.pieces c.requires.live)
-
-pub returns-in_err-feed-clause-fails : goal.returns-in_err-feed-clause-fails
-returns-in_err-feed-clause-fails g c = err_so (FailsWith c.feed.new.self) _ _ c.from_residual.ensures.1 (feed_fails c.feed.new.self _ (c.in_err-feed.ensures.fed c.requires.live))
+pub returns : goal.returns
+returns g c =
+    let fed = c.in_ok-feed.ensures in
+    let items = c.in_ok-piece.piece.items in
+    let is : items ≡ take c.args.count c.args.buf.now = search rules in
+    let joins = fed.pieces c.requires.live in
+    let st : StaysOpen c.args.shipper.now c.feed.new.self = record {
+      choice = fed.choice;
+      pieces = begins_fed c.args.shipper.now.log c.feed.new.self.log (bytes items) (Ok tt) joins;
+      fleet = fed.rest;
+      shards = fed.len;
+      limit = fed.limit;
+      marks = fed.marks;
+    } in
+    let feeds = fed.fed c.requires.live in
+    let short = short_fed c.args.shipper.now.log c.feed.new.self.log (bytes items) (Ok tt) joins (short_piece c.args.count c.args.buf.now items is c.requires.within c.requires.short) in
+    piece_goes c.args.count c.args.buf.now items c.args.sharding c.args.shipper.now c.feed.new.self is st
+    (same_fed c.args.sharding c.args.shipper.now c.feed.new.self (bytes items) (Ok tt) st c.requires.shards short joins c.requires.intact) joins feeds.1 feeds.0.fault_is

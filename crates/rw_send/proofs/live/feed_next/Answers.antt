@@ -1,57 +1,67 @@
-use Rattle.std.proofs.Common.{sym, ap, ◌∙◌}
-use Rattle.rw_sender.specs.Feeders.{Sorting}
-use Rattle.rw_send.proofs.FollowLemmas.{begin_fails, err_so, fed_next, part_next, set_fails}
-use Rattle.rw_send.specs.inner.Following.{FailsWith}
-use Rattle.rw_send.proofs.EpochLemmas.{last_compared, last_stays, next_resolved, still_resolved}
-use Rattle.rw_send.proofs.EpochSizeLemmas.{sizes_begun, sizes_set}
-use Rattle.rw_send.proofs.FeedErrorLemmas.{count_so, live_no_more}
+use Rattle.std.proofs.Common.{Result, Ok, Err, subst}
+use Rattle.rw_wal_format.specs.Pieces.{next_segment}
+use Rattle.rw_follow.specs.declared.follower.Turn.TheVariants.{Over}
+use Rattle.rw_send.specs.declared.feed_error.FeedError.{FeedError}
+use Rattle.rw_send.specs.declared.sharding.Sharding.{Sharding}
+use Rattle.rw_send.specs.inner.Turns.{Goes}
+use Rattle.rw_send.proofs.FeedErrorLemmas.{err_is, failed_is}
+use Rattle.rw_send.proofs.MealLemmas.{begins_fed}
+use Rattle.rw_send.proofs.TurnLemmas.{IsTurning, over_fails, over_goes, over_unset}
 use Rattle.rw_send.proofs.live.feed_next.Goals as goal
-use Rattle.rw_types.proofs.shared.AnswerLemmas.{OnErr-always}
 
-pub returns-in_err-begin_segment-clause-part : goal.returns-in_err-begin_segment-clause-part
-returns-in_err-begin_segment-clause-part g c = OnErr-always _ (part_next _ _ _ (ap (λ (l : Sorting). l.pieces) c.in_ok-next.ensures.log) c.in_err-begin_segment.ensures.part)
+pub returns-in_err-next : goal.returns-in_err-next
+returns-in_err-next g c = λ buf.
+    let set = c.in_err-next.ensures in
+    subst (λ (r : Result Sharding FeedError). Goes Over buf c.args.sharding c.args.shipper.now c.resharded.new.shipper r) (failed_is _ _ c.from_residual.ensures.1 set.err)
+    (over_unset buf c.args.sharding c.args.shipper.now c.resharded.new.shipper (set.put c.requires.live) set.log set.limit set.compared set.config set.failed c.requires.shards)
 
-pub returns-clause-fed : goal.returns-clause-fed
-returns-clause-fed g c = fed_next _ _ _ (ap (λ (l : Sorting). l.pieces) c.in_ok-next.ensures.log) c.in_ok-begin_segment.ensures.begun
+pub returns-in_err-feed : goal.returns-in_err-feed
+returns-in_err-feed g c = λ buf.
+    let set = c.in_ok-next.ensures in
+    let fed = c.in_err-feed.ensures in
+    let live = set.sound c.requires.live in
+    let e = c.in_err-feed.field-0.0 in
+    let turning : IsTurning c.args.sharding c.in_ok-next.next c.args.shipper.now c.resharded.new.shipper c.feed.new.self (Err e) = record {
+      put = set.put c.requires.live;
+      set = set.set;
+      shards = set.shards;
+      range = set.range;
+      config = set.config;
+      stays = record {
+        choice = fed.choice;
+        pieces = begins_fed c.resharded.new.shipper.log c.feed.new.self.log next_segment (Err e) (fed.pieces live);
+        fleet = fed.rest;
+        shards = fed.len;
+        limit = fed.limit;
+        marks = fed.marks;
+      };
+      joins = fed.pieces live;
+      intact = c.requires.intact;
+    } in
+    subst (λ (r : Result Sharding FeedError). Goes Over buf c.args.sharding c.args.shipper.now c.feed.new.self r) (err_is _ _ c.from_residual-in_err-feed.ensures.1)
+    (over_fails buf c.args.sharding c.in_ok-next.next c.args.shipper.now c.resharded.new.shipper c.feed.new.self e turning (fed.fed live))
 
-pub returns-in_err-next-clause-number : goal.returns-in_err-next-clause-number
-returns-in_err-next-clause-number g c = λ none. live_no_more _ c.in_err-next.ensures.failed none
-
-pub returns-in_err-begin_segment-clause-number : goal.returns-in_err-begin_segment-clause-number
-returns-in_err-begin_segment-clause-number g c = λ _. count_so (c.in_err-begin_segment.ensures.stays.shards ∙ sym c.in_ok-next.ensures.shards) c.in_ok-next.next.some c.in_ok-next.next.few
-
-pub returns-clause-number : goal.returns-clause-number
-returns-clause-number g c = λ _. count_so (c.in_ok-begin_segment.ensures.stays.shards ∙ sym c.in_ok-next.ensures.shards) c.in_ok-next.next.some c.in_ok-next.next.few
-
-pub returns-in_err-next-clause-fails : goal.returns-in_err-next-clause-fails
-returns-in_err-next-clause-fails g c = err_so (FailsWith c.resharded.new.shipper) _ _ c.from_residual.ensures.1 (set_fails c.resharded.new.shipper _ c.in_err-next.ensures.err c.in_err-next.ensures.failed)
-
-pub returns-in_err-begin_segment-clause-fails : goal.returns-in_err-begin_segment-clause-fails
-returns-in_err-begin_segment-clause-fails g c =
-    err_so (FailsWith c.begin_segment.new.shipper) _ _ c.from_residual-in_err-begin_segment.ensures.1 (begin_fails c.begin_segment.new.shipper _ c.in_err-begin_segment.ensures.halted c.in_err-begin_segment.ensures.refused c.in_err-begin_segment.ensures.unread)
-
-pub returns-in_err-next-clause-last : goal.returns-in_err-next-clause-last
-returns-in_err-next-clause-last g c = λ done.
-    last_compared c.args.shipper.now c.resharded.new.shipper done (count_so c.requires.shards c.args.sharding.some c.args.sharding.few) (c.in_err-next.ensures.put c.requires.live).1 c.in_err-next.ensures.log c.in_err-next.ensures.compared
-
-pub returns-in_err-begin_segment-clause-last : goal.returns-in_err-begin_segment-clause-last
-returns-in_err-begin_segment-clause-last g c = λ done.
-    last_stays _ _ c.in_err-begin_segment.ensures.stays (next_resolved _ _ c.in_ok-next.ensures.set.epoch done) (count_so (sym c.in_ok-next.ensures.shards) c.in_ok-next.next.some c.in_ok-next.next.few)
-
-pub returns-clause-last : goal.returns-clause-last
-returns-clause-last g c = λ done.
-    last_stays _ _ c.in_ok-begin_segment.ensures.stays (next_resolved _ _ c.in_ok-next.ensures.set.epoch done) (count_so (sym c.in_ok-next.ensures.shards) c.in_ok-next.next.some c.in_ok-next.next.few)
-
-pub returns-clause-resolved : goal.returns-clause-resolved
-returns-clause-resolved g c = λ done. still_resolved _ _ c.in_ok-begin_segment.ensures.stays (next_resolved _ _ c.in_ok-next.ensures.set.epoch done)
-
-pub returns-in_err-next-clause-sizes : goal.returns-in_err-next-clause-sizes
-returns-in_err-next-clause-sizes g c = λ none. live_no_more _ c.in_err-next.ensures.failed none
-
-pub returns-in_err-begin_segment-clause-sizes : goal.returns-in_err-begin_segment-clause-sizes
-returns-in_err-begin_segment-clause-sizes g c = λ _.
-    sizes_begun _ _ c.args.shipper.now c.resharded.new.shipper c.begin_segment.new.shipper (sizes_set _ _ c.args.shipper.now c.resharded.new.shipper c.args.sharding.range.1 (c.in_ok-next.ensures.put c.requires.live).1 c.in_ok-next.ensures.set) c.in_err-begin_segment.ensures.stays
-
-pub returns-clause-sizes : goal.returns-clause-sizes
-returns-clause-sizes g c = λ _.
-    sizes_begun _ _ c.args.shipper.now c.resharded.new.shipper c.begin_segment.new.shipper (sizes_set _ _ c.args.shipper.now c.resharded.new.shipper c.args.sharding.range.1 (c.in_ok-next.ensures.put c.requires.live).1 c.in_ok-next.ensures.set) c.in_ok-begin_segment.ensures.stays
+pub returns : goal.returns
+returns g c = λ buf.
+    let set = c.in_ok-next.ensures in
+    let fed = c.in_ok-feed.ensures in
+    let live = set.sound c.requires.live in
+    let feeds = fed.fed live in
+    let turning : IsTurning c.args.sharding c.in_ok-next.next c.args.shipper.now c.resharded.new.shipper c.feed.new.self (Ok tt) = record {
+      put = set.put c.requires.live;
+      set = set.set;
+      shards = set.shards;
+      range = set.range;
+      config = set.config;
+      stays = record {
+        choice = fed.choice;
+        pieces = begins_fed c.resharded.new.shipper.log c.feed.new.self.log next_segment (Ok tt) (fed.pieces live);
+        fleet = fed.rest;
+        shards = fed.len;
+        limit = fed.limit;
+        marks = fed.marks;
+      };
+      joins = fed.pieces live;
+      intact = c.requires.intact;
+    } in
+    over_goes buf c.args.sharding c.in_ok-next.next c.args.shipper.now c.resharded.new.shipper c.feed.new.self turning set.start feeds.1 feeds.0.fault_is

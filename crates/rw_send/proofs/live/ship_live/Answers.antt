@@ -1,10 +1,18 @@
-use Rattle.std.proofs.Common.{◌≡◌, true, Ok, Err, refl, ap, ◌∙◌, rules}
-use Rattle.rw_send.specs.inner.Following.{IsCut}
-use Rattle.rw_send.proofs.FollowLemmas.{begins_turn, cut_broken, cut_halted, err_so, halts_for, on_err}
+use Rattle.std.proofs.Common.{List, length, Ok, Err, inl, refl, sym, ap, ◌∙◌, subst, rules}
+use Rattle.rw_wal_format.specs.Pieces.{Piece}
+use Rattle.rw_follow.specs.Meals.{Meal}
+use Rattle.rw_follow.specs.Turns.{given_by}
+use Rattle.rw_send.specs.Logs.{seen_of}
+use Rattle.rw_send.specs.Segments.{meal_of}
+use Rattle.rw_send.specs.Steps.{HasLapped}
+use Rattle.rw_send.specs.inner.Turns.{IsDone, IsUndone}
 use Rattle.rw_send.proofs.EpochLemmas.{last_same}
 use Rattle.rw_send.proofs.EpochSizeLemmas.{sizes_on}
-use Rattle.rw_send.proofs.FeedErrorLemmas.{count_so}
+use Rattle.rw_send.proofs.FeedErrorLemmas.{count_so, err_so, on_err}
 use Rattle.rw_send.proofs.IntactLemmas.{intact_at_first, sound_at_first}
+use Rattle.rw_send.proofs.LapLemmas.{come_to, idle_halted, idle_on, lapped}
+use Rattle.rw_send.proofs.LoopLemmas.{almost, cut_broken, cut_halted, damage_broken, damage_halted}
+use Rattle.rw_send.proofs.StepLemmas.{between, stays}
 use Rattle.rw_send.proofs.live.ship_live.Goals as goal
 
 pub loop-init : goal.loop-init
@@ -18,36 +26,118 @@ loop-init g c = record {
   shards = search rules;
   range = (refl, refl);
   sizes = λ _ h. h;
-  given = search rules;
+  laps = λ _. subst (λ (ps : List Piece). HasLapped c.args.sharding.fewest c.args.sharding.most (length (meal_of ps).whole) c.args.shipper.now c.args.shipper.now) (sym c.requires.begun) (stays c.args.shipper.now);
+  idle = λ _ _. refl;
+  quiet = λ q. q;
+  given = λ start h. subst (λ (ps : List Piece). g.S.Segments.gave c.args.segments.now start (meal_of ps)) (sym c.requires.begun) h;
   followed = search rules;
-  sure = search rules;
+  fails = λ f h. h;
   resolved = search rules;
   room = search rules;
   small = search rules;
 }
 
+pub loop-preserved : goal.loop-preserved
+loop-preserved g c =
+    let was = c.loop.invariant in
+    let turn = c.in_ok-turn.ensures in
+    let step = c.in_ok-sharding.ensures in
+    let keeps = step.reshards.keeps in
+    record {
+      kept = (keeps.kept.0 ∙ was.kept.0, keeps.kept.1 ∙ was.kept.1);
+      limit = keeps.limit keeps.live ∙ was.limit;
+      short = keeps.short was.short;
+      but_last = keeps.but_last was.but_last;
+      intact = keeps.intact;
+      live = keeps.live;
+      shards = keeps.shards;
+      range = (keeps.range.0 ∙ was.range.0, keeps.range.1 ∙ was.range.1);
+      sizes = sizes_on c.args.sharding.fewest c.args.sharding.most c.loop.sharding.fewest c.loop.sharding.most c.args.shipper.now.fleet c.loop.shipper.fleet c.step.new.shipper.fleet was.range was.sizes (keeps.sizes keeps.live);
+      laps = λ q.
+          let hushed = turn.hushed (was.quiet q) in
+          let due = c.is_reshard_due-is_due.ensures.quiet hushed in
+          let goes = step.goes due.1 in
+          lapped c.args.sharding.fewest c.args.sharding.most c.in_ok-turn.turn c.turn.new.buf c.args.shipper.now c.loop.shipper c.step.new.shipper (was.laps q)
+          (between (λ fewest most. IsDone fewest most c.in_ok-turn.turn c.loop.shipper c.step.new.shipper) was.range.0 was.range.1 goes.done)
+          (λ e. turn.unasked (was.quiet q) (ap Ok e)) goes.fed;
+      idle = λ q.
+          let hushed = turn.hushed (was.quiet q) in
+          let due = c.is_reshard_due-is_due.ensures.quiet hushed in
+          let goes = step.goes due.1 in
+          idle_on c.loop.sharding.fewest c.loop.sharding.most c.in_ok-turn.turn c.turn.new.buf c.args.shipper.now c.loop.shipper c.step.new.shipper (was.idle q) goes.done
+          (λ e. turn.unasked (was.quiet q) (ap Ok e)) turn.piece (λ n e. turn.some n (ap Ok e)) goes.fed;
+      quiet = λ q. (c.is_reshard_due-is_due.ensures.quiet (turn.hushed (was.quiet q))).0;
+      given = λ start h. subst (λ (m : Meal). g.S.Segments.gave c.turn.new.segments start m) (sym step.reshards.fed) (turn.given start (meal_of c.loop.shipper.log.pieces) (was.given start h));
+      followed = turn.followed;
+      fails = λ f h. was.fails f (turn.later f h);
+      resolved = λ done. keeps.resolved (was.resolved done);
+      room = search rules;
+      small = search rules;
+    }
+
 pub returns-in_err-sharding : goal.returns-in_err-sharding
 returns-in_err-sharding g c =
+    let was = c.loop.invariant in
+    let turn = c.in_ok-turn.ensures in
+    let step = c.in_err-sharding.ensures in
+    let keeps = step.reshards.keeps in
     let is_err = c.from_residual-in_err-sharding.ensures.1 in
     record {
-      kept = (c.step.ensures.kept.0 ∙ c.loop.invariant.kept.0, c.step.ensures.kept.1 ∙ c.loop.invariant.kept.1);
-      limit = λ sound. c.step.ensures.limit sound ∙ c.loop.invariant.limit;
-      number = c.step.ensures.number;
-      sizes = λ sound. sizes_on c.args.sharding.fewest c.args.sharding.most c.loop.sharding.fewest c.loop.sharding.most c.args.shipper.now.fleet c.loop.shipper.fleet c.step.new.shipper.fleet c.loop.invariant.range c.loop.invariant.sizes (c.step.ensures.sizes sound);
-      last = λ done. c.step.ensures.last (c.loop.invariant.resolved done);
-      short = c.step.ensures.short c.loop.invariant.short;
-      but_last = c.step.ensures.but_last c.loop.invariant.but_last;
+      kept = (keeps.kept.0 ∙ was.kept.0, keeps.kept.1 ∙ was.kept.1);
+      limit = λ sound. keeps.limit sound ∙ was.limit;
+      number = keeps.number;
+      sizes = λ sound. sizes_on c.args.sharding.fewest c.args.sharding.most c.loop.sharding.fewest c.loop.sharding.most c.args.shipper.now.fleet c.loop.shipper.fleet c.step.new.shipper.fleet was.range was.sizes (keeps.sizes sound);
+      laps = λ q start h.
+          let hushed = turn.hushed (was.quiet q) in
+          let due = c.is_reshard_due-is_due.ensures.quiet hushed in
+          let goes = step.goes due.1 in
+          come_to c.args.sharding.fewest c.args.sharding.most c.in_ok-turn.turn c.turn.new.buf (g.S.Segments.gave c.turn.new.segments start) c.args.shipper.now c.loop.shipper c.step.new.shipper (was.laps q)
+          (between (λ fewest most. IsUndone fewest most c.in_ok-turn.turn c.loop.shipper c.step.new.shipper) was.range.0 was.range.1 goes.halted)
+          (λ e. turn.unasked (was.quiet q) (ap Ok e)) goes.part (turn.given start (meal_of c.loop.shipper.log.pieces) (was.given start h));
+      lapped = on_err _ _ _ is_err;
+      idle = λ q start h none.
+          let hushed = turn.hushed (was.quiet q) in
+          let due = c.is_reshard_due-is_due.ensures.quiet hushed in
+          let goes = step.goes due.1 in
+          idle_halted c.loop.sharding.fewest c.loop.sharding.most c.in_ok-turn.turn c.turn.new.buf c.args.shipper.now c.loop.shipper c.step.new.shipper goes.halted
+          (λ e. turn.unasked (was.quiet q) (ap Ok e)) turn.piece (λ n e. turn.some n (ap Ok e)) (none (given_by c.in_ok-turn.turn c.turn.new.buf (meal_of c.loop.shipper.log.pieces)) (turn.given start (meal_of c.loop.shipper.log.pieces) (was.given start h)));
+      last = λ done. keeps.last (was.resolved done);
+      short = keeps.short was.short;
+      but_last = keeps.but_last was.but_last;
       live = on_err _ _ _ is_err;
-      begins = begins_turn _ _ c.in_ok-turn.turn c.turn.new.buf _ _ c.in_ok-turn.ensures.given c.loop.invariant.given c.in_err-sharding.ensures.part;
+      begins = λ start h. almost (g.S.Segments.gave c.turn.new.segments start) c.in_ok-turn.turn c.turn.new.buf (meal_of c.loop.shipper.log.pieces) (meal_of c.step.new.shipper.log.pieces)
+          (turn.given start (meal_of c.loop.shipper.log.pieces) (was.given start h)) step.reshards.part;
       whole = on_err _ _ _ is_err;
       signed = on_err _ _ _ is_err;
-      cut = err_so (IsCut c.step.new.shipper (g.S.Segments.now c.turn.new.segments) _ (g.S.Segments.is_sure c.args.segments.now ≡ true → ⊥)) _ _ is_err
-          (cut_halted c.step.new.shipper _ _ _ _ c.in_err-sharding.ensures.halted (halts_for c.loop.shipper c.step.new.shipper _ _ _ _ _ c.in_err-sharding.ensures.halts c.in_ok-turn.ensures.given c.loop.invariant.given c.in_ok-turn.ensures.piece (λ n e. c.in_ok-turn.ensures.some n (ap Ok e))));
+      damaged = err_so _ _ _ is_err (damage_halted c.in_ok-turn.turn c.loop.shipper c.step.new.shipper _ step.reshards.halts);
+      cut = err_so _ _ _ is_err (λ start h.
+          cut_halted c.loop.shipper c.step.new.shipper
+          (seen_of (g.S.Segments.gave c.turn.new.segments start) (g.S.Segments.had_all c.turn.new.segments start) (g.S.Segments.lacks c.turn.new.segments) (g.S.Segments.may_fail c.args.segments.now))
+          _ c.in_ok-turn.turn c.turn.new.buf _ step.reshards.halts (turn.given start (meal_of c.loop.shipper.log.pieces) (was.given start h)) turn.piece (λ n e. turn.some n (ap Ok e)));
     }
 
 pub returns-in_err-turn-clause-cut : goal.returns-in_err-turn-clause-cut
 returns-in_err-turn-clause-cut g c =
-    cut_broken c.loop.shipper _ _ _ _ _ c.from_residual.ensures.1 (λ n e. c.in_err-turn.ensures.missing n (ap Err e)) (λ f e sure. (c.in_err-turn.ensures.sure (c.loop.invariant.sure sure)).1 f (ap Err e))
+    let turn = c.in_err-turn.ensures in
+    err_so _ _ _ c.from_residual.ensures.1 (λ start h.
+    cut_broken c.loop.shipper
+    (seen_of (g.S.Segments.gave c.turn.new.segments start) (g.S.Segments.had_all c.turn.new.segments start) (g.S.Segments.lacks c.turn.new.segments) (g.S.Segments.may_fail c.args.segments.now))
+    _ _ (λ n e. turn.missing n (ap Err e)) (λ f e. c.loop.invariant.fails f (turn.fails f (ap Err e))))
+
+pub returns-in_err-turn-clause-damaged : goal.returns-in_err-turn-clause-damaged
+returns-in_err-turn-clause-damaged g c = err_so _ _ _ c.from_residual.ensures.1 (damage_broken c.loop.shipper _)
+
+pub returns-in_err-turn-clause-begins : goal.returns-in_err-turn-clause-begins
+returns-in_err-turn-clause-begins g c = λ start h. inl (c.in_err-turn.ensures.given start _ (c.loop.invariant.given start h))
+
+pub returns-in_err-turn-clause-lapped : goal.returns-in_err-turn-clause-lapped
+returns-in_err-turn-clause-lapped g c = on_err _ _ _ c.from_residual.ensures.1
+
+pub returns-in_err-turn-clause-laps : goal.returns-in_err-turn-clause-laps
+returns-in_err-turn-clause-laps g c = λ q start h. inl (c.loop.invariant.laps q)
+
+pub returns-in_err-turn-clause-idle : goal.returns-in_err-turn-clause-idle
+returns-in_err-turn-clause-idle g c = λ q start h none. c.loop.invariant.idle q (none (meal_of c.loop.shipper.log.pieces) (c.in_err-turn.ensures.given start _ (c.loop.invariant.given start h)))
 
 pub returns-in_err-turn-clause-last : goal.returns-in_err-turn-clause-last
 returns-in_err-turn-clause-last g c = λ done. last_same c.loop.shipper (c.loop.invariant.resolved done) (count_so c.loop.invariant.shards c.loop.sharding.some c.loop.sharding.few)

@@ -1,11 +1,10 @@
-use Rattle.std.proofs.Common.{◌≡◌, ◌<◌, ◌≤◌, length, true, None}
-use Rattle.rw_follow.specs.Growth.{HasNextSegment, IsGivenAt, Known}
+use Rattle.std.proofs.Common.{◌≡◌, ◌<◌, ◌≤◌, [], length, true, None}
 use Rattle.rw_fleet.specs.Work.{AreResolved}
-use Rattle.rw_send.specs.Following.{meal_of}
-use Rattle.rw_send.specs.Segments.{AreShortPieces, AreSoundButLast}
+use Rattle.rw_types.specs.declared.transfer.ReadFault.{ReadFault}
+use Rattle.rw_send.specs.Segments.{AreShortPieces, AreSoundButLast, meal_of, no_meal}
+use Rattle.rw_send.specs.Steps.{HasLapped, KeepsSetup}
 use Rattle.rw_send.specs.inner.EpochSizes.{KeepsEpochSizes}
 use Rattle.rw_send.specs.inner.FeedErrors.{IsIntact}
-use Rattle.rw_send.specs.Steps.{KeepsSetup}
 use Rattle.rw_send.proofs.live.ship_live.Given as goal
 
 abbrev pub invariant-loop : goal.invariant-loop
@@ -19,9 +18,12 @@ invariant-loop g l = record {
   shards : length l.shipper.fleet.current ≡ l.sharding.shards;
   range : (l.sharding.fewest ≡ l.fn.sharding.fewest) × (l.sharding.most ≡ l.fn.sharding.most);
   sizes : KeepsEpochSizes l.fn.sharding.fewest l.fn.sharding.most l.fn.shipper.fleet l.shipper.fleet;
-  given : Known (g.S.Segments.now l.segments) (λ m. IsGivenAt (meal_of l.shipper.log.pieces) m);
-  followed : l.follower ≡ true → Known (g.S.Segments.now l.segments) HasNextSegment;
-  sure : g.S.Segments.is_sure l.fn.segments ≡ true → g.S.Segments.is_sure l.segments ≡ true;
+  laps : g.W.Watch.is_quiet l.fn.watch ≡ true → HasLapped l.fn.sharding.fewest l.fn.sharding.most (length (meal_of l.shipper.log.pieces).whole) l.fn.shipper l.shipper;
+  idle : g.W.Watch.is_quiet l.fn.watch ≡ true → meal_of l.shipper.log.pieces ≡ no_meal → l.shipper ≡ l.fn.shipper;
+  quiet : g.W.Watch.is_quiet l.fn.watch ≡ true → g.W.Watch.is_quiet l.watch ≡ true;
+  given : (start : g.S.Segments.Start) → g.S.Segments.gave l.fn.segments start (meal_of []) → g.S.Segments.gave l.segments start (meal_of l.shipper.log.pieces);
+  followed : l.follower ≡ true → g.S.Segments.is_followed l.segments;
+  fails : (f : ReadFault) → g.S.Segments.may_fail l.segments f → g.S.Segments.may_fail l.fn.segments f;
   resolved : AreResolved l.fn.shipper.fleet.ended → AreResolved l.shipper.fleet.ended;
   room : 0 < length l.buf;
   small : length l.buf ≤ 65536;

@@ -1,28 +1,24 @@
-use Rattle.std.proofs.Common.{Err, inl, inr}
-use Rattle.rw_text.specs.declared.tool_fault.ToolFault.TheVariants.{OutOfMemory, Log, Device}
-use Rattle.rw_send.proofs.PrintLemmas.{if_ok, no_log, printed, printed_part, printed_so, printed_whole, same_fault}
+use Rattle.std.proofs.Common.{◌≡◌, map, Ok}
+use Rattle.std.specs.Prelude.{⊤}
+use Rattle.rw_send.specs.declared.follow_fault.FollowFault.TheVariants.{Tool}
+use Rattle.rw_send.proofs.AnswerLemmas.{failed}
+use Rattle.rw_send.proofs.PrintLemmas.{prints_so, sure_so}
 use Rattle.rw_send.proofs.send.run_send.Goals as goal
 
-pub returns-in_err-print_report-clause-device : goal.returns-in_err-print_report-clause-device
-returns-in_err-print_report-clause-device g c = λ e.
-    let d = c.in_err-print_report.ensures.device (same_fault _ _ _ c.from_residual-in_err-print_report.ensures.1 e) in
-    inr (d.0, printed_part c.in_ok-report.ensures d.1)
+pub returns-in-Ok-clause-prints : goal.returns-in-Ok-clause-prints
+returns-in-Ok-clause-prints g c = (
+  map g.S.Source.remaining c.run_follow.new.segments,
+  sure_so _ _ _ _ _ _ _ _ _ ⊤ ⊤ (map g.S.Source.remaining c.args.segments.items) (map g.S.Source.remaining c.run_follow.new.segments) g.S.Source.is_sure c.new-log.result c.args.segments.items (Ok tt)
+      c.new-log.ensures.readers (c.in-Ok.ensures.prints (map g.S.Source.remaining c.args.segments.items) c.new-log.ensures.unread),
+)
 
-pub returns-clause-complete : goal.returns-clause-complete
-returns-clause-complete g c = printed_whole _ (printed _ _ c.in_ok-report.ensures c.in_ok-print_report.ensures.ok)
-
-pub returns-clause-damaged : goal.returns-clause-damaged
-returns-clause-damaged g c = λ f e. printed_so (Err (Log f)) e (printed _ _ c.in_ok-report.ensures c.in_ok-print_report.ensures.ok)
-
-pub returns-clause-memory : goal.returns-clause-memory
-returns-clause-memory g c = λ e. inr (printed_so (Err OutOfMemory) e (printed _ _ c.in_ok-report.ensures c.in_ok-print_report.ensures.ok))
-
-pub returns-clause-device : goal.returns-clause-device
-returns-clause-device g c = λ e. inl (printed_so (Err Device) e (printed _ _ c.in_ok-report.ensures c.in_ok-print_report.ensures.ok))
-
-pub returns-in_err-print_report-clause-damaged : goal.returns-in_err-print_report-clause-damaged
-returns-in_err-print_report-clause-damaged g c = λ f e.
-    absurd (no_log _ f c.in_err-print_report.ensures.faults (same_fault _ _ _ c.from_residual-in_err-print_report.ensures.1 e))
-
-pub returns-clause-sound : goal.returns-clause-sound
-returns-clause-sound g c = if_ok _ c.in_ok-print_report.ensures.sound
+pub returns-in-Err-Tool-clause-prints : goal.returns-in-Err-Tool-clause-prints
+returns-in-Err-Tool-clause-prints g c =
+    let a = c.in-Err-Tool.field-0-is in
+    let b = c.in-Err-Tool.fault-is in
+    let e : failed c.in-Err-Tool.field-0 ≡ failed (Tool c.in-Err-Tool.fault) = cc in (
+      map g.S.Source.remaining c.run_follow.new.segments,
+      prints_so _ _ _ _ _ _ _ _ _ _ _ _ (failed c.in-Err-Tool.field-0) (failed (Tool c.in-Err-Tool.fault)) e
+          (sure_so _ _ _ _ _ _ _ _ _ _ _ (map g.S.Source.remaining c.args.segments.items) (map g.S.Source.remaining c.run_follow.new.segments) g.S.Source.is_sure c.new-log.result c.args.segments.items (failed c.in-Err-Tool.field-0)
+          c.new-log.ensures.readers (c.in-Err-Tool.ensures.prints (map g.S.Source.remaining c.args.segments.items) c.new-log.ensures.unread)),
+    )

@@ -1,14 +1,13 @@
-use Rattle.std.proofs.Common.{◌≡◌, true}
-use Rattle.rw_send.specs.Segments.{AreSure, HasMoreBytes}
+use Rattle.rw_send.specs.Logs.{readers, seen_of}
+use Rattle.rw_send.specs.Segments.{meal_of}
 use Rattle.rw_send.specs.Sending.{StopsAtOnce}
-use Rattle.rw_send.specs.Following.{FollowStopsAtOnce, meal_of}
 use Rattle.rw_sent_held.proofs.RestartLemmas.{is_run}
 use Rattle.rw_sent_held.proofs.laws.a_send_is_such_a_sender.Goals as goal
 
 pub returns-clause-sent : goal.returns-clause-sent
-returns-clause-sent g c config limit lefts sures r answer sent =
-    is_run g.T.Transport.tells g.T.Transport.seen g.T.Transport.is_for config limit (StopsAtOnce (HasMoreBytes lefts sent.pieces) (AreSure sures → ⊥) answer) sent.pieces r sent.report c.a_stopped_shipper_is_such_a_sender.ensures.abandoned c.many_runs_hold_one_log.ensures
+returns-clause-sent g c config limit lefts now sures quiet said r answer sent =
+    is_run g.T.Transport.tells g.T.Transport.seen g.T.Transport.is_for config limit (StopsAtOnce (readers lefts now sures) said (meal_of sent.pieces) answer) sent.pieces r sent.report c.a_stopped_shipper_is_such_a_sender.ensures.abandoned c.many_runs_hold_one_log.ensures
 
 pub returns-clause-followed : goal.returns-clause-followed
-returns-clause-followed g c config limit is_sure now said r answer sent =
-    is_run g.T.Transport.tells g.T.Transport.seen g.T.Transport.is_for config limit (FollowStopsAtOnce now said (is_sure ≡ true → ⊥) (meal_of sent.pieces) answer) sent.pieces r sent.report c.a_stopped_shipper_is_such_a_sender.ensures.abandoned c.many_runs_hold_one_log.ensures
+returns-clause-followed g c config limit start before after quiet said r answer sent =
+    is_run g.T.Transport.tells g.T.Transport.seen g.T.Transport.is_for config limit (StopsAtOnce (seen_of (g.S.Segments.gave after start) (g.S.Segments.had_all after start) (g.S.Segments.lacks after) (g.S.Segments.may_fail before)) said (meal_of sent.pieces) answer) sent.pieces r sent.report c.a_stopped_shipper_is_such_a_sender.ensures.abandoned c.many_runs_hold_one_log.ensures

@@ -1,9 +1,8 @@
 use Rattle.std.proofs.Common.{◌≡◌, ◌<◌, length, true}
-use Rattle.rw_follow.specs.Growth.{HasNextSegment, Known}
 use Rattle.test_send.proofs.kept.follow_into.Given as goal
 
 abbrev pub invariant-loop : goal.invariant-loop
 invariant-loop g l = record {
   room : 0 < length l.buf;
-  followed : l.follower ≡ true → Known (g.S.Segments.now l.segments) HasNextSegment;
+  followed : l.follower ≡ true → g.S.Segments.is_followed l.segments;
 }
