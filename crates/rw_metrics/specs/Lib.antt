@@ -1,4 +1,6 @@
+pub mod Rows
 pub mod Exposition
+pub mod SendCounts
 pub mod SendPage
 pub mod ReceivePage
 pub mod Html

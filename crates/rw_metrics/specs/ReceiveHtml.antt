@@ -1,51 +1,35 @@
--- The page of a receiver for people.
-use Rattle.std.specs.Prelude.{ℕ, List, [], ◌++◌, ◌/◌, ◌==◌, if◌then◌else◌, Option, None, Some, codes}
-use Rattle.rw_metrics.specs.Html.{page_start, page_end, table_start, table_end, row, status_rows}
+-- The page of a receiver for people: the tables of the code, with their numbers.
+use Rattle.std.specs.Prelude.{ℕ, List, [], ◌∷◌, ◌++◌, ◌/◌, Option, None, Some, codes}
+use Rattle.rw_metrics.specs.Html.{page_start, page_end, table_text}
+use Rattle.rw_metrics.specs.Rows.{table}
 use Rattle.rw_metrics.specs.declared.receive_numbers.KeptNumbers.{KeptNumbers}
 use Rattle.rw_metrics.specs.declared.receive_numbers.ReceiveNumbers.{ReceiveNumbers}
-
--- a limit, if there is one
-unfoldable pub limit_row : (label : List ℕ) → ℕ → List ℕ
-limit_row label n = if n == 0 then [] else row label n
+use Rattle.rw_metrics.specs.declared.receiver_html.TheConstants.{HELD, CONNECTIONS, ANSWERS, LOG}
+use Rattle.rw_metrics.specs.declared.rows.Shown.TheVariants as shown
 
 -- what is held, and how much may be
 abbrev pub held_table : ReceiveNumbers → List ℕ
 held_table n =
-    table_start (codes "Held")
-    ++ row (codes "Samples") n.samples
-    ++ row (codes "Series") n.label_sets
-    ++ limit_row (codes "Limit of samples") n.max_samples
-    ++ limit_row (codes "Limit of series") n.max_label_sets
-    ++ table_end
+    table_text (table HELD)
+    (shown.Count n.samples ∷ shown.Count n.label_sets ∷ shown.IfAny n.max_samples
+    ∷ shown.IfAny n.max_label_sets ∷ []) []
 
 -- the connections
 abbrev pub connections_table : ReceiveNumbers → List ℕ
 connections_table n =
-    table_start (codes "Connections")
-    ++ row (codes "Served now") n.connections
-    ++ row (codes "Accepted in all") n.accepted
-    ++ row (codes "Accepts that failed") n.refused
-    ++ table_end
+    table_text (table CONNECTIONS)
+    (shown.Count n.connections ∷ shown.Count n.accepted ∷ shown.Count n.refused ∷ []) []
 
 -- the requests with a body that the head was asked for, by status
 abbrev pub answers_table : ReceiveNumbers → List ℕ
-answers_table n =
-    table_start (codes "Bodies answered")
-    ++ status_rows (codes "With status") n.statuses.items
-    ++ table_end
+answers_table n = table_text (table ANSWERS) [] n.statuses.items
 
 -- what was written to the log of a folder
 unfoldable pub log_table : KeptNumbers → List ℕ
 log_table n =
-    table_start (codes "Log")
-    ++ row (codes "Segments at the start") n.found
-    ++ row (codes "Segments of these read") n.read
-    ++ row (codes "Bytes written") n.bytes
-    ++ row (codes "Syncs") n.syncs
-    ++ row (codes "Milliseconds in syncs") (n.sync_micros / 1000)
-    ++ row (codes "Segments begun") n.segments
-    ++ row (codes "Writes and syncs that failed") n.failed
-    ++ table_end
+    table_text (table LOG)
+    (shown.Count n.found ∷ shown.Count n.read ∷ shown.Count n.bytes ∷ shown.Count n.syncs
+    ∷ shown.Count (n.sync_micros / 1000) ∷ shown.Count n.segments ∷ shown.Count n.failed ∷ []) []
 
 -- the same, if the receiver has such a log
 unfoldable pub kept_table : Option KeptNumbers → List ℕ

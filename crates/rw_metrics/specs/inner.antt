@@ -1,3 +1,4 @@
 pub mod Asking
 pub mod Exposition
+pub mod Rows
 pub mod Lines

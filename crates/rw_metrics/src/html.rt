@@ -1,11 +1,20 @@
 //! The parts of a page for people.
 
-ghost use Rattle.std.specs.Prelude.{◌≡◌, ◌++◌, OnOk};
-ghost use Rattle.rw_metrics.specs.Html.{page_end, page_start, row, status_row, status_rows, table_end, table_start};
+ghost use Rattle.std.specs.Prelude.{◌≡◌, ◌++◌, ◌≤◌, OnOk, length};
+ghost use Rattle.rw_metrics.specs.Html.{page_end, page_start, table_text};
+ghost use Rattle.rw_metrics.specs.inner.Rows.{table_of};
 
-use crate::exposition::push_text;
-use rw_text::push_number;
+use crate::rows::{Form, Shown, Table, push_rows, push_statuses, push_text};
 use std::alloc::AllocError;
+
+/// A row of a table.
+const CELLS: Form<'static> = Form {
+    metric: "",
+    start: "<tr><th>",
+    between: "</th><td>",
+    end: "</td></tr>\n",
+    zeros: false,
+};
 
 /// The HTML before the title. The page is loaded again every 5 seconds, and its width is that of
 /// the device. It has an icon of its own, so that no browser asks for one.
@@ -66,62 +75,24 @@ pub(crate) fn push_page_end(out: &mut Vec<u8>) -> Result<(), AllocError>
     push_text(out, FOOT)
 }
 
-/// Adds the heading of a table and its start.
-#[tactic(auto, unfolding(crate::specs::Html::table_start))]
-pub(crate) fn push_table_start(out: &mut Vec<u8>, heading: &str) -> Result<(), AllocError>
-    ensures { OnOk result (out.new.items ≡ out.old.items ++ table_start heading.now) }
+/// Adds a table: a row for each label and each status.
+#[tactic(auto, unfolding(crate::specs::Html::table_text))]
+pub(crate) fn push_table(
+    out: &mut Vec<u8>,
+    table: &Table,
+    numbers: &[Shown],
+    counts: &[(u16, u64)],
+) -> Result<(), AllocError>
+    requires { length table.now.1.now ≤ length numbers.now }
+    ensures { OnOk result
+        (out.new.items ≡ out.old.items ++ table_text (table_of table.now) numbers.now counts.now) }
 {
+    let (heading, labels, status) = *table;
     push_text(out, "<h2>")?;
     push_text(out, heading)?;
     push_text(out, "</h2>\n<table>\n")?;
-    Ok(())
-}
-
-/// Adds the end of a table.
-#[tactic(auto, unfolding(crate::specs::Html::table_end))]
-pub(crate) fn push_table_end(out: &mut Vec<u8>) -> Result<(), AllocError>
-    ensures { OnOk result (out.new.items ≡ out.old.items ++ table_end) }
-{
-    push_text(out, "</table>\n")
-}
-
-/// Adds a number, and what it counts.
-#[tactic(auto, unfolding(crate::specs::Html::row))]
-pub(crate) fn push_row(out: &mut Vec<u8>, label: &str, n: u64) -> Result<(), AllocError>
-    ensures { OnOk result (out.new.items ≡ out.old.items ++ row label.now n) }
-{
-    push_text(out, "<tr><th>")?;
-    push_text(out, label)?;
-    push_text(out, "</th><td>")?;
-    push_number(out, n)?;
-    push_text(out, "</td></tr>\n")
-}
-
-/// Adds how often a status came, which is written after the label.
-#[tactic(auto, unfolding(crate::specs::Html::status_row))]
-fn push_status_row(out: &mut Vec<u8>, label: &str, count: &(u16, u64)) -> Result<(), AllocError>
-    ensures { OnOk result (out.new.items ≡ out.old.items ++ status_row label.now count.now) }
-{
-    push_text(out, "<tr><th>")?;
-    push_text(out, label)?;
-    push_text(out, " ")?;
-    push_number(out, count.0 as u64)?;
-    push_text(out, "</th><td>")?;
-    push_number(out, count.1)?;
-    push_text(out, "</td></tr>\n")?;
-    Ok(())
-}
-
-/// Adds how often each of these statuses came.
-pub(crate) fn push_status_rows(
-    out: &mut Vec<u8>,
-    label: &str,
-    counts: &[(u16, u64)],
-) -> Result<(), AllocError>
-    ensures { OnOk result (out.new.items ≡ out.old.items ++ status_rows label.now counts.now) }
-{
-    for count in counts {
-        push_status_row(out, label, count)?;
-    }
+    push_rows(out, &CELLS, labels, numbers)?;
+    push_statuses(out, &CELLS, status, counts)?;
+    push_text(out, "</table>\n")?;
     Ok(())
 }

@@ -3,6 +3,7 @@
 #![tactic(auto)]
 
 mod asked;
+mod atomics;
 mod body;
 mod cause;
 mod client;
@@ -18,6 +19,7 @@ mod receive_numbers;
 mod receiver_html;
 mod receiver_page;
 mod reply;
+mod rows;
 mod send_counters;
 mod send_numbers;
 mod sender_html;

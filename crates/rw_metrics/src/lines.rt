@@ -1,160 +1,95 @@
 //! Lines of progress.
 
-ghost use Rattle.std.specs.Prelude.{◌≡◌, ◌++◌, ◌<◌, IfOk, OnOk};
-ghost use Rattle.rw_metrics.specs.Lines.{cause_text, drops_line, kept_log_text, lag, lag_text, last_failure_text, log_text, lost_count_text, other_count_text, percent, percent_text, reading_line, receive_line, samples_line, send_line, skipped_line, status_count_text, status_counts_text, word_and_count, word_and_count_if_any, work_line};
+ghost use Rattle.std.specs.Prelude.{◌≡◌, ◌++◌, ◌≤◌, IfOk, OnOk, length};
+ghost use Rattle.rw_metrics.specs.Lines.{drops_line, kept_words, lag, line_text, log_words, percent, receive_line, send_line, skipped_line};
+ghost use Rattle.rw_metrics.specs.inner.Rows.{table_of};
 
-use crate::cause::Cause;
-use crate::exposition::push_text;
 use crate::receive_numbers::{KeptNumbers, ReceiveNumbers};
-use crate::send_numbers::{Drops, SendNumbers, Skipped};
+use crate::rows::{Form, Shown, Table, push_rows, push_statuses, push_text};
+use crate::send_numbers::{Drops, REASONS, SendNumbers, Skipped, TYPES};
 use rw_text::push_number;
 use std::alloc::{AllocError, Global};
 
-/// Adds ` WORD N`.
-#[tactic(auto, unfolding(crate::specs::Lines::word_and_count))]
-fn push_word_and_count(out: &mut Vec<u8>, word: &str, n: u64) -> Result<(), AllocError>
-    ensures { OnOk result (out.new.items ≡ out.old.items ++ word_and_count word.now n) }
-{
-    push_text(out, " ")?;
-    push_text(out, word)?;
-    push_text(out, " ")?;
-    push_number(out, n)
-}
+/// ` WORD N` of a line.
+pub(crate) const WORDS: Form<'static> = Form {
+    metric: "",
+    start: " ",
+    between: " ",
+    end: "",
+    zeros: false,
+};
 
-/// Adds ` WORD N` if N is not 0.
-#[tactic(auto, unfolding(crate::specs::Lines::word_and_count_if_any))]
-fn push_word_and_count_if_any(out: &mut Vec<u8>, word: &str, n: u64) -> Result<(), AllocError>
-    ensures { OnOk result (out.new.items ≡ out.old.items ++ word_and_count_if_any word.now n) }
-{
-    if n == 0 {
-        return Ok(());
-    }
-    push_word_and_count(out, word, n)
-}
+const SENT: Table = (
+    "entries",
+    &[
+        "read",
+        "acknowledged",
+        "dropped",
+        "filtered",
+        "in_flight",
+        "lag",
+        "shards",
+        "attempts",
+        "failed",
+        "last",
+        "segment",
+        "bytes",
+        "newest",
+        "percent",
+    ],
+    "",
+);
 
-/// Adds ` status_NNN N`.
-#[tactic(auto, unfolding(crate::specs::Lines::status_count_text))]
-fn push_status_count(out: &mut Vec<u8>, count: &(u16, u64)) -> Result<(), AllocError>
-    ensures { OnOk result (out.new.items ≡ out.old.items ++ status_count_text count.now) }
-{
-    push_text(out, " status_")?;
-    push_number(out, count.0 as u64)?;
-    push_text(out, " ")?;
-    push_number(out, count.1)
-}
+const RECEIVED: Table = ("connections", &["accepted", "samples"], "status_");
 
-/// Adds ` status_NNN N` for each of these statuses.
-fn push_status_counts(out: &mut Vec<u8>, counts: &[(u16, u64)]) -> Result<(), AllocError>
-    ensures { OnOk result (out.new.items ≡ out.old.items ++ status_counts_text counts.now) }
-{
-    for count in counts {
-        push_status_count(out, count)?;
-    }
-    Ok(())
-}
+const LOG: [&str; 4] = ["bytes", "syncs", "segments", "failed"];
 
-/// Adds the name of a cause.
-pub(crate) fn push_cause(out: &mut Vec<u8>, cause: Cause) -> Result<(), AllocError>
-    ensures { OnOk result (out.new.items ≡ out.old.items ++ cause_text cause) }
-{
-    match cause {
-        Cause::Connect => push_text(out, "connect"),
-        Cause::Timeout => push_text(out, "timeout"),
-        Cause::Broken => push_text(out, "broken"),
-        Cause::Ended => push_text(out, "ended"),
-        Cause::BadReply => push_text(out, "bad_reply"),
-        Cause::Memory => push_text(out, "memory"),
-        Cause::Status(status) => {
-            push_text(out, "status_")?;
-            push_number(out, status as u64)
-        }
-    }
-}
+const DROPPED: Table = ("dropped", &REASONS, "status_");
 
-/// Adds ` last CAUSE`, if an attempt has failed.
-#[tactic(auto, unfolding(crate::specs::Lines::last_failure_text))]
-pub(crate) fn push_last_failure(out: &mut Vec<u8>, last: Option<Cause>) -> Result<(), AllocError>
-    ensures { OnOk result (out.new.items ≡ out.old.items ++ last_failure_text last) }
-{
-    match last {
-        None => Ok(()),
-        Some(cause) => {
-            push_text(out, " last ")?;
-            push_cause(out, cause)
-        }
-    }
-}
+const SKIPPED: &str = "skipped";
 
-/// Returns the percentage of `all` bytes that were read, at most 100.
-pub(crate) fn percent(bytes: u64, all: u64) -> u64
-    requires { 0 < all }
+/// Returns the percentage of `all` bytes that were read, at most 100, if there are any.
+pub(crate) fn percent(bytes: u64, all: u64) -> Option<u64>
     ensures { result ≡ percent bytes all }
 {
-    (bytes as u128 * 100 / all as u128).min(100) as u64
-}
-
-/// Adds ` percent N` for a folder, if its bytes are known.
-#[tactic(auto, unfolding(crate::specs::Lines::percent_text))]
-fn push_percent(out: &mut Vec<u8>, bytes: u64, all: u64) -> Result<(), AllocError>
-    ensures { OnOk result (out.new.items ≡ out.old.items ++ percent_text bytes all) }
-{
     if all == 0 {
-        return Ok(());
+        return None;
     }
-    push_word_and_count(out, "percent", percent(bytes, all))
+    Some((bytes as u128 * 100 / all as u128).min(100) as u64)
 }
 
 /// Returns by how many seconds the newest acknowledged sample is older than the newest one that was
-/// read.
-pub(crate) fn lag(read: u64, acknowledged: u64) -> u64
+/// read, if a sample was acknowledged.
+pub(crate) fn lag(read: u64, acknowledged: u64) -> Option<u64>
     ensures { result ≡ lag read acknowledged }
 {
-    read.saturating_sub(acknowledged)
-}
-
-/// Adds ` lag N` if a sample was acknowledged.
-#[tactic(auto, unfolding(crate::specs::Lines::lag_text))]
-fn push_lag(out: &mut Vec<u8>, read: u64, acknowledged: u64) -> Result<(), AllocError>
-    ensures { OnOk result (out.new.items ≡ out.old.items ++ lag_text read acknowledged) }
-{
     if acknowledged == 0 {
-        return Ok(());
+        return None;
     }
-    push_word_and_count(out, "lag", lag(read, acknowledged))
+    Some(read.saturating_sub(acknowledged))
 }
 
-fn push_samples_line(out: &mut Vec<u8>, n: &SendNumbers) -> Result<(), AllocError>
-    ensures { OnOk result (out.new.items ≡ out.old.items ++ samples_line n.now) }
+/// Returns a line: its first word with `first`, the others with their numbers, and the statuses.
+#[tactic(auto, unfolding(crate::specs::Lines::line_text))]
+fn line_of(
+    alloc: Global,
+    line: &Table,
+    first: u64,
+    numbers: &[Shown],
+    counts: &[(u16, u64)],
+) -> Result<Vec<u8>, AllocError>
+    requires { length line.now.1.now ≤ length numbers.now }
+    ensures { IfOk result
+        (λ text. text.items ≡ line_text (table_of line.now) first numbers.now counts.now) }
 {
-    push_text(out, "entries ")?;
-    push_number(out, n.entries)?;
-    push_word_and_count(out, "read", n.read)?;
-    push_word_and_count(out, "acknowledged", n.acknowledged)?;
-    push_word_and_count(out, "dropped", n.drops.all)?;
-    push_word_and_count(out, "filtered", n.filtered)?;
-    push_word_and_count(out, "in_flight", n.in_flight)?;
-    push_lag(out, n.newest_read, n.newest_acknowledged)?;
-    Ok(())
-}
-
-fn push_work_line(out: &mut Vec<u8>, n: &SendNumbers) -> Result<(), AllocError>
-    ensures { OnOk result (out.new.items ≡ out.old.items ++ work_line n.now) }
-{
-    push_word_and_count(out, "shards", n.shards)?;
-    push_word_and_count(out, "attempts", n.attempts)?;
-    push_word_and_count(out, "failed", n.failures.all)?;
-    push_last_failure(out, n.failures.last)?;
-    Ok(())
-}
-
-fn push_reading_line(out: &mut Vec<u8>, n: &SendNumbers) -> Result<(), AllocError>
-    ensures { OnOk result (out.new.items ≡ out.old.items ++ reading_line n.now) }
-{
-    push_word_and_count(out, "segment", n.segment)?;
-    push_word_and_count(out, "bytes", n.segment_bytes)?;
-    push_word_and_count_if_any(out, "newest", n.newest_segment)?;
-    push_percent(out, n.bytes, n.folder_bytes)?;
-    Ok(())
+    let (word, words, status) = *line;
+    let mut out = Vec::new(alloc);
+    push_text(&mut out, word)?;
+    push_text(&mut out, " ")?;
+    push_number(&mut out, first)?;
+    push_rows(&mut out, &WORDS, words, numbers)?;
+    push_statuses(&mut out, &WORDS, status, counts)?;
+    Ok(out)
 }
 
 /// Returns the progress of a sender with these numbers, in one line: `entries N read N acknowledged
@@ -164,29 +99,45 @@ fn push_reading_line(out: &mut Vec<u8>, n: &SendNumbers) -> Result<(), AllocErro
 pub fn send_line(alloc: Global, numbers: &SendNumbers) -> Result<Vec<u8>, AllocError>
     ensures { IfOk result (λ line. line.items ≡ send_line numbers.now) }
 {
-    let mut out = Vec::new(alloc);
-    push_samples_line(&mut out, numbers)?;
-    push_work_line(&mut out, numbers)?;
-    push_reading_line(&mut out, numbers)?;
+    let n = numbers;
+    let counts = [
+        Shown::Count(n.read),
+        Shown::Count(n.acknowledged),
+        Shown::Count(n.drops.all),
+        Shown::Count(n.filtered),
+        Shown::Count(n.in_flight),
+        Shown::Known(lag(n.newest_read, n.newest_acknowledged)),
+        Shown::Count(n.shards),
+        Shown::Count(n.attempts),
+        Shown::Count(n.failures.all),
+        Shown::Last(n.failures.last),
+        Shown::Count(n.segment),
+        Shown::Count(n.segment_bytes),
+        Shown::IfAny(n.newest_segment),
+        Shown::Known(percent(n.bytes, n.folder_bytes)),
+    ];
+    let out = line_of(alloc, &SENT, n.entries, &counts, &[])?;
     Ok(out)
 }
 
 /// Adds ` bytes N syncs N segments N failed N`.
-#[tactic(auto, unfolding(crate::specs::Lines::log_text))]
+#[tactic(auto, unfolding(crate::specs::Lines::log_words))]
 fn push_log(out: &mut Vec<u8>, n: &KeptNumbers) -> Result<(), AllocError>
-    ensures { OnOk result (out.new.items ≡ out.old.items ++ log_text n.now) }
+    ensures { OnOk result (out.new.items ≡ out.old.items ++ log_words n.now) }
 {
-    push_word_and_count(out, "bytes", n.bytes)?;
-    push_word_and_count(out, "syncs", n.syncs)?;
-    push_word_and_count(out, "segments", n.segments)?;
-    push_word_and_count(out, "failed", n.failed)?;
-    Ok(())
+    let numbers = [
+        Shown::Count(n.bytes),
+        Shown::Count(n.syncs),
+        Shown::Count(n.segments),
+        Shown::Count(n.failed),
+    ];
+    push_rows(out, &WORDS, &LOG, &numbers)
 }
 
 /// Adds what was written to the log of a folder, if the receiver has one.
-#[tactic(auto, unfolding(crate::specs::Lines::kept_log_text))]
+#[tactic(auto, unfolding(crate::specs::Lines::kept_words))]
 fn push_kept(out: &mut Vec<u8>, kept: &Option<KeptNumbers>) -> Result<(), AllocError>
-    ensures { OnOk result (out.new.items ≡ out.old.items ++ kept_log_text kept.now) }
+    ensures { OnOk result (out.new.items ≡ out.old.items ++ kept_words kept.now) }
 {
     match kept {
         None => Ok(()),
@@ -200,12 +151,12 @@ fn push_kept(out: &mut Vec<u8>, kept: &Option<KeptNumbers>) -> Result<(), AllocE
 pub fn receive_line(alloc: Global, numbers: &ReceiveNumbers) -> Result<Vec<u8>, AllocError>
     ensures { IfOk result (λ line. line.items ≡ receive_line numbers.now) }
 {
-    let mut out = Vec::new(alloc);
-    push_text(&mut out, "connections ")?;
-    push_number(&mut out, numbers.connections)?;
-    push_word_and_count(&mut out, "accepted", numbers.accepted)?;
-    push_word_and_count(&mut out, "samples", numbers.samples)?;
-    push_status_counts(&mut out, numbers.statuses.as_slice())?;
+    let counts = [
+        Shown::Count(numbers.accepted),
+        Shown::Count(numbers.samples),
+    ];
+    let statuses = numbers.statuses.as_slice();
+    let mut out = line_of(alloc, &RECEIVED, numbers.connections, &counts, statuses)?;
     push_kept(&mut out, &numbers.kept)?;
     Ok(out)
 }
@@ -215,41 +166,13 @@ pub fn receive_line(alloc: Global, numbers: &ReceiveNumbers) -> Result<Vec<u8>, 
 pub fn drops_line(alloc: Global, drops: &Drops) -> Result<Vec<u8>, AllocError>
     ensures { IfOk result (λ line. line.items ≡ drops_line drops.now) }
 {
-    let mut out = Vec::new(alloc);
-    push_text(&mut out, "dropped ")?;
-    push_number(&mut out, drops.all)?;
-    push_word_and_count(&mut out, "noseries", drops.no_series)?;
-    push_word_and_count(&mut out, "badlabels", drops.bad_labels)?;
-    push_word_and_count(&mut out, "notrising", drops.not_rising)?;
-    push_status_counts(&mut out, drops.refused.as_slice())?;
-    Ok(out)
-}
-
-/// Adds how many of the skipped records may hold samples, by what they hold.
-fn push_lost_count(out: &mut Vec<u8>, s: &Skipped) -> Result<(), AllocError>
-    ensures { OnOk result (out.new.items ≡ out.old.items ++ lost_count_text s.now) }
-{
-    push_word_and_count_if_any(out, "histogram_samples", s.histograms)?;
-    push_word_and_count_if_any(out, "float_histogram_samples", s.float_histograms)?;
-    push_word_and_count_if_any(out, "custom_buckets_histogram_samples", s.custom_histograms)?;
-    push_word_and_count_if_any(
-        out,
-        "custom_buckets_float_histogram_samples",
-        s.custom_float_histograms,
-    )?;
-    push_word_and_count_if_any(out, "unknown", s.unknown)?;
-    Ok(())
-}
-
-/// Adds how many of the skipped records hold no samples, by what they hold.
-fn push_other_count(out: &mut Vec<u8>, s: &Skipped) -> Result<(), AllocError>
-    ensures { OnOk result (out.new.items ≡ out.old.items ++ other_count_text s.now) }
-{
-    push_word_and_count_if_any(out, "tombstones", s.tombstones)?;
-    push_word_and_count_if_any(out, "exemplars", s.exemplars)?;
-    push_word_and_count_if_any(out, "mmapmarkers", s.mmap_markers)?;
-    push_word_and_count_if_any(out, "metadata", s.metadata)?;
-    Ok(())
+    line_of(
+        alloc,
+        &DROPPED,
+        drops.all,
+        &drops.by_reason(),
+        drops.refused.as_slice(),
+    )
 }
 
 /// Returns which records of the log a sender has skipped, in one line: `skipped`, and ` TYPE N` for
@@ -258,8 +181,7 @@ pub fn skipped_line(alloc: Global, skipped: &Skipped) -> Result<Vec<u8>, AllocEr
     ensures { IfOk result (λ line. line.items ≡ skipped_line skipped.now) }
 {
     let mut out = Vec::new(alloc);
-    push_text(&mut out, "skipped")?;
-    push_lost_count(&mut out, skipped)?;
-    push_other_count(&mut out, skipped)?;
+    push_text(&mut out, SKIPPED)?;
+    push_rows(&mut out, &WORDS, &TYPES, &skipped.by_type())?;
     Ok(out)
 }

@@ -1,5 +1,6 @@
 //! Counters of a receiver.
 
+use crate::atomics::{add, read, set};
 use crate::codes::Codes;
 use crate::kept_counters::KeptCounters;
 use crate::receive_numbers::ReceiveNumbers;
@@ -21,14 +22,6 @@ pub struct ReceiveCounters {
     kept: Option<KeptCounters>,
 }
 
-fn read(counter: &AtomicU64) -> u64 {
-    counter.load(Ordering::Relaxed)
-}
-
-fn add(counter: &AtomicU64, n: u64) {
-    counter.fetch_add(n, Ordering::Relaxed);
-}
-
 impl ReceiveCounters {
     /// Returns counters that are all 0, of a receiver that keeps no log.
     pub fn new(alloc: Global) -> Result<ReceiveCounters, AllocError> {
@@ -37,7 +30,7 @@ impl ReceiveCounters {
 
     /// Returns counters that are all 0, of a receiver that writes to the log of a folder.
     pub fn of_kept_log(alloc: Global) -> Result<ReceiveCounters, AllocError> {
-        ReceiveCounters::with(alloc, Some(KeptCounters::new()))
+        ReceiveCounters::with(alloc, Some(KeptCounters::default()))
     }
 
     fn with(alloc: Global, kept: Option<KeptCounters>) -> Result<ReceiveCounters, AllocError> {
@@ -90,50 +83,51 @@ impl ReceiveCounters {
 
     /// Takes how many samples may be held, and of how many label sets; 0 if there is no limit.
     pub fn set_limits(&self, max_samples: u64, max_label_sets: u64) {
-        self.max_samples.store(max_samples, Ordering::Relaxed);
-        self.max_label_sets.store(max_label_sets, Ordering::Relaxed);
+        set(&self.max_samples, max_samples);
+        set(&self.max_label_sets, max_label_sets);
     }
 
     /// Counts bytes that were written to the log of a folder. This and the next five calls count
     /// nothing if the receiver keeps no log.
     pub fn write_log(&self, bytes: u64) {
         if let Some(kept) = &self.kept {
-            kept.write(bytes);
+            add(&kept.bytes, bytes);
         }
     }
 
     /// Counts a sync of that log, and for how long it took.
     pub fn sync_log(&self, micros: u64) {
         if let Some(kept) = &self.kept {
-            kept.sync(micros);
+            add(&kept.syncs, 1);
+            add(&kept.sync_micros, micros);
         }
     }
 
     /// Counts a segment of that log that was begun.
     pub fn begin_log_segment(&self) {
         if let Some(kept) = &self.kept {
-            kept.begin_segment();
+            add(&kept.segments, 1);
         }
     }
 
     /// Counts a write, a sync or a new segment of that log that failed.
     pub fn fail_log(&self) {
         if let Some(kept) = &self.kept {
-            kept.fail();
+            add(&kept.failed, 1);
         }
     }
 
     /// Counts the segments of that log that are there at the start, and are about to be read.
     pub fn find_log_segments(&self, count: usize) {
         if let Some(kept) = &self.kept {
-            kept.find_segments(count as u64);
+            add(&kept.found, count as u64);
         }
     }
 
     /// Counts one of them that was read.
     pub fn read_log_segment(&self) {
         if let Some(kept) = &self.kept {
-            kept.read_segment();
+            add(&kept.read, 1);
         }
     }
 

@@ -1,153 +1,115 @@
 //! The page of a receiver.
 
 ghost use Rattle.std.specs.Prelude.{◌≡◌, ◌++◌, IfOk, OnOk};
-ghost use Rattle.rw_metrics.specs.ReceivePage.{connections_page, held_page, kept_page, log_page, opening_page, receive_page, requests_page};
+ghost use Rattle.rw_metrics.specs.ReceivePage.{connections_page, held_page, kept_page, log_page, receive_page, requests_page};
 
-use crate::exposition::{
-    push_counter, push_counters, push_gauge, push_seconds_counter, push_statuses,
-};
+use crate::exposition::{Family, Metric, metrics, push_family, push_metrics};
 use crate::receive_numbers::{KeptNumbers, ReceiveNumbers};
+use crate::rows::Shown;
 use std::alloc::{AllocError, Global};
 
-const REQUESTS: &str = "rwship_receive_requests_total";
+/// The connections.
+const CONNECTIONS: [Metric; 3] = metrics! {
+    "rwship_receive_connections" "gauge" "Open connections."
+    "rwship_receive_connections_total" "counter" "Connections that were accepted."
+    "rwship_receive_accepts_failed_total" "counter" "Accepts that failed."
+};
+
+/// The requests, by status.
+const REQUESTS: Family = (
+    "rwship_receive_requests_total",
+    "Requests that the head has answered, by status.",
+    "{code=\"",
+    "",
+);
+
+/// What is held.
+const HELD: [Metric; 4] = metrics! {
+    "rwship_receive_samples_held" "gauge" "Samples that are held."
+    "rwship_receive_label_sets" "gauge" "Label sets that are held."
+    "rwship_receive_max_samples" "gauge" "Limit of held samples; 0 if none."
+    "rwship_receive_max_label_sets" "gauge" "Limit of label sets; 0 if none."
+};
+
+/// How far the log of a folder was read at the start, and what was written to it.
+const LOG: [Metric; 7] = metrics! {
+    "rwship_receive_log_segments_found" "gauge" "Segments of the log that were there at the start."
+    "rwship_receive_log_segments_read" "gauge"
+        "How many of them were read. Nothing is answered before that is all."
+    "rwship_receive_log_bytes_written_total" "counter" "Bytes that were written to the log."
+    "rwship_receive_log_syncs_total" "counter" "Syncs of the log to the disk."
+    "rwship_receive_log_sync_seconds_total" "counter" "Seconds that syncs of the log took."
+    "rwship_receive_log_segments_total" "counter" "Segments of the log that were begun."
+    "rwship_receive_log_writes_failed_total" "counter"
+        "Writes, syncs and new segments of the log that failed."
+};
 
 /// Adds the connections.
 fn push_connections(out: &mut Vec<u8>, n: &ReceiveNumbers) -> Result<(), AllocError>
     ensures { OnOk result (out.new.items ≡ out.old.items ++ connections_page n.now) }
 {
-    push_gauge(
+    push_metrics(
         out,
-        "rwship_receive_connections",
-        "Open connections.",
-        n.connections,
-    )?;
-    push_counter(
-        out,
-        "rwship_receive_connections_total",
-        "Connections that were accepted.",
-        n.accepted,
-    )?;
-    push_counter(
-        out,
-        "rwship_receive_accepts_failed_total",
-        "Accepts that failed.",
-        n.refused,
-    )?;
-    Ok(())
+        &CONNECTIONS,
+        &[
+            Shown::Count(n.connections),
+            Shown::Count(n.accepted),
+            Shown::Count(n.refused),
+        ],
+    )
 }
 
 /// Adds the requests, by status.
 fn push_requests(out: &mut Vec<u8>, n: &ReceiveNumbers) -> Result<(), AllocError>
     ensures { OnOk result (out.new.items ≡ out.old.items ++ requests_page n.now) }
 {
-    push_counters(
-        out,
-        REQUESTS,
-        "Requests that the head has answered, by status.",
-    )?;
-    push_statuses(out, REQUESTS, "code", "", n.statuses.as_slice())?;
-    Ok(())
+    push_family(out, &REQUESTS, &[], &[], n.statuses.as_slice())
 }
 
 /// Adds what is held.
 fn push_held(out: &mut Vec<u8>, n: &ReceiveNumbers) -> Result<(), AllocError>
     ensures { OnOk result (out.new.items ≡ out.old.items ++ held_page n.now) }
 {
-    push_gauge(
+    push_metrics(
         out,
-        "rwship_receive_samples_held",
-        "Samples that are held.",
-        n.samples,
-    )?;
-    push_gauge(
-        out,
-        "rwship_receive_label_sets",
-        "Label sets that are held.",
-        n.label_sets,
-    )?;
-    push_gauge(
-        out,
-        "rwship_receive_max_samples",
-        "Limit of held samples; 0 if none.",
-        n.max_samples,
-    )?;
-    push_gauge(
-        out,
-        "rwship_receive_max_label_sets",
-        "Limit of label sets; 0 if none.",
-        n.max_label_sets,
-    )?;
-    Ok(())
+        &HELD,
+        &[
+            Shown::Count(n.samples),
+            Shown::Count(n.label_sets),
+            Shown::Count(n.max_samples),
+            Shown::Count(n.max_label_sets),
+        ],
+    )
 }
 
-/// Adds what was written to the log of a folder.
+/// Adds how far the log of a folder was read, and what was written to it.
 #[tactic(auto, unfolding(crate::specs::ReceivePage::log_page))]
 fn push_log(out: &mut Vec<u8>, n: &KeptNumbers) -> Result<(), AllocError>
     ensures { OnOk result (out.new.items ≡ out.old.items ++ log_page n.now) }
 {
-    push_counter(
+    push_metrics(
         out,
-        "rwship_receive_log_bytes_written_total",
-        "Bytes that were written to the log.",
-        n.bytes,
-    )?;
-    push_counter(
-        out,
-        "rwship_receive_log_syncs_total",
-        "Syncs of the log to the disk.",
-        n.syncs,
-    )?;
-    push_seconds_counter(
-        out,
-        "rwship_receive_log_sync_seconds_total",
-        "Seconds that syncs of the log took.",
-        n.sync_micros,
-    )?;
-    push_counter(
-        out,
-        "rwship_receive_log_segments_total",
-        "Segments of the log that were begun.",
-        n.segments,
-    )?;
-    push_counter(
-        out,
-        "rwship_receive_log_writes_failed_total",
-        "Writes, syncs and new segments of the log that failed.",
-        n.failed,
-    )?;
-    Ok(())
+        &LOG,
+        &[
+            Shown::Count(n.found),
+            Shown::Count(n.read),
+            Shown::Count(n.bytes),
+            Shown::Count(n.syncs),
+            Shown::Micros(n.sync_micros),
+            Shown::Count(n.segments),
+            Shown::Count(n.failed),
+        ],
+    )
 }
 
-/// Adds how far the log of a folder was read at the start.
-fn push_opening(out: &mut Vec<u8>, n: &KeptNumbers) -> Result<(), AllocError>
-    ensures { OnOk result (out.new.items ≡ out.old.items ++ opening_page n.now) }
-{
-    push_gauge(
-        out,
-        "rwship_receive_log_segments_found",
-        "Segments of the log that were there at the start.",
-        n.found,
-    )?;
-    push_gauge(
-        out,
-        "rwship_receive_log_segments_read",
-        "How many of them were read. Nothing is answered before that is all.",
-        n.read,
-    )?;
-    Ok(())
-}
-
-/// Adds how far the log of a folder was read, and what was written to it, if the receiver has one.
+/// Adds the log of a folder, if the receiver has one.
 #[tactic(auto, unfolding(crate::specs::ReceivePage::kept_page))]
 fn push_kept(out: &mut Vec<u8>, kept: &Option<KeptNumbers>) -> Result<(), AllocError>
     ensures { OnOk result (out.new.items ≡ out.old.items ++ kept_page kept.now) }
 {
     match kept {
         None => Ok(()),
-        Some(numbers) => {
-            push_opening(out, numbers)?;
-            push_log(out, numbers)
-        }
+        Some(numbers) => push_log(out, numbers),
     }
 }
 

@@ -5,7 +5,7 @@ ghost use Rattle.rw_metrics.specs.inner.Exposition.{reply};
 
 use crate::asked::Asked;
 use crate::counters::Counters;
-use crate::exposition::push_text;
+use crate::rows::push_text;
 use rw_text::push_number;
 use rw_types::{Sink, write_all};
 use std::alloc::{AllocError, Global};

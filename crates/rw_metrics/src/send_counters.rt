@@ -1,5 +1,6 @@
 //! Counters of a sender.
 
+use crate::atomics::{add, read, set};
 use crate::body::cargo_of;
 use crate::cause::{Cause, cause_of, number_of};
 use crate::codes::Codes;
@@ -130,18 +131,6 @@ pub struct SendCounters {
     failures: FailureCounters,
 }
 
-fn read(counter: &AtomicU64) -> u64 {
-    counter.load(Ordering::Relaxed)
-}
-
-fn set(counter: &AtomicU64, n: u64) {
-    counter.store(n, Ordering::Relaxed);
-}
-
-fn add(counter: &AtomicU64, n: u64) {
-    counter.fetch_add(n, Ordering::Relaxed);
-}
-
 impl SendCounters {
     /// Returns counters that are all 0.
     pub fn new(alloc: Global) -> Result<SendCounters, AllocError> {
@@ -161,7 +150,7 @@ impl SendCounters {
             newest_read_ms: AtomicU64::new(0),
             newest_acknowledged_ms: AtomicU64::new(0),
             drops,
-            skipped: SkippedCounters::new(),
+            skipped: SkippedCounters::default(),
             shards: AtomicU64::new(0),
             attempts: AtomicU64::new(0),
             failures,

@@ -1,6 +1,36 @@
 //! Numbers of a sender.
 
+ghost use Rattle.std.specs.Prelude.{◌≡◌};
+ghost use Rattle.rw_metrics.specs.SendCounts.{by_cause, by_reason, by_type};
+
 use crate::cause::Cause;
+use crate::rows::Shown;
+
+/// Why samples are dropped, but for the statuses.
+pub(crate) const REASONS: [&str; 3] = ["noseries", "badlabels", "notrising"];
+
+/// The types of records that are skipped: those first that may hold samples.
+pub(crate) const TYPES: [&str; 9] = [
+    "histogram_samples",
+    "float_histogram_samples",
+    "custom_buckets_histogram_samples",
+    "custom_buckets_float_histogram_samples",
+    "unknown",
+    "tombstones",
+    "exemplars",
+    "mmapmarkers",
+    "metadata",
+];
+
+/// Why attempts fail, but for the statuses.
+pub(crate) const CAUSES: [&str; 6] = [
+    "connect",
+    "timeout",
+    "broken",
+    "ended",
+    "bad_reply",
+    "memory",
+];
 
 /// How many samples were dropped, by reason.
 #[derive(Drop)]
@@ -18,6 +48,17 @@ pub struct Drops {
 }
 
 impl Drops {
+    /// Returns how many there are for each of [`REASONS`].
+    pub(crate) fn by_reason(&self) -> [Shown; 3]
+        ensures { result ≡ by_reason self.now }
+    {
+        [
+            Shown::Count(self.no_series),
+            Shown::Count(self.bad_labels),
+            Shown::Count(self.not_rising),
+        ]
+    }
+
     /// Returns how many of them were in refused batches.
     pub(crate) fn refused_in_all(&self) -> u64 {
         self.all
@@ -45,6 +86,22 @@ pub struct Failures {
     pub last: Option<Cause>,
 }
 
+impl Failures {
+    /// Returns how many there are for each of [`CAUSES`].
+    pub(crate) fn by_cause(&self) -> [Shown; 6]
+        ensures { result ≡ by_cause self.now }
+    {
+        [
+            Shown::Count(self.connect),
+            Shown::Count(self.timeout),
+            Shown::Count(self.broken),
+            Shown::Count(self.ended),
+            Shown::Count(self.bad_reply),
+            Shown::Count(self.memory),
+        ]
+    }
+}
+
 /// How many records of the log were skipped, since they hold neither series nor samples that are
 /// read, by what they hold.
 #[derive(Clone, Copy, Debug, PartialEq, Eq)]
@@ -69,6 +126,23 @@ pub struct Skipped {
 }
 
 impl Skipped {
+    /// Returns how many there are of each of [`TYPES`].
+    pub(crate) fn by_type(&self) -> [Shown; 9]
+        ensures { result ≡ by_type self.now }
+    {
+        [
+            Shown::IfAny(self.histograms),
+            Shown::IfAny(self.float_histograms),
+            Shown::IfAny(self.custom_histograms),
+            Shown::IfAny(self.custom_float_histograms),
+            Shown::IfAny(self.unknown),
+            Shown::IfAny(self.tombstones),
+            Shown::IfAny(self.exemplars),
+            Shown::IfAny(self.mmap_markers),
+            Shown::IfAny(self.metadata),
+        ]
+    }
+
     /// Returns how many records may hold samples, which are lost: those of histograms, and those of
     /// which it is not known what they hold.
     pub fn lost(&self) -> u64 {

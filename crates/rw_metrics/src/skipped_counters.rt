@@ -1,10 +1,11 @@
 //! Counters of the records that are skipped.
 
+use crate::atomics::{read, set};
 use crate::send_numbers::Skipped;
-use std::sync::atomic::{AtomicU64, Ordering};
+use std::sync::atomic::AtomicU64;
 
 /// How many records were skipped, by what they hold.
-#[derive(Drop)]
+#[derive(Default, Drop)]
 pub(crate) struct SkippedCounters {
     tombstones: AtomicU64,
     exemplars: AtomicU64,
@@ -17,29 +18,7 @@ pub(crate) struct SkippedCounters {
     unknown: AtomicU64,
 }
 
-fn read(counter: &AtomicU64) -> u64 {
-    counter.load(Ordering::Relaxed)
-}
-
-fn set(counter: &AtomicU64, n: u64) {
-    counter.store(n, Ordering::Relaxed);
-}
-
 impl SkippedCounters {
-    pub(crate) fn new() -> SkippedCounters {
-        SkippedCounters {
-            tombstones: AtomicU64::new(0),
-            exemplars: AtomicU64::new(0),
-            mmap_markers: AtomicU64::new(0),
-            metadata: AtomicU64::new(0),
-            histograms: AtomicU64::new(0),
-            float_histograms: AtomicU64::new(0),
-            custom_histograms: AtomicU64::new(0),
-            custom_float_histograms: AtomicU64::new(0),
-            unknown: AtomicU64::new(0),
-        }
-    }
-
     pub(crate) fn set(&self, skipped: &Skipped) {
         set(&self.tombstones, skipped.tombstones);
         set(&self.exemplars, skipped.exemplars);

@@ -3,8 +3,8 @@
 ghost use Rattle.std.specs.Prelude.{◌≡◌, IfOk};
 ghost use Rattle.rw_metrics.specs.inner.Lines.{stall_line};
 
-use crate::exposition::push_text;
-use crate::lines::push_last_failure;
+use crate::lines::WORDS;
+use crate::rows::{Shown, push_row, push_text};
 use crate::send_counters::SendCounters;
 use crate::send_numbers::Failures;
 use rw_text::push_number;
@@ -59,7 +59,7 @@ fn stall_line(
     push_number(&mut out, seconds)?;
     push_text(&mut out, " s: attempts failed in a row: ")?;
     push_number(&mut out, failures.in_a_row)?;
-    push_last_failure(&mut out, failures.last)?;
+    push_row(&mut out, &WORDS, "last", Shown::Last(failures.last))?;
     push_text(&mut out, "; trying again\n")?;
     Ok(out)
 }

@@ -1,17 +1,5 @@
-use Rattle.std.proofs.Common.{append_assoc, refl}
-use Rattle.rw_metrics.specs.SendHtml.{samples_table}
+use Rattle.std.proofs.Common.{refl}
 use Rattle.rw_metrics.proofs.sender_html.push_samples.Goals as goal
 
 pub returns : goal.returns
-unfolding samples_table
-returns c =
-    rw (
-      c.in_ok-push_table_end.ensures,
-      c.in_ok-push_lag_row.ensures,
-      c.in_ok-push_row-5.ensures,
-      c.in_ok-push_row-4.ensures,
-      c.in_ok-push_row-3.ensures,
-      c.in_ok-push_row-2.ensures,
-      c.in_ok-push_row.ensures,
-      c.in_ok-push_table_start.ensures,
-    ) (simp append_assoc refl)
+returns c = rw (c.in_ok-push_table.ensures, c.lag.ensures) refl

@@ -1,9 +1,0 @@
-use Rattle.std.proofs.Common.{append_assoc, refl}
-use Rattle.rw_metrics.proofs.sender_page.push_attempts.Goals as goal
-
-pub returns : goal.returns
-returns c =
-    rw (
-      c.in_ok-push_failures.ensures,
-      c.in_ok-push_counter.ensures,
-    ) (simp append_assoc refl)
