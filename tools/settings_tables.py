@@ -18,6 +18,7 @@ KINDS = {
         "1 to 255 bytes: `/`, and then ASCII letters and digits, `/`, `-`, `.`, `_`, `~`, `%`, `?`, `=` and `&`",
     ),
     "Names": ("`legacy`", "`legacy` or `utf8`"),
+    "Switch": ("`false`", "`true` or `false`"),
     "Action": ("required", "`keep` or `drop`"),
     "Labels": ("required", "a list of strings, at least one"),
 }

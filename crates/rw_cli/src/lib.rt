@@ -105,6 +105,8 @@ pub struct Receiving<'a> {
     pub idle_ms: Bounded<10, 3_600_000>,
     /// How many milliseconds a request may take, and a reply; one more for each byte of a request.
     pub request_ms: Bounded<10, 3_600_000>,
+    /// Whether bodies with `Content-Encoding: snappy` are taken, whatever the settings say.
+    pub takes_snappy: bool,
     /// How many samples may be held; none for no limit.
     pub max_samples: Option<u64>,
     /// How many series they may be of; none for no limit.

@@ -36,6 +36,7 @@ pub(crate) fn receive_task<'a>(
             until,
             idle_ms,
             request_ms,
+            takes_snappy: options.get_flag("snappy"),
             max_samples: options.get_one::<u64>("max-samples"),
             max_series: options.get_one::<u64>("max-series"),
             dir: options.get_str("dir"),

@@ -362,6 +362,12 @@ static RECEIVE: Words = Words {
             help: "Close a connection whose request takes longer than\nN milliseconds plus 1 for each byte, 10 to\n3600000",
         },
         Opt {
+            name: "snappy",
+            takes: Takes::Nothing,
+            bonds: &[],
+            help: "Take bodies with Content-Encoding: snappy, too, as\nPrometheus sends them",
+        },
+        Opt {
             name: "max-samples",
             takes: Takes::Number(1, 1_099_511_627_776),
             bonds: &[],

@@ -1,3 +1,4 @@
+pub mod CodingLemmas
 pub mod HeadLemmas
 pub mod KnownLemmas
 pub mod FrontLemmas

@@ -1,8 +1,9 @@
 pub mod Fields
 pub mod Values
+pub mod Replies
+pub mod Coding
 pub mod Judgement
 pub mod Reading
-pub mod Replies
 pub mod Serving
 pub mod Alone
 pub mod Determined

@@ -36,9 +36,9 @@ agreed (Some n) fields = if each_value (codes "content-length") (is_length n) fi
 abbrev pub announced : List NameValue → Option ℕ
 announced fields = agreed (first_length fields) fields
 
--- the content coding that changes nothing
-abbrev pub is_identity : List ℕ → Bool
-is_identity value = str_eq_ignore_ascii_case value (codes "identity")
+-- the value is this content coding, in any case
+abbrev pub is_coding : List ℕ → List ℕ → Bool
+is_coding coding value = str_eq_ignore_ascii_case value coding
 
 -- a Connection that closes
 abbrev pub is_close : List ℕ → Bool

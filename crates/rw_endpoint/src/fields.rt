@@ -2,9 +2,12 @@
 
 ghost use Rattle.std.specs.Prelude.{◌≡◌, length, map, All, codes};
 ghost use Rattle.httparse.specs.Spans.{IsHeaderWithin, header_bytes};
+ghost use Rattle.rw_endpoint.specs.Coding.{coding_of};
 ghost use Rattle.rw_endpoint.specs.Fields.{has_field, each_value, some_value};
-ghost use Rattle.rw_endpoint.specs.Values.{first_length, is_length, announced, is_identity, is_close, is_protobuf};
+ghost use Rattle.rw_endpoint.specs.Values.{first_length, is_length, announced, is_coding, is_close, is_protobuf};
 
+use crate::coding::Coding;
+use crate::intake::Intake;
 use crate::names::is_same;
 use crate::values::{is_protobuf, length_value};
 use httparse::spans::HeaderSpan;
@@ -69,20 +72,36 @@ pub(crate) fn announced(buf: &[u8], headers: &[HeaderSpan]) -> Option<u64>
     }
 }
 
-/// Returns whether the fields name no content coding but `identity`.
-pub(crate) fn are_identity(buf: &[u8], headers: &[HeaderSpan]) -> bool
+/// Returns whether the fields name no content coding but this one.
+fn are_coding(buf: &[u8], headers: &[HeaderSpan], coding: &[u8]) -> bool
     requires { All (IsHeaderWithin (length buf.now)) headers.now }
-    ensures { result ≡ each_value (codes "content-encoding") is_identity
+    ensures { result ≡ each_value (codes "content-encoding") (is_coding coding.now)
         (map (header_bytes buf.now) headers.now) }
 {
     for header in headers {
         if is_same(header.name.of(buf), b"content-encoding") {
-            if !is_same(header.value.of(buf), b"identity") {
+            if !is_same(header.value.of(buf), coding) {
                 return false;
             }
         }
     }
     true
+}
+
+/// Returns the content coding that the fields name, if it is one that is taken.
+pub(crate) fn coding_of(buf: &[u8], headers: &[HeaderSpan], intake: Intake) -> Option<Coding>
+    requires { All (IsHeaderWithin (length buf.now)) headers.now }
+    ensures { result ≡ coding_of intake (map (header_bytes buf.now) headers.now) }
+{
+    if are_coding(buf, headers, b"identity") {
+        return Some(Coding::Plain);
+    }
+    if intake.snappy && are_coding(buf, headers, b"snappy") {
+        return Some(Coding::Snappy {
+            limit: intake.limit,
+        });
+    }
+    None
 }
 
 /// Returns whether the fields name no media type but that of a write request.

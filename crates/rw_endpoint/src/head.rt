@@ -5,6 +5,7 @@ ghost use Rattle.rw_endpoint.specs.inner.Reading.{Judges};
 
 use crate::fields::has_field;
 use crate::finding::{Finding, judge_body};
+use crate::intake::Intake;
 use crate::pending::MAX_HEAD_BYTES;
 use httparse::Status;
 use httparse::spans::{EMPTY_HEADER_SPAN, HeaderSpan, parse_request};
@@ -24,9 +25,9 @@ pub enum Reading {
 }
 
 /// Reads the head of the request that these bytes begin.
-pub(crate) fn read_head(buf: &[u8], path: &[u8], limit: u64) -> Reading
+pub(crate) fn read_head(buf: &[u8], path: &[u8], intake: Intake) -> Reading
     requires { length buf.now ≤ 8192 }
-    ensures { Judges path.now limit buf.now result }
+    ensures { Judges path.now intake buf.now result }
 {
     let mut headers = [EMPTY_HEADER_SPAN; MAX_FIELDS];
     let head = match parse_request(buf, &mut headers) {
@@ -50,7 +51,7 @@ pub(crate) fn read_head(buf: &[u8], path: &[u8], limit: u64) -> Reading
     {
         Finding::Refused(411)
     } else {
-        judge_body(buf, fields, head.version, limit)
+        judge_body(buf, fields, head.version, intake)
     };
     Reading::Head(finding, head.len)
 }

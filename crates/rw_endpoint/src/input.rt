@@ -6,6 +6,7 @@ ghost use Rattle.rw_endpoint.specs.inner.Reading.{HasRead, HasBody};
 
 use crate::finding::Finding;
 use crate::head::{Reading, read_head};
+use crate::intake::Intake;
 use crate::pending::{MAX_HEAD_BYTES, Pending};
 use rw_types::{Failed, Source};
 use std::alloc::Global;
@@ -92,19 +93,19 @@ pub(crate) fn read_front<R: Source>(
     reader: &mut R,
     pending: &mut Pending,
     path: &[u8],
-    limit: u64,
+    intake: Intake,
 ) -> Result<Front, Failed>
     ensures kept { OnOk result
         (Keeps (prepend_known pending.old (R.remaining reader.old))
         (prepend_known pending.new (R.remaining reader.new))) }
     ensures front { IfOk result
-        (HasRead path.now limit pending.new (R.remaining reader.new)) }
+        (HasRead path.now intake pending.new (R.remaining reader.new)) }
     ensures failed { OnErr result (R.has_failed reader.new ≡ true) }
     ensures sure { R.is_sure reader.old ≡ true
         → (R.is_sure reader.new ≡ true) × IsOk result }
 {
     loop {
-        match read_head(pending.as_slice(), path, limit) {
+        match read_head(pending.as_slice(), path, intake) {
             Reading::Head(finding, len) => return Ok(Front::Head(finding, len)),
             Reading::Never => return Ok(Front::Never),
             Reading::More => match read_pending(reader, pending) {

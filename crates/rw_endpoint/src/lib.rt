@@ -3,11 +3,13 @@
 #![tactic(auto)]
 
 mod answer;
+mod coding;
 mod fields;
 mod finding;
 mod head;
 mod head_answer;
 mod input;
+mod intake;
 mod laws;
 mod names;
 mod pending;

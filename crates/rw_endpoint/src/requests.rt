@@ -2,19 +2,30 @@
 
 ghost use Rattle.std.specs.Prelude.{length, ◌<◌, ◌-◌, ◌^◌, true, false, ◌⊎◌, ◌≡◌, ℕ, ◌+◌, ◌≤◌, List, ◌++◌, Bool, Some, Err, OnOk};
 ghost use Rattle.std.specs.Io.KnownBytes.{prepend_known};
+ghost use Rattle.rw_endpoint.specs.Coding.{intake_of, through};
 ghost use Rattle.rw_endpoint.specs.Serving.{Replies, HasWritten, IsTooSmall, AsksForBody, IsStoppedAtBody};
 ghost use Rattle.rw_endpoint.specs.Alone.{IsOneRequest, IsServedAlone, IsOneRefusal, IsTurnedAway};
 ghost use Rattle.rw_endpoint.specs.inner.Steps.{IsBodyAnswered, HasBodyServed, HasServed};
 
 use crate::answer::Answer;
+use crate::coding::{Coding, status_of};
 use crate::finding::Finding;
 use crate::input::{Front, Stop, read_body, read_front};
+use crate::intake::{Intake, intake_of};
 use crate::pending::Pending;
 use crate::reply::{closing_reply, staying_reply};
 use crate::serve_end::ServeEnd;
 use rw_head::Limits;
 use rw_types::{Sink, Source, write_all};
 use std::alloc::Global;
+
+/// What a head says of the body after it.
+#[derive(Clone, Copy)]
+struct Asked {
+    len: usize,
+    closes: bool,
+    coding: Coding,
+}
 
 /// Answers the body that a head announced.
 fn serve_body<R: Source, W: Sink, A: Answer>(
@@ -23,14 +34,13 @@ fn serve_body<R: Source, W: Sink, A: Answer>(
     writer: &mut W,
     answer: &mut A,
     pending: &mut Pending,
-    n: usize,
-    closes: bool,
+    asked: Asked,
 ) -> Result<(), ServeEnd>
     ensures served { (input before : List ℕ)
         → prepend_known pending.old (R.remaining reader.old) ≡ Some input
         → W.contents writer.old ≡ Some before
         → (text : List ℕ) × (W.contents writer.new ≡ Some (before ++ text))
-        × HasBodyServed A.answers n closes input answer.old text
+        × HasBodyServed (through asked.coding A.answers) asked.len asked.closes input answer.old text
         (prepend_known pending.new (R.remaining reader.new)) answer.new result
         × OnOk result
         (W.has_failed writer.old ≡ false
@@ -44,17 +54,21 @@ fn serve_body<R: Source, W: Sink, A: Answer>(
         → R.is_sure reader.old ≡ true → W.has_failed writer.old ≡ false
         → result ≡ Err ServeEnd.Device
         → (whole : List ℕ) × (rest : List ℕ)
-        × IsBodyAnswered A.answers n input answer.old whole rest closes answer.new
+        × IsBodyAnswered (through asked.coding A.answers) asked.len input answer.old whole rest
+        asked.closes answer.new
         × (W.room writer.old < length whole) }
 {
-    let body = match read_body(alloc, reader, pending, n) {
+    let body = match read_body(alloc, reader, pending, asked.len) {
         Ok(Some(body)) => body,
         Ok(None) => return Err(ServeEnd::Torn),
         Err(Stop::Device) => return Err(ServeEnd::Device),
         Err(Stop::OutOfMemory) => return Err(ServeEnd::OutOfMemory),
     };
-    let status = answer.answer(body.as_slice());
-    if closes {
+    let status = match status_of(alloc, answer, body, asked.coding) {
+        Ok(status) => status,
+        Err(_) => return Err(ServeEnd::OutOfMemory),
+    };
+    if asked.closes {
         return match write_all(writer, closing_reply(status)) {
             Ok(()) => Err(ServeEnd::Closed),
             Err(_) => Err(ServeEnd::Device),
@@ -74,13 +88,13 @@ fn serve_one<R: Source, W: Sink, A: Answer>(
     answer: &mut A,
     pending: &mut Pending,
     path: &[u8],
-    limit: u64,
+    intake: Intake,
 ) -> Result<(), ServeEnd>
     ensures served { (input before : List ℕ)
         → prepend_known pending.old (R.remaining reader.old) ≡ Some input
         → W.contents writer.old ≡ Some before
         → (text : List ℕ) × (W.contents writer.new ≡ Some (before ++ text))
-        × HasServed path.now limit A.answers input answer.old text
+        × HasServed path.now intake A.answers input answer.old text
         (prepend_known pending.new (R.remaining reader.new)) answer.new result
         × OnOk result
         (W.has_failed writer.old ≡ false
@@ -94,13 +108,13 @@ fn serve_one<R: Source, W: Sink, A: Answer>(
         → R.is_sure reader.old ≡ true → W.has_failed writer.old ≡ false
         → result ≡ Err ServeEnd.Device
         → (whole : List ℕ) × (rest : List ℕ) × (closes : Bool)
-        × Replies path.now limit A.answers input answer.old whole rest closes answer.new
+        × Replies path.now intake A.answers input answer.old whole rest closes answer.new
         × (W.room writer.old < length whole) }
     ensures certain { (input : List ℕ)
         → prepend_known pending.old (R.remaining reader.old) ≡ Some input
-        → result ≡ Err ServeEnd.OutOfMemory → AsksForBody path.now limit input }
+        → result ≡ Err ServeEnd.OutOfMemory → AsksForBody path.now intake input }
 {
-    let front = match read_front(reader, pending, path, limit) {
+    let front = match read_front(reader, pending, path, intake) {
         Ok(front) => front,
         Err(_) => return Err(ServeEnd::Device),
     };
@@ -121,9 +135,18 @@ fn serve_one<R: Source, W: Sink, A: Answer>(
                 Ok(()) => Err(ServeEnd::Closed),
                 Err(_) => Err(ServeEnd::Device),
             },
-            Finding::Body { len: n, closes } => {
+            Finding::Body {
+                len: n,
+                closes,
+                coding,
+            } => {
                 pending.drop_front(len);
-                serve_body(alloc, reader, writer, answer, pending, n as usize, closes)
+                let asked = Asked {
+                    len: n as usize,
+                    closes,
+                    coding,
+                };
+                serve_body(alloc, reader, writer, answer, pending, asked)
             }
         },
     }
@@ -137,11 +160,11 @@ fn serve_all<R: Source, W: Sink, A: Answer>(
     writer: &mut W,
     answer: &mut A,
     path: &[u8],
-    limit: u64,
+    intake: Intake,
 ) -> ServeEnd
     ensures served { (input before : List ℕ) → R.remaining reader.old ≡ Some input
         → W.contents writer.old ≡ Some before
-        → HasWritten path.now limit A.answers input answer.old before
+        → HasWritten path.now intake A.answers input answer.old before
         (W.contents writer.new) answer.new result }
     ensures device { result ≡ ServeEnd.Device → (R.has_failed reader.new ≡ true)
         ⊎ (W.has_failed writer.new ≡ true) }
@@ -149,16 +172,16 @@ fn serve_all<R: Source, W: Sink, A: Answer>(
         → W.contents writer.old ≡ Some before
         → R.is_sure reader.old ≡ true → W.has_failed writer.old ≡ false
         → result ≡ ServeEnd.Device
-        → IsTooSmall path.now limit A.answers input answer.old (W.room writer.old) }
+        → IsTooSmall path.now intake A.answers input answer.old (W.room writer.old) }
     ensures certain { (input before : List ℕ) → R.remaining reader.old ≡ Some input
         → W.contents writer.old ≡ Some before
         → length input < 2 ^ 64 - 1 → result ≡ ServeEnd.OutOfMemory
-        → IsStoppedAtBody path.now limit A.answers input answer.old before
+        → IsStoppedAtBody path.now intake A.answers input answer.old before
         (W.contents writer.new) answer.new }
 {
     let mut pending = Pending::new();
     for _ in 0..u64::MAX {
-        match serve_one(alloc, reader, writer, answer, &mut pending, path, limit) {
+        match serve_one(alloc, reader, writer, answer, &mut pending, path, intake) {
             Ok(()) => {}
             Err(how) => return how,
         }
@@ -172,7 +195,9 @@ fn serve_all<R: Source, W: Sink, A: Answer>(
 /// A head is read and judged without memory, so what it refuses is answered even when memory is
 /// exhausted. A body over the limit is refused by the length that its head announces; no clause
 /// says that none of it is read before the reply. The memory for a body grows with what has come of
-/// it. Once `answer` was called, no memory is taken until its reply is written.
+/// it. A Snappy block is decoded if the limits say so (`Limits::snappy`); one that has a fault, or
+/// decodes to more than the limit, is refused without a call of `answer`. Once `answer` was called,
+/// no memory is taken until its reply is written.
 pub fn serve<R: Source, W: Sink, A: Answer>(
     alloc: Global,
     reader: &mut R,
@@ -182,7 +207,7 @@ pub fn serve<R: Source, W: Sink, A: Answer>(
 ) -> ServeEnd
     ensures served { (input before : List ℕ) → R.remaining reader.old ≡ Some input
         → W.contents writer.old ≡ Some before
-        → HasWritten limits.now.path limits.now.max_body_bytes A.answers input answer.old before
+        → HasWritten limits.now.path (intake_of limits.now) A.answers input answer.old before
         (W.contents writer.new) answer.new result }
 
     // Device: the reader or the writer has failed.
@@ -194,7 +219,7 @@ pub fn serve<R: Source, W: Sink, A: Answer>(
         → W.contents writer.old ≡ Some before
         → R.is_sure reader.old ≡ true → W.has_failed writer.old ≡ false
         → result ≡ ServeEnd.Device
-        → IsTooSmall limits.now.path limits.now.max_body_bytes A.answers input answer.old
+        → IsTooSmall limits.now.path (intake_of limits.now) A.answers input answer.old
         (W.room writer.old) }
 
     // Memory runs out only at a request whose head asks for its body: what a head refuses has its
@@ -202,15 +227,15 @@ pub fn serve<R: Source, W: Sink, A: Answer>(
     ensures certain { (input before : List ℕ) → R.remaining reader.old ≡ Some input
         → W.contents writer.old ≡ Some before
         → length input < 2 ^ 64 - 1 → result ≡ ServeEnd.OutOfMemory
-        → IsStoppedAtBody limits.now.path limits.now.max_body_bytes A.answers input answer.old
+        → IsStoppedAtBody limits.now.path (intake_of limits.now) A.answers input answer.old
         before (W.contents writer.new) answer.new }
 
     // A single request that asks to close has its reply, if there is room for one.
-    ensures alone { (input before body : List ℕ) → R.remaining reader.old ≡ Some input
+    ensures alone { (input before text : List ℕ) → R.remaining reader.old ≡ Some input
         → W.contents writer.old ≡ Some before
         → R.is_sure reader.old ≡ true → W.has_failed writer.old ≡ false → 86 ≤ W.room writer.old
-        → IsOneRequest limits.now.path limits.now.max_body_bytes input body
-        → IsServedAlone A.answers body answer.old before (W.contents writer.new) answer.new result }
+        → IsOneRequest limits.now.path (intake_of limits.now) input text
+        → IsServedAlone A.answers text answer.old before (W.contents writer.new) answer.new result }
 
     // A request that its head refuses has its reply, if there is room for it, and `answer` is not
     // called. No memory is needed.
@@ -218,10 +243,9 @@ pub fn serve<R: Source, W: Sink, A: Answer>(
         → W.contents writer.old ≡ Some before
         → R.is_sure reader.old ≡ true → W.has_failed writer.old ≡ false → 86 ≤ W.room writer.old
         → length input < 2 ^ 64 - 1
-        → IsOneRefusal limits.now.path limits.now.max_body_bytes input status
+        → IsOneRefusal limits.now.path (intake_of limits.now) input status
         → IsTurnedAway status answer.old before (W.contents writer.new) answer.new result }
 {
     let path = limits.path.as_str().as_bytes();
-    let limit = limits.max_body_bytes.get();
-    serve_all(alloc, reader, writer, answer, path, limit)
+    serve_all(alloc, reader, writer, answer, path, intake_of(limits))
 }

@@ -1,6 +1,6 @@
 //! The limits on what a head and its endpoint take.
 
-ghost use Rattle.std.specs.Prelude.{◌≡◌, codes, IfOk};
+ghost use Rattle.std.specs.Prelude.{◌≡◌, false, codes, IfOk};
 ghost use Rattle.rw_types.specs.declared.names.Names.TheVariants.{Legacy};
 
 use rw_types::{Bounded, Names, RequestPath};
@@ -21,11 +21,13 @@ pub struct Limits {
     pub max_label_bytes: Bounded<1, 16_384>,
     /// How many requests are answered with 429 before the first one is judged.
     pub busy_first: Bounded<0, 1_000_000>,
+    /// Whether bodies with `Content-Encoding: snappy` are taken, too.
+    pub snappy: bool,
 }
 
 impl Limits {
     /// Returns the default limits: path `/api/v1/write`, bodies of at most 16 MiB, legacy names, 64
-    /// labels and 16,384 bytes for a label set, and never busy.
+    /// labels and 16,384 bytes for a label set, never busy, and no body in Snappy's coding.
     pub fn standard(alloc: Global) -> Result<Limits, AllocError>
         ensures { IfOk result (λ l. l ≡ record {
           path = codes "/api/v1/write";
@@ -34,6 +36,7 @@ impl Limits {
           max_labels = 64;
           max_label_bytes = 16384;
           busy_first = 0;
+          snappy = false;
         }) }
     {
         Ok(Limits {
@@ -43,6 +46,7 @@ impl Limits {
             max_labels: Bounded::new(64),
             max_label_bytes: Bounded::new(16_384),
             busy_first: Bounded::new(0),
+            snappy: false,
         })
     }
 }

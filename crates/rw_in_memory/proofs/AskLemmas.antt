@@ -5,6 +5,7 @@ use Rattle.rw_shard_core.specs.SentRequest.{request_of, request_head}
 use Rattle.rw_roundtrip.proofs.shared.RequestLemmas.{one_request, one_refusal}
 use Rattle.rw_endpoint.specs.Alone.{IsOneRequest, IsOneRefusal, IsServedAlone, IsTurnedAway}
 use Rattle.rw_endpoint.specs.declared.serve_end.ServeEnd.{ServeEnd}
+use Rattle.rw_endpoint.specs.declared.intake.Intake.{Intake}
 use Rattle.rw_head.specs.Head.{State}
 use Rattle.rw_recv_head.specs.Seats.{Seated, HasAsked}
 use Rattle.rw_in_memory.specs.inner.Lines.{IsAskedOnce}
@@ -47,12 +48,12 @@ module _ (host path body text : List ℕ) (limit : ℕ) (valid : is_host_name ho
   short : length body < 2 ^ 63
   short = let parts = length-append (request_head host path (decimal (length body))) body in let whole = ap length is in omega arith
 
-  pub read_so : (p : List ℕ) (n : ℕ) → p ≡ path → n ≡ limit → length body ≤ limit → IsOneRequest p n text body
+  pub read_so : (p : List ℕ) (n : Intake) → p ≡ path → n.limit ≡ limit → length body ≤ limit → IsOneRequest p n text body
   read_so p n same bound le =
-      subst (λ (q : List ℕ). IsOneRequest q n text body) (sym same) (subst (λ (m : ℕ). IsOneRequest path m text body) (sym bound)
-      (subst (λ (t : List ℕ). IsOneRequest path limit t body) (sym is) (one_request host path body limit valid sound short le)))
+      subst (λ (q : List ℕ). IsOneRequest q n text body) (sym same)
+      (subst (λ (t : List ℕ). IsOneRequest path n t body) (sym is) (one_request host path body n valid sound short (omega (arith, bound, le))))
 
-  pub refused_so : (p : List ℕ) (n : ℕ) → p ≡ path → n ≡ limit → limit < length body → IsOneRefusal p n text 413
+  pub refused_so : (p : List ℕ) (n : Intake) → p ≡ path → n.limit ≡ limit → limit < length body → IsOneRefusal p n text 413
   refused_so p n same bound lt =
-      subst (λ (q : List ℕ). IsOneRefusal q n text 413) (sym same) (subst (λ (m : ℕ). IsOneRefusal path m text 413) (sym bound)
-      (subst (λ (t : List ℕ). IsOneRefusal path limit t 413) (sym is) (one_refusal host path body limit valid sound short lt)))
+      subst (λ (q : List ℕ). IsOneRefusal q n text 413) (sym same)
+      (subst (λ (t : List ℕ). IsOneRefusal path n t 413) (sym is) (one_refusal host path body n valid sound short (omega (arith, bound, lt))))

@@ -108,6 +108,7 @@ fn limits_of(alloc: Global, limits: &Limits) -> Result<Limits, AllocError>
         max_labels: limits.max_labels,
         max_label_bytes: limits.max_label_bytes,
         busy_first: limits.busy_first,
+        snappy: limits.snappy,
     })
 }
 

@@ -1,5 +1,5 @@
 -- The small history of a receiver with a journal is one of those that the laws speak of.
-use Rattle.std.proofs.Common.{◌≡◌, ◌⊎◌, inl, inr, ℕ, zero, suc, ◌+◌, ◌≤◌, cond, List, [], ◌∷◌, ◌++◌, append_assoc, append-nil, length, length-append, drop, slice_get, Some, true, Ok, refl, sym, ap, ◌∙◌, subst, arith}
+use Rattle.std.proofs.Common.{◌≡◌, ◌⊎◌, inl, inr, ℕ, zero, suc, ◌+◌, ◌≤◌, cond, List, [], ◌∷◌, ◌++◌, append_assoc, append-nil, length, length-append, drop, slice_get, Some, true, false, Ok, refl, sym, ap, ◌∙◌, subst, arith}
 use Rattle.std.specs.FinMap.{empty}
 use Rattle.std.specs.declared.alloc.Global.{Global}
 use Rattle.std.specs.declared.sync.Arc.{Arc}
@@ -23,6 +23,7 @@ use Rattle.rw_shard_core.specs.SentRequest.{request_of}
 use Rattle.rw_worker.specs.Setups.{WorkerSetup}
 use Rattle.rw_endpoint.specs.Alone.{IsOneRequest}
 use Rattle.rw_endpoint.specs.Reading.{BeginsWithHead}
+use Rattle.rw_endpoint.specs.declared.intake.Intake.{Intake}
 use Rattle.rw_head.specs.Head.{Answer, State, answer, answer_to}
 use Rattle.rw_head.specs.Order.{Point}
 use Rattle.rw_head.specs.Store.{Store, list_of}
@@ -268,14 +269,19 @@ module _ (reads : (m : WriteRequest) → IsMessage m → read (canon m) ≡ Ok m
   body-is-read : ReadsBody wire.receiver.target.path wire.receiver.max_body (wire.exchange worker shared).request body
   body-is-read =
       let few = short_message in
-      let one : IsOneRequest wire.target.path 1024 (request_of wire.target.host wire.target.path body) body = requests wire.target.host wire.target.path body 1024 refl refl (omega (arith, few)) (omega (arith, few)) in
+      let taken : Intake = record { limit = 1024; snappy = false } in
+      let one : IsOneRequest wire.target.path taken (request_of wire.target.host wire.target.path body) body = requests wire.target.host wire.target.path body taken refl refl (omega (arith, few)) (omega (arith, few)) in
       record {
         head = one.head;
+        sent = one.body;
         left = [];
         closes = true;
-        begins = subst (λ (all : List ℕ). BeginsWithHead all one.head (body ++ [])) (ap (request_of wire.target.host wire.target.path) (sym (body_is reads worker shared)))
-            (subst (BeginsWithHead (request_of wire.target.host wire.target.path body) one.head) (sym (append-nil body)) one.begins);
+        snappy = false;
+        coding = one.coding;
+        begins = subst (λ (all : List ℕ). BeginsWithHead all one.head (one.body ++ [])) (ap (request_of wire.target.host wire.target.path) (sym (body_is reads worker shared)))
+            (subst (BeginsWithHead (request_of wire.target.host wire.target.path body) one.head) (sym (append-nil one.body)) one.begins);
         finding = one.finding;
+        holds = one.holds;
       }
 
   -- ---- the answer

@@ -25,7 +25,10 @@ use Rattle.rw_shard_core.specs.SentRequest.{request_of}
 use Rattle.rw_shard_core.specs.Shard.{IsReadAgain, body_of, labelled}
 use Rattle.rw_worker.specs.Transcript.{batch_request}
 use Rattle.rw_endpoint.specs.Alone.{IsOneRequest}
+use Rattle.rw_endpoint.specs.Coding.{text_of}
 use Rattle.rw_endpoint.specs.Judgement.{finding_of}
+use Rattle.rw_endpoint.specs.declared.coding.Coding.{Coding}
+use Rattle.rw_endpoint.specs.declared.intake.Intake.{Intake}
 use Rattle.rw_endpoint.specs.declared.finding.Finding.TheVariants.{Body}
 use Rattle.rw_head.specs.Head.{State, answer, answer_to}
 use Rattle.rw_head.specs.Store.{Store, list_of}
@@ -68,8 +71,8 @@ answer-kept h (Err fault) other = by_busy (nat_lt 0 h.busy) refl
 -- ---- the body of a request
 -- what `requests_are_read` says of the bytes that a sender makes
 abbrev pub RequestsAreRead : Type 0
-RequestsAreRead = (host path body : List ℕ) (limit : ℕ) → is_host_name host ≡ true → is_request_path path ≡ true
-    → length body < 2 ^ 63 → length body ≤ limit → IsOneRequest path limit (request_of host path body) body
+RequestsAreRead = (host path body : List ℕ) (intake : Intake) → is_host_name host ≡ true → is_request_path path ≡ true
+    → length body < 2 ^ 63 → length body ≤ intake.limit → IsOneRequest path intake (request_of host path body) body
 
 -- two fronts of one length, of one list, of which the first has nothing after it
 whole_front : (whole front left : List ℕ) → front ++ left ≡ whole → length front ≡ length whole → front ≡ whole
@@ -80,10 +83,14 @@ carries : RequestsAreRead → (c : Setup) → IsSound c → (request body : List
     → (batch : List Placed) → request ≡ batch_request c.target batch → length (body_of batch) ≤ c.max_body → body ≡ body_of batch
 carries requests c sound request body reads batch is short =
     let small = sound.limit in
-    let one = subst (λ (bytes : List ℕ). IsOneRequest c.target.path c.max_body bytes (body_of batch)) (sym is) (requests c.target.host c.target.path (body_of batch) c.max_body sound.host sound.path (omega (arith, short, small)) short) in
-    let same = request_unique request reads.head one.head (body ++ reads.left) (body_of batch) reads.begins.0 one.begins.0 in
-    let found : Body (length body) reads.closes ≡ Body (length (body_of batch)) true = sym reads.finding ∙ ap (finding_of c.target.path c.max_body) same.0 ∙ one.finding in
-    whole_front (body_of batch) body reads.left same.1 (let len : length body ≡ length (body_of batch) = cc in len)
+    let intake : Intake = record { limit = c.max_body; snappy = reads.snappy } in
+    let one = subst (λ (bytes : List ℕ). IsOneRequest c.target.path intake bytes (body_of batch)) (sym is) (requests c.target.host c.target.path (body_of batch) intake sound.host sound.path (omega (arith, short, small)) short) in
+    let same = request_unique request reads.head one.head (reads.sent ++ reads.left) one.body reads.begins.0 one.begins.0 in
+    let found : Body (length reads.sent) reads.closes reads.coding ≡ Body (length one.body) true one.coding = sym reads.finding ∙ ap (finding_of c.target.path intake) same.0 ∙ one.finding in
+    let sent = whole_front one.body reads.sent reads.left same.1 (let len : length reads.sent ≡ length one.body = cc in len) in
+    let coding : reads.coding ≡ one.coding = cc in
+    let told : Ok body ≡ Ok (body_of batch) = sym reads.holds ∙ ap (λ (k : Coding). text_of k reads.sent) coding ∙ ap (text_of one.coding) sent ∙ one.holds in
+    cc
 
 -- ---- a log and a store
 lies-still : (store : Store) (left : Segments) → SaysWhat left store → LiesBetween store store left

@@ -1,6 +1,6 @@
 -- A receiver whose head is kept in a journal, from its first start to its last one. The requests of
 -- the workers of many runs come to it, and after each crash it is opened from what this left.
-use Rattle.std.specs.Prelude.{◌≡◌, ◌≢◌, ◌⊎◌, ℕ, zero, suc, ◌<◌, ◌≤◌, ◌^◌, Bool, true, List, [], ◌++◌, length, map, None, Some, slice_get}
+use Rattle.std.specs.Prelude.{◌≡◌, ◌≢◌, ◌⊎◌, ℕ, zero, suc, ◌<◌, ◌≤◌, ◌^◌, Bool, true, List, [], ◌++◌, length, map, None, Some, Ok, slice_get}
 use Rattle.httparse.specs.Grammar.{RequestHead}
 use Rattle.std.specs.FinMap.{empty}
 use Rattle.rw_types.specs.Labels.{Labels}
@@ -13,8 +13,10 @@ use Rattle.rw_worker.specs.Transcript.{Exchange}
 use Rattle.rw_head.specs.Head.{answer}
 use Rattle.rw_head.specs.Store.{Store}
 use Rattle.rw_head.specs.Verdicts.{LabelLimits}
+use Rattle.rw_endpoint.specs.Coding.{text_of}
 use Rattle.rw_endpoint.specs.Judgement.{finding_of}
 use Rattle.rw_endpoint.specs.Reading.{BeginsWithHead}
+use Rattle.rw_endpoint.specs.declared.coding.Coding.{Coding}
 use Rattle.rw_endpoint.specs.declared.finding.Finding.TheVariants.{Body}
 use Rattle.rw_machine.specs.Worlds.{Setup}
 use Rattle.rw_machine.specs.declared.event.How.{How}
@@ -40,13 +42,17 @@ wire_state s = record { head = s.kept.head; acknowledged = s.acknowledged }
 
 -- The endpoint reads this body in the bytes of a request, as `serve` says of each request that it
 -- answers (`IsRequestAnswered`): they begin with a head that refuses nothing and asks for so many
--- bytes, and these follow.
+-- bytes, and these follow. They hold the body in a coding that the endpoint takes.
 pub record ReadsBody (path : List ℕ) (limit : ℕ) (request body : List ℕ) : Type 0 where
   pub head : RequestHead
+  pub sent : List ℕ
   pub left : List ℕ
   pub closes : Bool
-  pub begins : BeginsWithHead request head (body ++ left)
-  pub finding : finding_of path limit head ≡ Body (length body) closes
+  pub snappy : Bool
+  pub coding : Coding
+  pub begins : BeginsWithHead request head (sent ++ left)
+  pub finding : finding_of path (record { limit = limit; snappy = snappy }) head ≡ Body (length sent) closes coding
+  pub holds : text_of coding sent ≡ Ok body
 
 -- what the types of the settings say: the target is one to which requests can be made, and a body
 -- that the receiver takes has fewer than 2^63 bytes

@@ -15,9 +15,11 @@ use Rattle.httparse.specs.Spans.{name_and_value}
 use Rattle.httparse.proofs.TrimLemmas.{trim_ows_space, AllPass-reverse}
 use Rattle.rw_endpoint.specs.Fields.{NameValue, has_field, each_value}
 use Rattle.rw_endpoint.specs.Judgement.{finding_of, body_finding, closes_after}
-use Rattle.rw_endpoint.specs.Values.{announced, length_value, is_length, is_some_length, agreed, is_protobuf, is_identity}
+use Rattle.rw_endpoint.specs.Values.{announced, length_value, is_length, is_some_length, agreed, is_protobuf, is_coding}
 use Rattle.rw_endpoint.specs.declared.finding.Finding.{Finding}
 use Rattle.rw_endpoint.specs.declared.finding.Finding.TheVariants.{Refused, Body}
+use Rattle.rw_endpoint.specs.declared.coding.Coding.TheVariants.{Plain}
+use Rattle.rw_endpoint.specs.declared.intake.Intake.{Intake}
 use Rattle.rw_roundtrip.proofs.Heads.{head_of, fields_of}
 use Rattle.rw_roundtrip.proofs.ByteLemmas.{AreDigits, decimal_is_digits, no_ows}
 
@@ -36,7 +38,7 @@ pub named_fields : (host digits : List ℕ) → map name_and_value (fields_of ho
 unfolding trim_ows
 named_fields host digits = refl
 
-identity : (host value : List ℕ) → each_value (codes "content-encoding") is_identity (named host value) ≡ true
+identity : (host value : List ℕ) → each_value (codes "content-encoding") (is_coding (codes "identity")) (named host value) ≡ true
 identity host value = refl
 
 protobuf : (host value : List ℕ) → each_value (codes "content-type") is_protobuf (named host value) ≡ true
@@ -81,32 +83,32 @@ agreed_length host value n e =
     ap (λ (o : Option ℕ). agreed o (named host value)) e ∙ cond-true _ _ _ (each_length host value n e)
 
 -- what is found of the head, whose fields are these
-abbrev judged : List ℕ → ℕ → List NameValue → Finding
-judged path limit fields =
+abbrev judged : List ℕ → Intake → List NameValue → Finding
+judged path intake fields =
     if not (bytes_eq path path) then Refused 404
     else if has_field (codes "transfer-encoding") fields || not (has_field (codes "content-length") fields) then Refused 411
-    else body_finding limit 1 fields (announced fields)
+    else body_finding intake 1 fields (announced fields)
 
-judged_named : (path host value : List ℕ) (limit n : ℕ) → length_value value ≡ Some n →
-    judged path limit (named host value) ≡ body_finding limit 1 (named host value) (Some n)
-judged_named path host value limit n e =
+judged_named : (path host value : List ℕ) (intake : Intake) (n : ℕ) → length_value value ≡ Some n →
+    judged path intake (named host value) ≡ body_finding intake 1 (named host value) (Some n)
+judged_named path host value intake n e =
     let same : bytes_eq path path ≡ true = (bytes_eq-Decides path path).1 refl in
-    rw same (ap (body_finding limit 1 (named host value)) (agreed_length host value n e))
+    rw same (ap (body_finding intake 1 (named host value)) (agreed_length host value n e))
 
-pub found : (host path : List ℕ) (limit n : ℕ) → n < 2 ^ 63 →
-    finding_of path limit (head_of host path (decimal n)) ≡ body_finding limit 1 (named (trim_ows (32 ∷ host)) (decimal n)) (Some n)
-found host path limit n h =
+pub found : (host path : List ℕ) (intake : Intake) (n : ℕ) → n < 2 ^ 63 →
+    finding_of path intake (head_of host path (decimal n)) ≡ body_finding intake 1 (named (trim_ows (32 ∷ host)) (decimal n)) (Some n)
+found host path intake n h =
     let value = trim_ows (32 ∷ host) in
     let fields : map name_and_value (fields_of host (decimal n)) ≡ named value (decimal n) =
     named_fields host (decimal n) ∙ ap (named value) (trim_digits (decimal n) (decimal_is_digits n h).all) in
-    ap (judged path limit) fields ∙ judged_named path value (decimal n) limit n (length_of n h)
+    ap (judged path intake) fields ∙ judged_named path value (decimal n) intake n (length_of n h)
 
 -- a body within the limit is asked for, and the connection closes
-pub asked : (host value : List ℕ) (limit n : ℕ) → n ≤ limit → body_finding limit 1 (named host value) (Some n) ≡ Body n true
-asked host value limit n h =
-    let within : nat_lt limit n ≡ false = le-ltb limit n h in
+pub asked : (host value : List ℕ) (intake : Intake) (n : ℕ) → n ≤ intake.limit → body_finding intake 1 (named host value) (Some n) ≡ Body n true Plain
+asked host value intake n h =
+    let within : nat_lt intake.limit n ≡ false = le-ltb intake.limit n h in
     rw (within, identity host value, protobuf host value, closing host value)
 
 -- a longer one is too large
-pub too_large : (host value : List ℕ) (limit n : ℕ) → limit < n → body_finding limit 1 (named host value) (Some n) ≡ Refused 413
-too_large host value limit n h = cond-true _ _ _ (lt-ltb limit n h)
+pub too_large : (host value : List ℕ) (intake : Intake) (n : ℕ) → intake.limit < n → body_finding intake 1 (named host value) (Some n) ≡ Refused 413
+too_large host value intake n h = cond-true _ _ _ (lt-ltb intake.limit n h)

@@ -4,10 +4,11 @@ use Rattle.std.specs.Prelude.{◌≡◌, ℕ, ◌⊎◌, List, IsTrue, Result, O
 use Rattle.std.specs.declared.alloc.AllocError.{AllocError}
 use Rattle.rw_endpoint.specs.Alone.{IsOneRequest, IsOneRefusal}
 use Rattle.rw_endpoint.specs.Replies.{is_verdict}
+use Rattle.rw_endpoint.specs.declared.intake.Intake.{Intake}
 
 -- one request with its body, or one that its head refuses
-abbrev pub IsRequest : List ℕ → ℕ → List ℕ → Type 0
-IsRequest path limit input = ((body : List ℕ) × IsOneRequest path limit input body) ⊎ ((status : ℕ) × IsOneRefusal path limit input status)
+abbrev pub IsRequest : List ℕ → Intake → List ℕ → Type 0
+IsRequest path intake input = ((body : List ℕ) × IsOneRequest path intake input body) ⊎ ((status : ℕ) × IsOneRefusal path intake input status)
 
 -- the body was answered with this status; or memory ran out, and nothing was asked
 abbrev pub IsExchanged : {S : Type 0} → (S → List ℕ → ℕ → S → Type 0) → List ℕ → S → Result ℕ AllocError → S → Type 0

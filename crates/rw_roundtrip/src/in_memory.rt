@@ -2,6 +2,7 @@
 
 ghost use Rattle.std.specs.Prelude.{ℕ, List};
 ghost use Rattle.rw_endpoint.specs.Alone.{IsOneRequest, IsOneRefusal};
+ghost use Rattle.rw_endpoint.specs.Coding.{intake_of};
 ghost use Rattle.rw_roundtrip.specs.Exchanges.{IsRequest, IsExchanged, IsRefusedUnasked};
 
 use rw_endpoint::{Answer, ServeEnd, serve};
@@ -23,12 +24,12 @@ pub fn exchange<A: Answer>(
     answer: &mut A,
     limits: &Limits,
 ) -> Result<u16, AllocError>
-    requires { IsRequest limits.now.path limits.now.max_body_bytes request.now }
+    requires { IsRequest limits.now.path (intake_of limits.now) request.now }
     ensures answered { (body : List ℕ)
-        → IsOneRequest limits.now.path limits.now.max_body_bytes request.now body
+        → IsOneRequest limits.now.path (intake_of limits.now) request.now body
         → IsExchanged A.answers body answer.old result answer.new }
     ensures refused { (status : ℕ)
-        → IsOneRefusal limits.now.path limits.now.max_body_bytes request.now status
+        → IsOneRefusal limits.now.path (intake_of limits.now) request.now status
         → IsRefusedUnasked status answer.old result answer.new }
 {
     let mut reader = request;

@@ -9,22 +9,24 @@ ghost use Rattle.rw_shard_core.specs.declared.replies.ReplyRead.TheVariants.{Sta
 ghost use Rattle.rw_endpoint.specs.Alone.{IsOneRequest, IsOneRefusal};
 ghost use Rattle.rw_endpoint.specs.Judgement.{is_refusal};
 ghost use Rattle.rw_endpoint.specs.Replies.{reply_bytes, is_verdict};
+ghost use Rattle.rw_endpoint.specs.declared.intake.Intake.{Intake};
 ghost use Rattle.rw_roundtrip.specs.Exchanges.{IsRequest};
 
 /// Law: the endpoint reads a request as the sender makes it, as one request with the body that it
-/// carries; if that is over the limit, it answers 413.
+/// carries; if that is over the limit, it answers 413. So it does whether it takes Snappy blocks or
+/// not.
 pub fn requests_are_read()
-    ensures read { (host path body : List ℕ) (limit : ℕ) → is_host_name host ≡ true
+    ensures read { (host path body : List ℕ) (intake : Intake) → is_host_name host ≡ true
         → is_request_path path ≡ true
-        → length body < 2 ^ 63 → length body ≤ limit
-        → IsOneRequest path limit (request_of host path body) body }
-    ensures refused { (host path body : List ℕ) (limit : ℕ) → is_host_name host ≡ true
+        → length body < 2 ^ 63 → length body ≤ intake.limit
+        → IsOneRequest path intake (request_of host path body) body }
+    ensures refused { (host path body : List ℕ) (intake : Intake) → is_host_name host ≡ true
         → is_request_path path ≡ true
-        → length body < 2 ^ 63 → limit < length body
-        → IsOneRefusal path limit (request_of host path body) 413 }
-    ensures either { (host path body : List ℕ) (limit : ℕ) → is_host_name host ≡ true
+        → length body < 2 ^ 63 → intake.limit < length body
+        → IsOneRefusal path intake (request_of host path body) 413 }
+    ensures either { (host path body : List ℕ) (intake : Intake) → is_host_name host ≡ true
         → is_request_path path ≡ true
-        → length body < 2 ^ 63 → IsRequest path limit (request_of host path body) }
+        → length body < 2 ^ 63 → IsRequest path intake (request_of host path body) }
 {}
 
 /// Law: the sender reads each reply of the endpoint that closes as its status.

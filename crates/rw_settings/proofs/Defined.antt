@@ -1,8 +1,9 @@
 -- The document that the expressions of settings define.
-use Rattle.std.proofs.Common.{◌≡◌, List, [], ◌∷◌, ◌++◌, flat_map, codes, Option, Some, refl}
+use Rattle.std.proofs.Common.{◌≡◌, ℕ, List, [], ◌∷◌, ◌++◌, flat_map, codes, Bool, true, false, Option, Some, refl}
 use Rattle.toml.specs.Data.{array, table, Items, no_items, item, push_item, Members, no_members, member}
 use Rattle.toml.specs.Tables.{value, open_table, open_array, header, Nodes, no_nodes, node, insert, close, Expression, Document, define, along_header, along_dots, at_key}
 use Rattle.toml.proofs.ReadLines.{run}
+use Rattle.rw_types.specs.declared.names.Names.{Names}
 use Rattle.rw_relabel.specs.Rules.{RuleConfig}
 use Rattle.rw_shard_core.specs.declared.config.ConfigFields.{ConfigFields}
 use Rattle.rw_head.specs.declared.limits.Limits.{Limits}
@@ -67,11 +68,18 @@ send_defined : (send : ConfigFields) (es : List Expression) → run (no_nodes, [
 unfolding define along_header along_dots at_key
 send_defined send es = refl
 
+receive_defined_as : (send : ConfigFields) (path : List ℕ) (body labels bytes busy : ℕ) (names : Names) (snappy : Bool) (es : List Expression)
+    → let limits : Limits = record { path = path; max_body_bytes = body; max_labels = labels; max_label_bytes = bytes; busy_first = busy; names = names; snappy = snappy } in
+    run (node (codes "send") (open_table header (send_nodes send)) no_nodes, codes "send" ∷ []) (receive_expressions limits ++ es)
+    ≡ run (without_rules send limits, codes "receive" ∷ []) es
+unfolding define along_header along_dots at_key
+receive_defined_as send path body labels bytes busy names true es = refl
+receive_defined_as send path body labels bytes busy names false es = refl
+
 receive_defined : (send : ConfigFields) (limits : Limits) (es : List Expression)
     → run (node (codes "send") (open_table header (send_nodes send)) no_nodes, codes "send" ∷ []) (receive_expressions limits ++ es)
     ≡ run (without_rules send limits, codes "receive" ∷ []) es
-unfolding define along_header along_dots at_key
-receive_defined send limits es = refl
+receive_defined send limits es = receive_defined_as send limits.path limits.max_body_bytes limits.max_labels limits.max_label_bytes limits.busy_first limits.names limits.snappy es
 
 first_rule_defined : (send : ConfigFields) (limits : Limits) (rule : RuleConfig) (es : List Expression)
     → run (without_rules send limits, codes "receive" ∷ []) (rule_expressions rule ++ es) ≡ run (with_last send limits no_items (rule_nodes rule), codes "rule" ∷ []) es

@@ -13,11 +13,11 @@ use Rattle.rw_shard_core.specs.Configs.{is_ordered}
 use Rattle.rw_shard_core.specs.declared.config.ConfigFields.{ConfigFields}
 use Rattle.rw_head.specs.declared.limits.Limits.{Limits}
 use Rattle.rw_settings.specs.Faults.{lesser, least}
-use Rattle.rw_settings.specs.Receiving.{receive_limits, receive_fault, receive_values}
-use Rattle.rw_settings.specs.Keys.{Row, host, path, shards, min_shards, max_shards, capacity, batch, min_backoff_ms, max_backoff_ms, timeout_ms, max_body_bytes, max_labels, max_label_bytes, busy_first, send_keys, receive_keys, number_for, number_setting, table_fault}
+use Rattle.rw_settings.specs.Receiving.{receive_limits, receive_fault, switch_values, receive_values}
+use Rattle.rw_settings.specs.Keys.{Row, host, path, shards, min_shards, max_shards, capacity, batch, min_backoff_ms, max_backoff_ms, timeout_ms, max_body_bytes, max_labels, max_label_bytes, busy_first, snappy, send_keys, receive_keys, number_for, number_setting, switch_setting, table_fault}
 use Rattle.rw_settings.specs.RuleTables.{rule_table_fault, rule_fault_of, with_rules_fault, texts_of, rule_config, rules_of}
 use Rattle.rw_settings.specs.Sending.{send_fields, order_fault, send_fault, send_values}
-use Rattle.rw_settings.specs.Values.{Setting, of_number, of_text, of_texts, names_text, are_texts, labels_fault, source_fault, number_at, text_if, text_setting, names_in, found_or, part_or, list_at}
+use Rattle.rw_settings.specs.Values.{Setting, of_number, of_true, of_text, of_texts, names_text, are_texts, labels_fault, source_fault, number_at, text_if, text_setting, names_in, found_or, part_or, list_at}
 use Rattle.rw_settings.specs.declared.fault.SettingsFault.{SettingsFault}
 use Rattle.rw_settings.specs.declared.keys.Kind.{Kind}
 use Rattle.rw_settings.proofs.DocumentLemmas.{lesser_none, least_none}
@@ -54,11 +54,12 @@ passes _ t = true
 -- a key takes the setting, and it fits 64 signed bits
 abbrev Suits : Setting → Kind → Type 0
 Suits (of_number n) kind = IsNumber kind n × (n < 2 ^ 63)
+Suits of_true kind = Unit {0}
 Suits (of_text t) kind = passes kind t ≡ true
 Suits (of_texts ts) kind = Unit {0}
 
 abbrev pub AllSuit : List Setting → List Row → Type 0
-AllSuit [] [] = Unit {0}
+AllSuit [] rows = Unit {0}
 AllSuit (s ∷ settings) (row ∷ rows) = Suits s row.1 × AllSuit settings rows
 AllSuit _ _ = ⊥
 
@@ -97,12 +98,17 @@ send_taken ms rules h = record {
 abbrev pub LimitsTaken : Limits → Type 0
 LimitsTaken limits = AllSuit (receive_values limits) receive_keys
 
+switches_suit : (on : Bool) → AllSuit (switch_values on) (snappy ∷ [])
+switches_suit true = (tt, tt)
+switches_suit false = tt
+
 pub limits_taken : (ms : Members) → LimitsTaken (receive_limits ms)
 unfolding receive_limits
-limits_taken ms = (text_taken is_request_path (codes "/api/v1/write") (get_member path.0 ms) refl, (number_row max_body_bytes ms refl, (number_row max_labels ms refl, (number_row max_label_bytes ms refl, (number_row busy_first ms refl, (refl, tt))))))
+limits_taken ms = (text_taken is_request_path (codes "/api/v1/write") (get_member path.0 ms) refl, (number_row max_body_bytes ms refl, (number_row max_labels ms refl, (number_row max_label_bytes ms refl, (number_row busy_first ms refl, (refl, switches_suit (switch_setting snappy ms)))))))
 
 fit : (s : Setting) (kind : Kind) → Suits s kind → Fits s
 fit (of_number n) kind suits = suits.1
+fit of_true kind suits = tt
 fit (of_text t) kind suits = tt
 fit (of_texts ts) kind suits = tt
 
@@ -128,15 +134,29 @@ send_judged send t =
     let (on, (at, (a, (b, (c, (d, (e, (f, (g, (h, more)))))))))) = t.suits in
     rw (on, at, a.0, b.0, c.0, d.0, e.0, f.0, g.0, h.0, names_read send.names, t.ordered) refl
 
-pub limits_same : (limits : Limits) → LimitsTaken limits → receive_limits (receive_members limits) ≡ limits
+limits_same_as : (path : List ℕ) (body labels bytes busy : ℕ) (names : Names) (snappy : Bool)
+    → let limits : Limits = record { path = path; max_body_bytes = body; max_labels = labels; max_label_bytes = bytes; busy_first = busy; names = names; snappy = snappy } in
+    LimitsTaken limits → receive_limits (receive_members limits) ≡ limits
 unfolding receive_limits
-limits_same limits (at, (a, (b, (c, (d, more))))) =
-    rw (at, a.0, b.0, c.0, d.0, names_read limits.names) refl
+limits_same_as path body labels bytes busy names true (at, (a, (b, (c, (d, more))))) =
+    rw (at, a.0, b.0, c.0, d.0, names_read names) refl
+limits_same_as path body labels bytes busy names false (at, (a, (b, (c, (d, more))))) =
+    rw (at, a.0, b.0, c.0, d.0, names_read names) refl
+
+pub limits_same : (limits : Limits) → LimitsTaken limits → receive_limits (receive_members limits) ≡ limits
+limits_same limits taken = limits_same_as limits.path limits.max_body_bytes limits.max_labels limits.max_label_bytes limits.busy_first limits.names limits.snappy taken
+
+limits_judged_as : (path : List ℕ) (body labels bytes busy : ℕ) (names : Names) (snappy : Bool)
+    → let limits : Limits = record { path = path; max_body_bytes = body; max_labels = labels; max_label_bytes = bytes; busy_first = busy; names = names; snappy = snappy } in
+    LimitsTaken limits → receive_fault (receive_members limits) ≡ None
+unfolding table_fault least
+limits_judged_as path body labels bytes busy names true (at, (a, (b, (c, (d, more))))) =
+    rw (at, a.0, b.0, c.0, d.0, names_read names) refl
+limits_judged_as path body labels bytes busy names false (at, (a, (b, (c, (d, more))))) =
+    rw (at, a.0, b.0, c.0, d.0, names_read names) refl
 
 pub limits_judged : (limits : Limits) → LimitsTaken limits → receive_fault (receive_members limits) ≡ None
-unfolding table_fault least
-limits_judged limits (at, (a, (b, (c, (d, more))))) =
-    rw (at, a.0, b.0, c.0, d.0, names_read limits.names) refl
+limits_judged limits taken = limits_judged_as limits.path limits.max_body_bytes limits.max_labels limits.max_label_bytes limits.busy_first limits.names limits.snappy taken
 
 -- ---- rules
 

@@ -1,13 +1,15 @@
 -- The expressions of settings are such as the crate of TOML reads back.
-use Rattle.std.proofs.Common.{◌≡◌, ℕ, ◌≤◌, List, [], ◌∷◌, ◌++◌, flat_map, true, refl, arith}
+use Rattle.std.proofs.Common.{◌≡◌, ℕ, ◌≤◌, List, [], ◌∷◌, ◌++◌, flat_map, Bool, true, false, refl, arith}
 use Rattle.toml.specs.Data.{items_depth, items_have_valid_dates}
 use Rattle.toml.specs.Tables.{Expression}
 use Rattle.toml.proofs.ReadLines.{AllPrinted}
 use Rattle.rw_relabel.specs.Rules.{RuleConfig}
 use Rattle.rw_shard_core.specs.declared.config.ConfigFields.{ConfigFields}
 use Rattle.rw_head.specs.declared.limits.Limits.{Limits}
+use Rattle.rw_settings.specs.Keys.{Row, snappy}
+use Rattle.rw_settings.specs.Receiving.{switch_values}
 use Rattle.rw_settings.specs.declared.settings.Settings.{Settings}
-use Rattle.rw_settings.proofs.Written.{text_items, send_expressions, receive_expressions, rule_expressions}
+use Rattle.rw_settings.proofs.Written.{text_items, pairs_of, send_expressions, receive_expressions, rule_expressions}
 use Rattle.rw_settings.proofs.Defined.{settings_expressions}
 
 -- what a number or a text has: no path, no depth, no date
@@ -20,8 +22,12 @@ scalar = (refl, omega arith, refl)
 send_printed : (send : ConfigFields) → AllPrinted (send_expressions send)
 send_printed send = (omega arith, (scalar, (scalar, (scalar, (scalar, (scalar, (scalar, (scalar, (scalar, (scalar, (scalar, (scalar, tt))))))))))))
 
+switch_printed : (row : Row) (on : Bool) → AllPrinted (pairs_of (row ∷ []) (switch_values on))
+switch_printed row true = (scalar, tt)
+switch_printed row false = tt
+
 receive_printed : (limits : Limits) → AllPrinted (receive_expressions limits)
-receive_printed limits = (omega arith, (scalar, (scalar, (scalar, (scalar, (scalar, (scalar, tt)))))))
+receive_printed limits = (omega arith, (scalar, (scalar, (scalar, (scalar, (scalar, (scalar, switch_printed snappy limits.snappy)))))))
 
 items_depth-texts : (ts : List (List ℕ)) → items_depth (text_items ts) ≡ 0
 items_depth-texts [] = refl

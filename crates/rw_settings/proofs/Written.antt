@@ -2,7 +2,7 @@
 use Rattle.std.proofs.Common.{◌≡◌, ℕ, ◌^◌, ◌<◌, pos, List, [], ◌∷◌, ◌++◌, flat_map, codes, Bool, true, false, refl, sym, ap, append_assoc, arith}
 use Rattle.std.specs.List.{concat, AllByRecursion}
 use Rattle.toml_writer.specs.Text.{string_text, key_text}
-use Rattle.toml.specs.Data.{Data, string, integer, array, Items, no_items, item}
+use Rattle.toml.specs.Data.{Data, string, integer, boolean, array, Items, no_items, item}
 use Rattle.toml.specs.Tables.{Expression, key_value, std_table, array_table}
 use Rattle.toml.specs.Text.{breaks_lines, IsValueText, IsItemsText, IsLineText, IsLinesText}
 use Rattle.rw_relabel.specs.Rules.{RuleConfig}
@@ -13,7 +13,7 @@ use Rattle.rw_settings.specs.Receiving.{receive_values}
 use Rattle.rw_settings.specs.RuleTables.{rule_values}
 use Rattle.rw_settings.specs.Sending.{send_values}
 use Rattle.rw_settings.specs.SettingsText.{setting_value_text, pair_line, list_text, lines_of, send_lines, send_text, receive_lines, receive_text, rule_lines, rule_text}
-use Rattle.rw_settings.specs.Values.{Setting, of_number, of_text, of_texts}
+use Rattle.rw_settings.specs.Values.{Setting, of_number, of_true, of_text, of_texts}
 
 -- a line of a table
 abbrev pub pair : List ℕ → Data → Expression
@@ -26,6 +26,7 @@ text_items (t ∷ ts) = item (string t) (text_items ts)
 
 abbrev pub data_of : Setting → Data
 data_of (of_number n) = integer (pos n)
+data_of of_true = boolean true
 data_of (of_text t) = string t
 data_of (of_texts ts) = array (text_items ts)
 
@@ -107,6 +108,7 @@ Fits _ = Unit {0}
 
 value_written : (s : Setting) → Fits s → IsValueText false (data_of s) (setting_value_text s)
 value_written (of_number n) fits = (refl, record { sfits = omega arith })
+value_written of_true fits = refl
 value_written (of_text t) fits = refl
 value_written (of_texts ts) fits = list_written ts
 
@@ -129,7 +131,7 @@ send_written send fits =
 pub receive_written : (limits : Limits) → AllByRecursion Fits (receive_values limits) → IsLinesText false true (receive_expressions limits) (receive_text limits)
 unfolding receive_text key_text
 receive_written limits fits =
-    let bare : AllByRecursion IsBare receive_keys = (refl, (refl, (refl, (refl, (refl, (refl, tt)))))) in
+    let bare : AllByRecursion IsBare receive_keys = (refl, (refl, (refl, (refl, (refl, (refl, (refl, tt))))))) in
     lines_text true (receive_expressions limits) (receive_lines limits) (refl, pairs_written receive_keys (receive_values limits) bare fits)
 
 rule_written : (rule : RuleConfig) → IsLinesText false true (rule_expressions rule) (rule_text rule)

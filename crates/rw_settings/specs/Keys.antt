@@ -1,6 +1,6 @@
 -- The settings: the keys of each table in the order in which they are printed, what each takes, and
 -- the defaults of numbers.
-use Rattle.std.specs.Prelude.{ℕ, List, [], ◌∷◌, map, Bool, true, ◌&&◌, Option, Some, None, codes, if◌then◌else◌}
+use Rattle.std.specs.Prelude.{ℕ, List, [], ◌∷◌, map, Bool, true, false, ◌&&◌, Option, Some, None, codes, if◌then◌else◌}
 use Rattle.std.specs.List.{list_any}
 use Rattle.std.specs.Result.{result_err}
 use Rattle.std.specs.Str.{bytes_eq}
@@ -9,7 +9,7 @@ use Rattle.rw_types.specs.Requests.{is_host_name, is_request_path}
 use Rattle.rw_types.specs.declared.names.Names.{Names}
 use Rattle.rw_types.specs.declared.names.Names.TheVariants.{Legacy}
 use Rattle.rw_settings.specs.Faults.{least}
-use Rattle.rw_settings.specs.Values.{number_at, text_setting, any_text, names_at, action_fault, source_fault, found_or}
+use Rattle.rw_settings.specs.Values.{number_at, switch_at, text_setting, any_text, names_at, action_fault, source_fault, found_or}
 use Rattle.rw_settings.specs.declared.fault.SettingsFault.{SettingsFault}
 use Rattle.rw_settings.specs.declared.fault.SettingsFault.TheVariants.{UnknownKey}
 use Rattle.rw_settings.specs.declared.keys.Kind.{Kind}
@@ -73,8 +73,11 @@ max_label_bytes = (codes "max_label_bytes", Kind.Number 1 16384 16384)
 abbrev pub busy_first : Row
 busy_first = (codes "busy_first", Kind.Number 0 1000000 0)
 
+abbrev pub snappy : Row
+snappy = (codes "snappy", Kind.Switch)
+
 abbrev pub receive_keys : List Row
-receive_keys = path ∷ max_body_bytes ∷ max_labels ∷ max_label_bytes ∷ busy_first ∷ names ∷ []
+receive_keys = path ∷ max_body_bytes ∷ max_labels ∷ max_label_bytes ∷ busy_first ∷ names ∷ snappy ∷ []
 
 abbrev pub rule_keys : List Row
 rule_keys =
@@ -98,6 +101,9 @@ path_of table = found_or (codes "/api/v1/write") (text_setting is_request_path (
 abbrev pub names_setting : Members → Names
 names_setting table = found_or Legacy (names_at (get_member (codes "names") table))
 
+abbrev pub switch_setting : Row → Members → Bool
+switch_setting row table = found_or false (switch_at (get_member row.0 table))
+
 -- ---- what is wrong with a table
 
 -- each key of a table is one of these
@@ -113,6 +119,7 @@ fault_for Kind.Host value = result_err (text_setting is_host_name value)
 fault_for Kind.Path value = result_err (text_setting is_request_path value)
 fault_for (Kind.Number low high default) value = result_err (number_at low high value)
 fault_for Kind.Names value = result_err (names_at value)
+fault_for Kind.Switch value = result_err (switch_at value)
 fault_for Kind.Action value = action_fault value
 fault_for Kind.Labels value = source_fault value
 fault_for Kind.Text value = result_err (text_setting any_text value)

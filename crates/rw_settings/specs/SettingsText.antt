@@ -9,7 +9,7 @@ use Rattle.rw_settings.specs.Keys.{Row, send_keys, receive_keys, rule_keys}
 use Rattle.rw_settings.specs.Receiving.{receive_values}
 use Rattle.rw_settings.specs.RuleTables.{rule_values}
 use Rattle.rw_settings.specs.Sending.{send_values}
-use Rattle.rw_settings.specs.Values.{Setting, of_number, of_text, of_texts}
+use Rattle.rw_settings.specs.Values.{Setting, of_number, of_true, of_text, of_texts}
 use Rattle.rw_settings.specs.declared.settings.Settings.{Settings}
 
 -- `KEY = VALUE`
@@ -22,6 +22,7 @@ list_text texts = codes "[" ++ (join_by string_text (codes ", ") texts ++ codes 
 
 abbrev pub setting_value_text : Setting → List ℕ
 setting_value_text (of_number n) = decimal n
+setting_value_text of_true = codes "true"
 setting_value_text (of_text t) = string_text t
 setting_value_text (of_texts ts) = list_text ts
 

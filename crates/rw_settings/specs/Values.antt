@@ -1,7 +1,7 @@
 -- What is at a key: nothing, a value of its type and in its range, or a fault.
 use Rattle.std.specs.Prelude.{ℕ, ℤ, pos, negsuc, List, Bool, true, ◌&&◌, ◌||◌, nat_le, is_some, Option, Some, None, Result, Ok, Err, codes, if◌then◌else◌}
 use Rattle.std.specs.Str.{bytes_eq}
-use Rattle.toml.specs.Data.{Data, as_integer, as_str, as_table, as_array, Members, no_members, Items, no_items, item}
+use Rattle.toml.specs.Data.{Data, as_integer, as_bool, as_str, as_table, as_array, Members, no_members, Items, no_items, item}
 use Rattle.rw_types.specs.declared.names.Names.{Names}
 use Rattle.rw_types.specs.declared.names.Names.TheVariants.{Legacy, Utf8}
 use Rattle.rw_settings.specs.declared.fault.SettingsFault.{SettingsFault}
@@ -28,6 +28,15 @@ text_if test (Some text) = if test text then Ok (Some text) else Err OutOfRange
 abbrev pub text_setting : (List ℕ → Bool) → Option Data → Result (Option (List ℕ)) SettingsFault
 text_setting test None = Ok None
 text_setting test (Some value) = text_if test (as_str value)
+
+-- a switch
+abbrev pub switch_if : Option Bool → Result (Option Bool) SettingsFault
+switch_if None = Err WrongType
+switch_if (Some on) = Ok (Some on)
+
+abbrev pub switch_at : Option Data → Result (Option Bool) SettingsFault
+switch_at None = Ok None
+switch_at (Some value) = switch_if (as_bool value)
 
 -- any text
 abbrev pub any_text : List ℕ → Bool
@@ -100,8 +109,9 @@ abbrev pub part_or : {A : Type 0} → A → Option A → A
 part_or empty None = empty
 part_or empty (Some part) = part
 
--- the value of a setting
+-- the value of a setting; a switch has one if it is on
 pub data Setting : Type 0 where
   of_number : ℕ → Setting
+  of_true : Setting
   of_text : List ℕ → Setting
   of_texts : List (List ℕ) → Setting

@@ -16,6 +16,8 @@ pub(crate) enum Kind {
     Number(u64, u64, u64),
     /// Which names of labels are valid.
     Names,
+    /// Whether something is done.
+    Switch,
     /// The action of a rule.
     Action,
     /// A list of texts that is not empty.
@@ -101,13 +103,18 @@ pub(crate) const BUSY_FIRST: Key = Key("busy_first", Kind::Number(0, 1_000_000, 
 /// Which [names](#names) of labels are taken.
 pub(crate) const RECEIVE_NAMES: Key = Key("names", Kind::Names);
 
-static RECEIVE: [Key; 6] = [
+/// Whether bodies with `Content-Encoding: snappy` are taken, too, as Prometheus sends them.
+/// [`--snappy`](OPERATING.md#running-a-receiver) sets it.
+pub(crate) const SNAPPY: Key = Key("snappy", Kind::Switch);
+
+static RECEIVE: [Key; 7] = [
     RECEIVE_PATH,
     MAX_BODY_BYTES,
     MAX_LABELS,
     MAX_LABEL_BYTES,
     BUSY_FIRST,
     RECEIVE_NAMES,
+    SNAPPY,
 ];
 
 /// What the rule does with the series that it matches.

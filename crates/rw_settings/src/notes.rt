@@ -120,6 +120,7 @@ fn push_takes(alloc: Global, text: &mut String, kind: &Kind) -> Result<(), Alloc
             return text.push_str(range.as_str());
         }
         Kind::Names => "'legacy' or 'utf8'",
+        Kind::Switch => "true or false",
         Kind::Action => "'keep' or 'drop'",
         Kind::Labels => "a list of strings, at least one",
         Kind::Text => "a string",

@@ -1,9 +1,10 @@
 //! Lines of a table: keys and their values.
 
-ghost use Rattle.std.specs.Prelude.{◌≡◌, ◌++◌, ◌≤◌, length, map, codes, string_bytes, IfOk, OnOk};
+ghost use Rattle.std.specs.Prelude.{◌≡◌, [], ◌∷◌, ◌++◌, ◌≤◌, length, map, codes, string_bytes, IfOk, OnOk};
 ghost use Rattle.std.specs.List.{concat, join_by};
 ghost use Rattle.toml_writer.specs.Text.{string_text};
 ghost use Rattle.rw_settings.specs.inner.Keys.{row_of};
+ghost use Rattle.rw_settings.specs.Receiving.{switch_values};
 ghost use Rattle.rw_settings.specs.Values.{names_text};
 ghost use Rattle.rw_settings.specs.SettingsText.{pair_line, setting_value_text, lines_of, list_text};
 ghost use Rattle.rw_settings.specs.inner.SettingsText.{setting_of};
@@ -112,6 +113,17 @@ fn push_shown(
         Shown::Text(text) => push_pair(out, key.0, quoted(alloc, text)?.as_str()),
         Shown::Texts(texts) => push_pair(out, key.0, list(alloc, texts)?.as_str()),
     }
+}
+
+/// Adds a line for a switch that is on, with its key.
+pub(crate) fn push_switch(out: &mut String, key: &Key, on: bool) -> Result<(), AllocError>
+    ensures { OnOk result (string_bytes out.new ≡ string_bytes out.old
+        ++ concat (lines_of (row_of key.now ∷ []) (switch_values on))) }
+{
+    if !on {
+        return Ok(());
+    }
+    push_pair(out, key.0, "true")
 }
 
 /// Adds a line for each value, with its key.

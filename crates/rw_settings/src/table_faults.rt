@@ -4,11 +4,11 @@ ghost use Rattle.std.specs.Prelude.{◌≡◌, Some, None, map, if◌then◌else
 ghost use Rattle.std.specs.List.{list_any};
 ghost use Rattle.std.specs.Result.{result_err};
 ghost use Rattle.std.specs.Str.{bytes_eq};
-ghost use Rattle.toml.specs.Data.{string, as_integer, as_array};
+ghost use Rattle.toml.specs.Data.{string, as_integer, as_bool, as_array};
 ghost use Rattle.toml.specs.View.{view, items_view, table_view};
 ghost use Rattle.rw_settings.specs.Keys.{has_only, keys_fault, fault_for, key_fault, table_fault};
 ghost use Rattle.rw_settings.specs.inner.Keys.{row_of};
-ghost use Rattle.rw_settings.specs.Values.{number_if, are_texts, labels_fault};
+ghost use Rattle.rw_settings.specs.Values.{number_if, switch_if, are_texts, labels_fault};
 
 use crate::fault::{SettingsFault, lesser};
 use crate::keys::{Key, Kind};
@@ -97,7 +97,7 @@ fn text_fault(kind: &Kind, text: &str) -> Option<SettingsFault>
         ),
         Kind::Action => unless(text == "keep" || text == "drop", SettingsFault::BadRule),
         Kind::Text | Kind::Part => None,
-        Kind::Number(..) | Kind::Labels => Some(SettingsFault::WrongType),
+        Kind::Number(..) | Kind::Switch | Kind::Labels => Some(SettingsFault::WrongType),
     }
 }
 
@@ -121,12 +121,23 @@ fn number_fault(value: &Value, low: u64, high: u64) -> Option<SettingsFault>
     }
 }
 
+/// What is wrong with a value at a key that takes a switch.
+fn switch_fault(value: &Value) -> Option<SettingsFault>
+    ensures { result ≡ result_err (switch_if (as_bool (view value.now))) }
+{
+    match value.as_bool() {
+        None => Some(SettingsFault::WrongType),
+        Some(_) => None,
+    }
+}
+
 /// What is wrong with a value at a key of this kind.
 fn value_fault(kind: &Kind, value: &Value) -> Option<SettingsFault>
     ensures { result ≡ fault_for kind.now (Some (view value.now)) }
 {
     match kind {
         Kind::Number(low, high, _) => number_fault(value, *low, *high),
+        Kind::Switch => switch_fault(value),
         Kind::Labels => list_fault(value),
         Kind::Part => None,
         _ => match value.as_str() {

@@ -4,7 +4,7 @@ ghost use Rattle.std.specs.Prelude.{◌≡◌, true, option_map, IfOk};
 ghost use Rattle.toml.specs.Data.{get_member, as_integer, as_table, no_members, no_items};
 ghost use Rattle.toml.specs.View.{view, items_view, table_view};
 ghost use Rattle.rw_types.specs.declared.names.Names.TheVariants.{Legacy};
-ghost use Rattle.rw_settings.specs.Keys.{number_setting, host_of, path_of, names_setting};
+ghost use Rattle.rw_settings.specs.Keys.{number_setting, switch_setting, host_of, path_of, names_setting};
 ghost use Rattle.rw_settings.specs.inner.Keys.{row_of, has_range};
 ghost use Rattle.rw_settings.specs.Values.{number_in, number_if, number_at, text_setting, any_text, names_in, found_or, section, list_at, part_or};
 
@@ -80,6 +80,19 @@ pub(crate) fn bounded_of<const LOW: u64, const HIGH: u64>(
     ensures { result ≡ number_setting (row_of key.now) (table_view table.now) }
 {
     Bounded::new(number_of(table, key))
+}
+
+/// Returns whether a table sets this switch. A value that cannot be taken counts as none.
+pub(crate) fn is_on(table: &Table, key: &Key) -> bool
+    ensures { result ≡ switch_setting (row_of key.now) (table_view table.now) }
+{
+    match value_at(table, key.0) {
+        None => false,
+        Some(value) => match value.as_bool() {
+            None => false,
+            Some(on) => on,
+        },
+    }
 }
 
 /// Returns the text at a key, or the default if the key is missing.

@@ -11,6 +11,7 @@ use Rattle.rw_shard_core.specs.Shard.{labelled, body_of, IsReadAgain}
 use Rattle.rw_shard_core.specs.SentRequest.{request_of, request_head}
 use Rattle.rw_head.specs.Head.{answer_to}
 use Rattle.rw_endpoint.specs.Alone.{IsOneRequest, IsOneRefusal}
+use Rattle.rw_endpoint.specs.declared.intake.Intake.{Intake}
 use Rattle.rw_machine.specs.Worlds.{Setup, Request, World}
 use Rattle.rw_machine.specs.Steps.{arrive, endpoint_answer}
 use Rattle.rw_machine.specs.Promises.{CarriesItsBatch}
@@ -20,10 +21,14 @@ use Rattle.rw_world.specs.Arriving.{IsAnswerTo, IsAnsweredAsBytes, AnswersBytes}
 use Rattle.rw_world.specs.inner.Arriving.{IsServed}
 use Rattle.rw_world.proofs.shared.AnswerLemmas.{ReadsSound, RefusesLong}
 
+-- what the endpoint takes of bodies
+abbrev intake_with : Setup → Bool → Intake
+intake_with c snappy = record { limit = c.max_body; snappy = snappy }
+
 -- an arrival is answered as the endpoint answers the bytes
 pub answers_one : (c : Setup) (w : World) (k : ℕ) (r : Request) → is_host_name c.target.host ≡ true → is_request_path c.target.path ≡ true → ReadsSound → RefusesLong →
     CarriesItsBatch c r → IsReadAgain r.batch → slice_get w.requests k ≡ Some r → length r.bytes < 2 ^ 63 → IsAnsweredAsBytes c w k r
-answers_one c w k r h p reads refuses bytes again at few =
+answers_one c w k r h p reads refuses bytes again at few snappy =
     (endpoint_answer c w.head r.batch, by_limit (nat_lt c.max_body (length (body_of r.batch))) refl, ap (arrive c w Plain) at)
   where
     head : List ℕ
@@ -33,13 +38,13 @@ answers_one c w k r h p reads refuses bytes again at few =
     small = let long : length r.bytes ≡ length head + length (body_of r.batch) = ap length bytes ∙ length-append head (body_of r.batch) in omega arith
 
     by_limit : (b : Bool) → nat_lt c.max_body (length (body_of r.batch)) ≡ b →
-        IsAnswerTo c.target.path c.max_body w.head r.bytes (cond b (record { status = 413; head = w.head }) (answer_to w.head (Ok (message (map labelled r.batch)))))
+        IsAnswerTo c.target.path (intake_with c snappy) w.head r.bytes (cond b (record { status = 413; head = w.head }) (answer_to w.head (Ok (message (map labelled r.batch)))))
     by_limit true e =
         let over : c.max_body < length (body_of r.batch) = grind (arith, nat_tests) in
-        inr (413, subst (λ x. IsOneRefusal c.target.path c.max_body x 413) (sym bytes) (refuses c.target.host c.target.path (body_of r.batch) c.max_body h p small over), refl)
+        inr (413, subst (λ x. IsOneRefusal c.target.path (intake_with c snappy) x 413) (sym bytes) (refuses c.target.host c.target.path (body_of r.batch) (intake_with c snappy) h p small over), refl)
     by_limit false e =
         let within : length (body_of r.batch) ≤ c.max_body = grind (arith, nat_tests) in
-        inl (body_of r.batch, subst (λ x. IsOneRequest c.target.path c.max_body x (body_of r.batch)) (sym bytes) (reads c.target.host c.target.path (body_of r.batch) c.max_body h p small within), ap (answer_to w.head) (sym again))
+        inl (body_of r.batch, subst (λ x. IsOneRequest c.target.path (intake_with c snappy) x (body_of r.batch)) (sym bytes) (reads c.target.host c.target.path (body_of r.batch) (intake_with c snappy) h p small within), ap (answer_to w.head) (sym again))
 
 -- so is each of the requests to a receiver
 pub answers : (c : Setup) (w : World) (host path : List ℕ) → is_host_name host ≡ true → is_request_path path ≡ true → ReadsSound → RefusesLong → IsServed c.target host path w.requests → AnswersBytes c w

@@ -25,6 +25,7 @@ pub fn limits_at(alloc: Global, limits: Limits, path: &RequestPath) -> Result<Li
             max_labels: limits.max_labels,
             max_label_bytes: limits.max_label_bytes,
             busy_first: limits.busy_first,
+            snappy: limits.snappy,
             names: limits.names,
         }),
         None => unreachable!(),

@@ -235,6 +235,15 @@ impl<R: Threads + Wait + Clock + Sync> Receiver<'_, R> {
     }
 }
 
+/// Returns the settings with what the options set.
+fn with_options(settings: Settings, receiving: &Receiving<'_>) -> Settings {
+    let mut settings = settings;
+    if receiving.takes_snappy {
+        settings.limits.snappy = true;
+    }
+    settings
+}
+
 /// Serves connections by the settings in a file, at an address.
 pub fn receive<R: Threads + Wait + Clock + Sync>(
     rt: &HostRuntime,
@@ -249,6 +258,7 @@ pub fn receive<R: Threads + Wait + Clock + Sync>(
     }
     match settings_in(rt, file) {
         Ok(settings) => {
+            let settings = with_options(settings, receiving);
             let receiver = Receiver {
                 rt,
                 threads,

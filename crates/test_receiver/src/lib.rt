@@ -35,6 +35,8 @@ mod rows;
 #[cfg(test)]
 mod seats;
 #[cfg(test)]
+mod snappy;
+#[cfg(test)]
 mod staged;
 #[cfg(test)]
 mod store;

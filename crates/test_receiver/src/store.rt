@@ -57,7 +57,7 @@ impl Answer for Store {
 }
 
 /// Returns the limits of these tests: a body has at most 32 bytes.
-fn limits(alloc: Global) -> Result<Limits, AllocError> {
+pub(crate) fn limits(alloc: Global) -> Result<Limits, AllocError> {
     let mut limits = Limits::standard(alloc)?;
     limits.max_body_bytes = Bounded::new(32);
     Ok(limits)

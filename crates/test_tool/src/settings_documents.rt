@@ -17,7 +17,7 @@ pub(crate) fn fault(alloc: Global, text: &[u8]) -> u8 {
 
 /// Texts with no fault or with one, and then with two at once, and the number that is returned, or
 /// 9.
-static FAULTS: [(&str, u8); 67] = [
+static FAULTS: [(&str, u8); 72] = [
     ("", 9),
     ("# nothing\n\n", 9),
     ("rule = []\n[send]\n[receive]\n", 9),
@@ -93,6 +93,12 @@ static FAULTS: [(&str, u8); 67] = [
     ("[send]\nnames = true", 3),
     ("[receive]\nnames = ['utf8']", 3),
     ("names = 'utf8'", 2),
+    // a switch
+    ("[receive]\nsnappy = true", 9),
+    ("[receive]\nsnappy = false", 9),
+    ("[receive]\nsnappy = 1", 3),
+    ("[receive]\nsnappy = 'true'", 3),
+    ("[send]\nsnappy = true", 2),
     // two at once, in either order
     ("[send]\nshards = 0\n[receive]\nlabels = 1", 2),
     ("[receive]\nlabels = 1\n[send]\nshards = 0", 2),
@@ -149,12 +155,13 @@ fn sending(s: &Settings) -> [u64; 8] {
     ]
 }
 
-fn receiving(s: &Settings) -> [u64; 4] {
+fn receiving(s: &Settings) -> [u64; 5] {
     [
         s.limits.max_body_bytes.get(),
         s.limits.max_labels.get(),
         s.limits.max_label_bytes.get(),
         s.limits.busy_first.get(),
+        u64::from(s.limits.snappy),
     ]
 }
 
@@ -174,7 +181,7 @@ fn names(s: &Settings) -> [Names; 2] {
 }
 
 /// What a text sets.
-type Read = ([u64; 8], [u64; 4], [&'static str; 3], [Names; 2]);
+type Read = ([u64; 8], [u64; 5], [&'static str; 3], [Names; 2]);
 
 fn sets(s: &Settings, want: &Read) -> bool {
     sending(s) == want.0 && receiving(s) == want.1 && texts(s) == want.2 && names(s) == want.3
@@ -183,7 +190,7 @@ fn sets(s: &Settings, want: &Read) -> bool {
 const EVERY_KEY: &[u8] =
     b"[send]\nhost = 'a'\npath = '/b'\nshards = 2\nmin_shards = 1\nmax_shards = 3\ncapacity = 4\nbatch = 5\n
           min_backoff_ms = 6\nmax_backoff_ms = 7\ntimeout_ms = 8\nnames = 'utf8'\n
-          [receive]\npath = '/c'\nmax_body_bytes = 9\nmax_labels = 10\nmax_label_bytes = 11\nbusy_first = 12\nnames = 'utf8'";
+          [receive]\npath = '/c'\nmax_body_bytes = 9\nmax_labels = 10\nmax_label_bytes = 11\nbusy_first = 12\nnames = 'utf8'\nsnappy = true";
 
 /// The example of docs/SETTINGS.md.
 const EXAMPLE: &[u8] = b"# Ship to the receiver at metrics.example, with up to eight shards.
@@ -238,7 +245,7 @@ static READ: [Reading; 3] = [
         b"",
         (
             [1, 1, 50, 10_000, 2_000, 30, 5_000, 30_000],
-            [16_777_216, 64, 16_384, 0],
+            [16_777_216, 64, 16_384, 0, 0],
             ["localhost:9090", "/api/v1/write", "/api/v1/write"],
             [Names::Legacy, Names::Legacy],
         ),
@@ -249,7 +256,7 @@ static READ: [Reading; 3] = [
         EVERY_KEY,
         (
             [2, 1, 3, 4, 5, 6, 7, 8],
-            [9, 10, 11, 12],
+            [9, 10, 11, 12, 1],
             ["a", "/b", "/c"],
             [Names::Utf8, Names::Utf8],
         ),
@@ -260,7 +267,7 @@ static READ: [Reading; 3] = [
         EXAMPLE,
         (
             [2, 1, 8, 10_000, 500, 100, 10_000, 30_000],
-            [1_048_576, 64, 16_384, 0],
+            [1_048_576, 64, 16_384, 0, 0],
             ["metrics.example:9090", "/api/v1/write", "/api/v1/write"],
             [Names::Legacy, Names::Legacy],
         ),

@@ -89,6 +89,31 @@ busy_first = 0
 names = \"legacy\"
 ";
 
+/// What is printed if blocks of Snappy are received.
+const SNAPPY: &str = "\
+[send]
+host = \"localhost:9090\"
+path = \"/api/v1/write\"
+shards = 1
+min_shards = 1
+max_shards = 50
+capacity = 10000
+batch = 2000
+min_backoff_ms = 30
+max_backoff_ms = 5000
+timeout_ms = 30000
+names = \"legacy\"
+
+[receive]
+path = \"/api/v1/write\"
+max_body_bytes = 16777216
+max_labels = 64
+max_label_bytes = 16384
+busy_first = 0
+names = \"legacy\"
+snappy = true
+";
+
 /// What a row says.
 enum Row {
     /// Settings, and how they are printed.
@@ -99,7 +124,7 @@ enum Row {
     Noted(&'static str, &'static str),
 }
 
-static ROWS: [Row; 31] = [
+static ROWS: [Row; 35] = [
     // settings in another spelling
     Printed("", DEFAULTS),
     Printed(DEFAULTS, DEFAULTS),
@@ -125,6 +150,10 @@ static ROWS: [Row; 31] = [
         GREATEST,
     ),
     Printed(LEAST, LEAST),
+    // a switch is printed if it is on
+    Printed("[receive]\nsnappy = false", DEFAULTS),
+    Printed("receive = { snappy = true }", SNAPPY),
+    Printed(SNAPPY, SNAPPY),
     Pattern("'it is'", "\nregex = \"it is\"\n"),
     Pattern("\"it's\"", "\nregex = \"it's\"\n"),
     Pattern("'a\"b'", "\nregex = 'a\"b'\n"),
@@ -157,6 +186,12 @@ send.batch: 0 is refused; it takes a whole number from 1 to 10000
         "[send]\nnames = 'UTF8'\n[receive]\nnames = 8",
         "send.names: \"UTF8\" is refused; it takes 'legacy' or 'utf8'
 receive.names: has type integer; it takes 'legacy' or 'utf8'
+",
+    ),
+    Noted(
+        "[receive]\nsnappy = 'yes'\n[send]\nsnappy = true",
+        "send.snappy: is not a known key
+receive.snappy: has type string; it takes true or false
 ",
     ),
     Noted(

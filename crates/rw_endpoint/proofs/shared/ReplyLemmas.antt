@@ -34,6 +34,6 @@ unfolding reply_bytes
 reply_len s true h = leb-true (length (reply_bytes s true)) 86 (status_passes (λ n. nat_le (length (reply_bytes n true)) 86) s h refl)
 reply_len s false h = leb-true (length (reply_bytes s false)) 86 (status_passes (λ n. nat_le (length (reply_bytes n false)) 86) s h refl)
 
--- a status that a body can have is one of them
-pub is_reply_status : (s : ℕ) → IsTrue (is_verdict s) → IsTrue (is_verdict s || is_refusal s)
-is_reply_status s h = grind (arith, common_steps)
+-- the status of a text is one of them
+pub verdict_status : (s : ℕ) → IsTrue (is_verdict s) → IsTrue (is_verdict s || is_refusal s)
+verdict_status s h = grind (arith, common_steps)

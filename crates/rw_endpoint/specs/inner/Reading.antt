@@ -9,20 +9,21 @@ use Rattle.rw_endpoint.specs.declared.head.Reading.TheVariants as Seen
 use Rattle.rw_endpoint.specs.declared.input.Front.{Front}
 use Rattle.rw_endpoint.specs.declared.input.Front.TheVariants.{Head, Never, End}
 use Rattle.rw_endpoint.specs.Reading.{BeginsWithHead, NeverHasHead, IsPartOfHead}
+use Rattle.rw_endpoint.specs.declared.intake.Intake.{Intake}
 
 -- what is found in the bytes that have come
-abbrev pub Judges : List ℕ → ℕ → List ℕ → Reading → Type 0
-Judges path limit input (Seen.Head finding len) =
+abbrev pub Judges : List ℕ → Intake → List ℕ → Reading → Type 0
+Judges path intake input (Seen.Head finding len) =
     (head : RequestHead) × BeginsWithHead input head (drop len input) × (len ≡ length (print_request head))
-    × (finding ≡ finding_of path limit head)
-Judges path limit input Seen.More = IsPartOfHead input
-Judges path limit input Seen.Never = NeverHasHead input
+    × (finding ≡ finding_of path intake head)
+Judges path intake input Seen.More = IsPartOfHead input
+Judges path intake input Seen.Never = NeverHasHead input
 
 -- what is at the front of the bytes that wait, if the reader has some left after them
-abbrev pub HasRead : List ℕ → ℕ → List ℕ → Option (List ℕ) → Front → Type 0
-HasRead path limit pending left (Head finding len) = Judges path limit pending (Seen.Head finding len) × (len ≤ length pending)
-HasRead path limit pending left Never = NeverHasHead pending
-HasRead path limit pending left End = IsPartOfHead pending × IsAtEnd left
+abbrev pub HasRead : List ℕ → Intake → List ℕ → Option (List ℕ) → Front → Type 0
+HasRead path intake pending left (Head finding len) = Judges path intake pending (Seen.Head finding len) × (len ≤ length pending)
+HasRead path intake pending left Never = NeverHasHead pending
+HasRead path intake pending left End = IsPartOfHead pending × IsAtEnd left
 
 -- a body of n bytes was taken, or the input ended before
 abbrev pub HasBody : Option (List ℕ) → Option (List ℕ) → ℕ → Option (List ℕ) → Type 0

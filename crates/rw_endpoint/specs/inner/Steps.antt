@@ -1,9 +1,10 @@
 -- One request of an input whose bytes are known.
 use Rattle.std.specs.Prelude.{◌≡◌, ℕ, ◌<◌, ◌⊎◌, List, ◌++◌, length, take, Bool, true, false, IsTrue, Option, Some, Result, Ok, Err}
-use Rattle.rw_endpoint.specs.Replies.{reply_bytes, is_verdict}
+use Rattle.rw_endpoint.specs.Replies.{reply_bytes, is_body_status}
 use Rattle.rw_endpoint.specs.Serving.{Replies, IsSilent, Ends}
 use Rattle.rw_endpoint.specs.declared.serve_end.ServeEnd.{ServeEnd}
 use Rattle.rw_endpoint.specs.declared.serve_end.ServeEnd.TheVariants.{Eof, Closed, Torn, Device, OutOfMemory}
+use Rattle.rw_endpoint.specs.declared.intake.Intake.{Intake}
 
 -- the input begins with a body of n bytes, which is answered
 pub record IsBodyAnswered {S : Type 0} (answers : S → List ℕ → ℕ → S → Type 0) (n : ℕ) (input : List ℕ) (old : S) (text left : List ℕ) (closes : Bool) (new : S) : Type 0 where
@@ -12,7 +13,7 @@ pub record IsBodyAnswered {S : Type 0} (answers : S → List ℕ → ℕ → S �
   pub begins : input ≡ body ++ left
   pub length : length body ≡ n
   pub given : answers old body status new
-  pub verdict : IsTrue (is_verdict status)
+  pub verdict : IsTrue (is_body_status status)
   pub written : text ≡ reply_bytes status closes
 
 -- what became of the body that a head announced
@@ -29,7 +30,7 @@ HasBodyServed answers n closes input old text after new (Err Device) =
 HasBodyServed answers n closes input old text after new (Err OutOfMemory) = IsSilent old text new
 
 -- what became of a request
-abbrev pub HasServed : {S : Type 0} → List ℕ → ℕ → (S → List ℕ → ℕ → S → Type 0) → List ℕ → S → List ℕ → Option (List ℕ) → S → Result Unit ServeEnd → Type 0
-HasServed path limit answers input old text after new (Ok _) =
-    (rest : List ℕ) × (after ≡ Some rest) × Replies path limit answers input old text rest false new
-HasServed path limit answers input old text after new (Err how) = Ends path limit answers input old text new how
+abbrev pub HasServed : {S : Type 0} → List ℕ → Intake → (S → List ℕ → ℕ → S → Type 0) → List ℕ → S → List ℕ → Option (List ℕ) → S → Result Unit ServeEnd → Type 0
+HasServed path intake answers input old text after new (Ok _) =
+    (rest : List ℕ) × (after ≡ Some rest) × Replies path intake answers input old text rest false new
+HasServed path intake answers input old text after new (Err how) = Ends path intake answers input old text new how

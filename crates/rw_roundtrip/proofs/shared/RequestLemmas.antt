@@ -9,6 +9,8 @@ use Rattle.rw_types.specs.Requests.{is_host_name, is_request_path}
 use Rattle.rw_shard_core.specs.SentRequest.{request_of}
 use Rattle.rw_endpoint.specs.Alone.{IsOneRequest, IsOneRefusal}
 use Rattle.rw_endpoint.specs.Reading.{BeginsWithHead}
+use Rattle.rw_endpoint.specs.declared.coding.Coding.TheVariants.{Plain}
+use Rattle.rw_endpoint.specs.declared.intake.Intake.{Intake}
 use Rattle.rw_roundtrip.specs.Exchanges.{IsRequest}
 use Rattle.rw_roundtrip.proofs.Heads.{head_of, fields_of, field}
 use Rattle.rw_roundtrip.proofs.ByteLemmas.{IsTarget, path_is_target, IsValue, host_is_value, AreDigits, decimal_is_digits, digits_are_value}
@@ -71,27 +73,30 @@ begins host path body h p few =
       omega arith,
     )
 
-pub one_request : (host path body : List ℕ) (limit : ℕ) → is_host_name host ≡ true → is_request_path path ≡ true → length body < 2 ^ 63 → length body ≤ limit →
-    IsOneRequest path limit (request_of host path body) body
-one_request host path body limit h p few fits = record {
+pub one_request : (host path body : List ℕ) (intake : Intake) → is_host_name host ≡ true → is_request_path path ≡ true → length body < 2 ^ 63 → length body ≤ intake.limit →
+    IsOneRequest path intake (request_of host path body) body
+one_request host path body intake h p few fits = record {
   head = head_of host path (decimal (length body));
+  body = body;
+  coding = Plain;
+  holds = refl;
   begins = begins host path body h p few;
-  finding = found host path limit (length body) few ∙ asked (trim_ows (32 ∷ host)) (decimal (length body)) limit (length body) fits;
+  finding = found host path intake (length body) few ∙ asked (trim_ows (32 ∷ host)) (decimal (length body)) intake (length body) fits;
 }
 
-pub one_refusal : (host path body : List ℕ) (limit : ℕ) → is_host_name host ≡ true → is_request_path path ≡ true → length body < 2 ^ 63 → limit < length body →
-    IsOneRefusal path limit (request_of host path body) 413
-one_refusal host path body limit h p few over = record {
+pub one_refusal : (host path body : List ℕ) (intake : Intake) → is_host_name host ≡ true → is_request_path path ≡ true → length body < 2 ^ 63 → intake.limit < length body →
+    IsOneRefusal path intake (request_of host path body) 413
+one_refusal host path body intake h p few over = record {
   head = head_of host path (decimal (length body));
   rest = body;
   begins = begins host path body h p few;
-  finding = found host path limit (length body) few ∙ too_large (trim_ows (32 ∷ host)) (decimal (length body)) limit (length body) over;
+  finding = found host path intake (length body) few ∙ too_large (trim_ows (32 ∷ host)) (decimal (length body)) intake (length body) over;
 }
 
-pub either_request : (host path body : List ℕ) (limit : ℕ) → is_host_name host ≡ true → is_request_path path ≡ true → length body < 2 ^ 63 →
-    IsRequest path limit (request_of host path body)
-either_request host path body limit h p few = by_test (nat_lt limit (length body)) refl
+pub either_request : (host path body : List ℕ) (intake : Intake) → is_host_name host ≡ true → is_request_path path ≡ true → length body < 2 ^ 63 →
+    IsRequest path intake (request_of host path body)
+either_request host path body intake h p few = by_test (nat_lt intake.limit (length body)) refl
   where
-    by_test : (b : Bool) → nat_lt limit (length body) ≡ b → IsRequest path limit (request_of host path body)
-    by_test true e = inr (413, one_refusal host path body limit h p few (ltb-true limit (length body) e))
-    by_test false e = inl (body, one_request host path body limit h p few (ltb-false limit (length body) e))
+    by_test : (b : Bool) → nat_lt intake.limit (length body) ≡ b → IsRequest path intake (request_of host path body)
+    by_test true e = inr (413, one_refusal host path body intake h p few (ltb-true intake.limit (length body) e))
+    by_test false e = inl (body, one_request host path body intake h p few (ltb-false intake.limit (length body) e))

@@ -19,6 +19,7 @@ use Rattle.rw_head.specs.declared.verdict.Verdict.{Verdict}
 use Rattle.rw_endpoint.specs.Alone.{IsOneRequest, IsOneRefusal}
 use Rattle.rw_endpoint.specs.HeadAnswers.{HasAnswered}
 use Rattle.rw_endpoint.specs.Replies.{is_verdict}
+use Rattle.rw_endpoint.specs.declared.intake.Intake.{Intake}
 use Rattle.rw_roundtrip.specs.Exchanges.{IsExchanged, IsRefusedUnasked}
 use Rattle.rw_machine.specs.Worlds.{Request}
 use Rattle.rw_machine.specs.Steps.{request_by}
@@ -82,33 +83,33 @@ refused_by old new (Err e) a = a
 
 -- the laws of the endpoint
 abbrev pub ReadsSound : Type 0
-ReadsSound = (host path body : List ℕ) (limit : ℕ) → is_host_name host ≡ true → is_request_path path ≡ true → length body < 2 ^ 63 → length body ≤ limit → IsOneRequest path limit (request_of host path body) body
+ReadsSound = (host path body : List ℕ) (intake : Intake) → is_host_name host ≡ true → is_request_path path ≡ true → length body < 2 ^ 63 → length body ≤ intake.limit → IsOneRequest path intake (request_of host path body) body
 
 abbrev pub RefusesLong : Type 0
-RefusesLong = (host path body : List ℕ) (limit : ℕ) → is_host_name host ≡ true → is_request_path path ≡ true → length body < 2 ^ 63 → limit < length body → IsOneRefusal path limit (request_of host path body) 413
+RefusesLong = (host path body : List ℕ) (intake : Intake) → is_host_name host ≡ true → is_request_path path ≡ true → length body < 2 ^ 63 → intake.limit < length body → IsOneRefusal path intake (request_of host path body) 413
 
 pub body_small : (host path body request : List ℕ) → request ≡ request_of host path body → length request ≤ 2 ^ 62 → length body < 2 ^ 63
 body_small host path body request e small =
     let len : length request ≡ length (request_head host path (decimal (length body))) + length body = ap length e ∙ length-append (request_head host path (decimal (length body))) body in
     omega arith
 
-asked_if : (b : Bool) (host path : List ℕ) (limit : ℕ) (s : Request) (request : List ℕ) (old new : State) (r : Result ℕ AllocError) → nat_lt limit (length (body_of s.batch)) ≡ b →
+asked_if : (b : Bool) (host path : List ℕ) (intake : Intake) (s : Request) (request : List ℕ) (old new : State) (r : Result ℕ AllocError) → nat_lt intake.limit (length (body_of s.batch)) ≡ b →
     IsReadAgain s.batch → request ≡ request_of host path (body_of s.batch) → is_host_name host ≡ true → is_request_path path ≡ true → length request ≤ 2 ^ 62 → ReadsSound → RefusesLong →
-    ((body : List ℕ) → IsOneRequest path limit request body → IsExchanged HasAnswered body old r new) → ((status : ℕ) → IsOneRefusal path limit request status → IsRefusedUnasked status old r new) →
+    ((body : List ℕ) → IsOneRequest path intake request body → IsExchanged HasAnswered body old r new) → ((status : ℕ) → IsOneRefusal path intake request status → IsRefusedUnasked status old r new) →
     IsReplied (cond b (record { status = 413; head = old }) (answer_to old (Ok (message (map labelled s.batch))))) old r new
-asked_if true host path limit s request old new r b is e h p small reads refuses a f =
-    let long : limit < length (body_of s.batch) = grind (arith, nat_tests) in
-    refused_by old new r (f 413 (subst (λ x. IsOneRefusal path limit x 413) (sym e) (refuses host path (body_of s.batch) limit h p (body_small host path (body_of s.batch) request e small) long)))
-asked_if false host path limit s request old new r b is e h p small reads refuses a f =
-    let short : length (body_of s.batch) ≤ limit = grind (arith, nat_tests) in
-    answered_by old new s.batch r is (a (body_of s.batch) (subst (λ x. IsOneRequest path limit x (body_of s.batch)) (sym e) (reads host path (body_of s.batch) limit h p (body_small host path (body_of s.batch) request e small) short)))
+asked_if true host path intake s request old new r b is e h p small reads refuses a f =
+    let long : intake.limit < length (body_of s.batch) = grind (arith, nat_tests) in
+    refused_by old new r (f 413 (subst (λ x. IsOneRefusal path intake x 413) (sym e) (refuses host path (body_of s.batch) intake h p (body_small host path (body_of s.batch) request e small) long)))
+asked_if false host path intake s request old new r b is e h p small reads refuses a f =
+    let short : length (body_of s.batch) ≤ intake.limit = grind (arith, nat_tests) in
+    answered_by old new s.batch r is (a (body_of s.batch) (subst (λ x. IsOneRequest path intake x (body_of s.batch)) (sym e) (reads host path (body_of s.batch) intake h p (body_small host path (body_of s.batch) request e small) short)))
 
-pub asked : (host path : List ℕ) (limit : ℕ) (s : Request) (request : List ℕ) (old new : State) (r : Result ℕ AllocError) → IsSentTo host path s → request ≡ s.bytes → is_host_name host ≡ true → is_request_path path ≡ true →
+pub asked : (host path : List ℕ) (intake : Intake) (s : Request) (request : List ℕ) (old new : State) (r : Result ℕ AllocError) → IsSentTo host path s → request ≡ s.bytes → is_host_name host ≡ true → is_request_path path ≡ true →
     length request ≤ 2 ^ 62 → ReadsSound → RefusesLong →
-    ((body : List ℕ) → IsOneRequest path limit request body → IsExchanged HasAnswered body old r new) → ((status : ℕ) → IsOneRefusal path limit request status → IsRefusedUnasked status old r new) →
-    IsReplied (answer_to_batch limit old s.batch) old r new
-asked host path limit s request old new r i e h p small reads refuses a f =
-    asked_if (nat_lt limit (length (body_of s.batch))) host path limit s request old new r refl i.read (e ∙ i.bytes) h p small reads refuses a f
+    ((body : List ℕ) → IsOneRequest path intake request body → IsExchanged HasAnswered body old r new) → ((status : ℕ) → IsOneRefusal path intake request status → IsRefusedUnasked status old r new) →
+    IsReplied (answer_to_batch intake.limit old s.batch) old r new
+asked host path intake s request old new r i e h p small reads refuses a f =
+    asked_if (nat_lt intake.limit (length (body_of s.batch))) host path intake s request old new r refl i.read (e ∙ i.bytes) h p small reads refuses a f
 
 sent_if : (b : Bool) (host path : List ℕ) (s : Request) (r : Option Request) → r ≡ cond b (Some s) None → IsSentTo host path s → IfSome r (λ q. IsSentTo host path q)
 sent_if true host path s None e i = absurd (cc)

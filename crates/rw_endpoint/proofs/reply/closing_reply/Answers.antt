@@ -1,7 +1,7 @@
 use Rattle.std.proofs.Common.{◌≡◌, ◌≢◌, ◌||◌, ◌∙◌, ℕ, IsTrue, true, ap, sym, arith}
 use Rattle.std.proofs.lemmas.Grind.{common_steps}
 use Rattle.rw_endpoint.specs.Judgement.{is_refusal}
-use Rattle.rw_endpoint.specs.Replies.{reply_bytes, is_verdict}
+use Rattle.rw_endpoint.specs.Replies.{reply_bytes, is_body_status}
 use Rattle.rw_endpoint.proofs.reply.closing_reply.Goals as goal
 
 pub returns-in-204 : goal.returns-in-204
@@ -37,7 +37,7 @@ unfolding reply_bytes
 returns-in-429 c = c.as_slice-in-429.ensures ∙ ap (λ s. reply_bytes s true) (sym c.in-429.is)
 
 -- the status that is left
-left : (s : ℕ) → IsTrue (is_verdict s || is_refusal s) → s ≢ 204 → s ≢ 400 → s ≢ 404 → s ≢ 405 → s ≢ 411 → s ≢ 413 → s ≢ 415 → s ≢ 429 → s ≡ 503
+left : (s : ℕ) → IsTrue (is_body_status s || is_refusal s) → s ≢ 204 → s ≢ 400 → s ≢ 404 → s ≢ 405 → s ≢ 411 → s ≢ 413 → s ≢ 415 → s ≢ 429 → s ≡ 503
 left s h n204 n400 n404 n405 n411 n413 n415 n429 = grind (arith, common_steps)
 
 pub returns-in_default : goal.returns-in_default

@@ -1,6 +1,6 @@
 use Rattle.std.proofs.Common.{◌≡◌, ◌≢◌, ◌∙◌, ℕ, IsTrue, false, ap, sym, arith}
 use Rattle.std.proofs.lemmas.Grind.{common_steps}
-use Rattle.rw_endpoint.specs.Replies.{reply_bytes, is_verdict}
+use Rattle.rw_endpoint.specs.Replies.{reply_bytes, is_body_status}
 use Rattle.rw_endpoint.proofs.reply.staying_reply.Goals as goal
 
 pub returns-in-204 : goal.returns-in-204
@@ -11,13 +11,17 @@ pub returns-in-400 : goal.returns-in-400
 unfolding reply_bytes
 returns-in-400 c = c.as_slice-in-400.ensures ∙ ap (λ s. reply_bytes s false) (sym c.in-400.is)
 
+pub returns-in-413 : goal.returns-in-413
+unfolding reply_bytes
+returns-in-413 c = c.as_slice-in-413.ensures ∙ ap (λ s. reply_bytes s false) (sym c.in-413.is)
+
 pub returns-in-429 : goal.returns-in-429
 unfolding reply_bytes
 returns-in-429 c = c.as_slice-in-429.ensures ∙ ap (λ s. reply_bytes s false) (sym c.in-429.is)
 
 -- the status that is left
-left : (s : ℕ) → IsTrue (is_verdict s) → s ≢ 204 → s ≢ 400 → s ≢ 429 → s ≡ 503
-left s h n204 n400 n429 = grind (arith, common_steps)
+left : (s : ℕ) → IsTrue (is_body_status s) → s ≢ 204 → s ≢ 400 → s ≢ 413 → s ≢ 429 → s ≡ 503
+left s h n204 n400 n413 n429 = grind (arith, common_steps)
 
 pub returns-in_default : goal.returns-in_default
 unfolding reply_bytes

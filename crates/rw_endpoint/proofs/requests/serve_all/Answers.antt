@@ -16,7 +16,7 @@ loop-init g c = record {
     input,
     w ∙ ap Some (sym (append-nil before)),
     ap (λ (t : List ℕ). prepend_known t (g.R.Source.remaining c.args.reader.now)) c.new-pending.ensures ∙ ap (prepend_known []) e,
-    served_none c.args.path.now c.args.limit g.A.Answer.answers input c.args.answer.now,
+    served_none c.args.path.now c.args.intake g.A.Answer.answers input c.args.answer.now,
     omega arith,
     λ sound. (sound, omega arith),
   );
@@ -34,8 +34,8 @@ loop-preserved g c =
             s.2.0,
             s.1 ∙ ap Some (append_assoc before h.0 s.0),
             s.2.1,
-            served_more c.args.path.now c.args.limit g.A.Answer.answers input c.args.answer.now h.0 h.1 c.loop.answer s.0 s.2.0 c.serve_one.new.answer h.4 s.2.2,
-            (let less = shorter c.args.path.now c.args.limit g.A.Answer.answers h.1 c.loop.answer s.0 s.2.0 c.serve_one.new.answer s.2.2 in omega (arith, h.5, less)),
+            served_more c.args.path.now c.args.intake g.A.Answer.answers input c.args.answer.now h.0 h.1 c.loop.answer s.0 s.2.0 c.serve_one.new.answer h.4 s.2.2,
+            (let less = shorter c.args.path.now c.args.intake g.A.Answer.answers h.1 c.loop.answer s.0 s.2.0 c.serve_one.new.answer s.2.2 in omega (arith, h.5, less)),
             λ sound.
                 let was = h.6 sound in
                 let is = s.3 was.0 in
@@ -62,20 +62,20 @@ returns-in-Err-clause-fits g c = λ input before e w sure sound is.
 pub returns-in-Err-clause-certain : goal.returns-in-Err-clause-certain
 returns-in-Err-clause-certain g c = λ input before e w short is.
     let path = c.args.path.now in
-    let limit = c.args.limit in
+    let intake = c.args.intake in
     let contents = g.W.Sink.contents c.serve_one.new.writer in
     let h = c.loop.invariant.so_far input before e w in
     let s = c.in-Err.ensures.served h.1 (before ++ h.0) h.3 h.2 in
-    let silent = subst (λ (how : ServeEnd). Ends path limit g.A.Answer.answers h.1 c.loop.answer s.0 c.serve_one.new.answer how) is s.2 in
+    let silent = subst (λ (how : ServeEnd). Ends path intake g.A.Answer.answers h.1 c.loop.answer s.0 c.serve_one.new.answer how) is s.2 in
     let asks = c.in-Err.ensures.certain h.1 h.3 (ap Err is) in
-    stopped_at_body path limit g.A.Answer.answers input c.args.answer.now before h.0 h.1 s.0 contents c.loop.answer c.serve_one.new.answer h.4.replied silent asks s.1
+    stopped_at_body path intake g.A.Answer.answers input c.args.answer.now before h.0 h.1 s.0 contents c.loop.answer c.serve_one.new.answer h.4.replied silent asks s.1
 
 pub returns-clause-served : goal.returns-clause-served
 returns-clause-served g c = λ input before e w.
     let h = c.loop.invariant.so_far input before e w in (
       h.0,
       h.2,
-      subst (λ (t : List ℕ). Serves c.args.path.now c.args.limit g.A.Answer.answers input c.args.answer.now t c.loop.answer OutOfMemory)
+      subst (λ (t : List ℕ). Serves c.args.path.now c.args.intake g.A.Answer.answers input c.args.answer.now t c.loop.answer OutOfMemory)
           (append-nil h.0) (h.4.serves [] OutOfMemory c.loop.answer (ends (refl, refl))),
     )
 

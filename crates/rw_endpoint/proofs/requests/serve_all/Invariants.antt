@@ -9,7 +9,7 @@ invariant-loop g l = record {
   so_far : (input before : List ℕ) → g.R.Source.remaining l.fn.reader ≡ Some input → g.W.Sink.contents l.fn.writer ≡ Some before →
       (text : List ℕ) × (left : List ℕ) × (g.W.Sink.contents l.writer ≡ Some (before ++ text))
       × (prepend_known l.pending (g.R.Source.remaining l.reader) ≡ Some left)
-      × IsServedUpTo l.path l.limit g.A.Answer.answers input l.fn.answer text left l.answer
+      × IsServedUpTo l.path l.intake g.A.Answer.answers input l.fn.answer text left l.answer
       × (l.counter + length left ≤ length input)
       × (g.W.Sink.has_failed l.fn.writer ≡ false →
       (g.W.Sink.has_failed l.writer ≡ false) × (g.W.Sink.room l.fn.writer ≤ g.W.Sink.room l.writer + length text));

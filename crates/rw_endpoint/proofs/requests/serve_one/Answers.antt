@@ -12,7 +12,7 @@ use Rattle.rw_endpoint.proofs.requests.serve_one.Goals as goal
 pub returns-in-Err-write_all-clause-served : goal.returns-in-Err-write_all-clause-served
 returns-in-Err-write_all-clause-served g c = λ input before e w.
     let path = c.args.path.now in
-    let limit = c.args.limit in
+    let intake = c.args.intake in
     let s = c.args.answer.now in
     let pend = c.read_front.new.pending in
     let left = g.R.Source.remaining c.read_front.new.reader in
@@ -20,38 +20,38 @@ returns-in-Err-write_all-clause-served g c = λ input before e w.
     let known : prepend_known pend left ≡ Some input = keeps_known _ _ input c.in-Ok.ensures.kept e in
     let part = c.in-Err-write_all.ensures.part in
     let sent = c.closing_reply in
-    let whole = subst (λ (t : List ℕ). Replies path limit g.A.Answer.answers input s t [] true s) (sym sent.ensures)
-    (no_request path limit g.A.Answer.answers pend left input s never known) in
+    let whole = subst (λ (t : List ℕ). Replies path intake g.A.Answer.answers input s t [] true s) (sym sent.ensures)
+    (no_request path intake g.A.Answer.answers pend left input s never known) in
     (take part.0 sent.result.now, appends_known _ _ before _ part.2 w, inr (sent.result.now, part.0, [], true, whole, refl), tt)
 
 pub returns-in-Err-write_all-2-clause-served : goal.returns-in-Err-write_all-2-clause-served
 returns-in-Err-write_all-2-clause-served g c = λ input before e w.
     let path = c.args.path.now in
-    let limit = c.args.limit in
+    let intake = c.args.intake in
     let s = c.args.answer.now in
     let pend = c.read_front.new.pending in
     let left = g.R.Source.remaining c.read_front.new.reader in
     let arm = c.in-Refused in
     let len = c.in-Head.len in
     let read = rw c.in-Head.is at c.in-Ok.ensures.front in
-    let j = subst (λ (f : Finding). Judges path limit pend (Head f len)) arm.is read.0 in
+    let j = subst (λ (f : Finding). Judges path intake pend (Head f len)) arm.is read.0 in
     let known : prepend_known pend left ≡ Some input = keeps_known _ _ input c.in-Ok.ensures.kept e in
     let part = c.in-Err-write_all-2.ensures.part in
     let sent = c.closing_reply-in-Refused in
-    let whole = subst (λ (t : List ℕ). Replies path limit g.A.Answer.answers input s t [] true s) (sym sent.ensures)
-    (refused path limit g.A.Answer.answers pend left input s arm.status len j known) in
+    let whole = subst (λ (t : List ℕ). Replies path intake g.A.Answer.answers input s t [] true s) (sym sent.ensures)
+    (refused path intake g.A.Answer.answers pend left input s arm.status len j known) in
     (take part.0 sent.result.now, appends_known _ _ before _ part.2 w, inr (sent.result.now, part.0, [], true, whole, refl), tt)
 
 pub returns-in-Body-clause-served : goal.returns-in-Body-clause-served
 returns-in-Body-clause-served g c = λ input before e w.
     let path = c.args.path.now in
-    let limit = c.args.limit in
+    let intake = c.args.intake in
     let pend = c.read_front.new.pending in
     let left = g.R.Source.remaining c.read_front.new.reader in
     let arm = c.in-Body in
     let len = c.in-Head.len in
     let read = rw c.in-Head.is at c.in-Ok.ensures.front in
-    let j = subst (λ (f : Finding). Judges path limit pend (Head f len)) arm.is read.0 in
+    let j = subst (λ (f : Finding). Judges path intake pend (Head f len)) arm.is read.0 in
     let known : prepend_known pend left ≡ Some input = keeps_known _ _ input c.in-Ok.ensures.kept e in
     let split = prepend_split pend left input known in
     let rest = drop len pend ++ split.0 in
@@ -64,52 +64,52 @@ returns-in-Body-clause-served g c = λ input before e w.
     let how = c.serve_body.result in (
       done.0,
       done.1,
-      subst (λ (t : List ℕ). HasServed path limit g.A.Answer.answers t old done.0 then new how) (sym split.2)
-          (body_served path limit g.A.Answer.answers pend split.0 old new arm.n len arm.closes done.0 then how j done.2),
+      subst (λ (t : List ℕ). HasServed path intake g.A.Answer.answers t old done.0 then new how) (sym split.2)
+          (body_served path intake g.A.Answer.answers pend split.0 old new arm.n len arm.closes arm.coding done.0 then how j done.2),
       done.3,
     )
 
 pub returns-in-Err-write_all-clause-fits : goal.returns-in-Err-write_all-clause-fits
 returns-in-Err-write_all-clause-fits g c = λ input e sure sound is.
     let path = c.args.path.now in
-    let limit = c.args.limit in
+    let intake = c.args.intake in
     let s = c.args.answer.now in
     let pend = c.read_front.new.pending in
     let left = g.R.Source.remaining c.read_front.new.reader in
     let never = rw c.in-Never.is at c.in-Ok.ensures.front in
     let known : prepend_known pend left ≡ Some input = keeps_known _ _ input c.in-Ok.ensures.kept e in
     let sent = c.closing_reply in
-    let whole = subst (λ (t : List ℕ). Replies path limit g.A.Answer.answers input s t [] true s) (sym sent.ensures)
-    (no_request path limit g.A.Answer.answers pend left input s never known) in
+    let whole = subst (λ (t : List ℕ). Replies path intake g.A.Answer.answers input s t [] true s) (sym sent.ensures)
+    (no_request path intake g.A.Answer.answers pend left input s never known) in
     (sent.result.now, [], true, whole, no_room _ _ (c.in-Err-write_all.ensures.fits sound))
 
 pub returns-in-Err-write_all-2-clause-fits : goal.returns-in-Err-write_all-2-clause-fits
 returns-in-Err-write_all-2-clause-fits g c = λ input e sure sound is.
     let path = c.args.path.now in
-    let limit = c.args.limit in
+    let intake = c.args.intake in
     let s = c.args.answer.now in
     let pend = c.read_front.new.pending in
     let left = g.R.Source.remaining c.read_front.new.reader in
     let arm = c.in-Refused in
     let len = c.in-Head.len in
     let read = rw c.in-Head.is at c.in-Ok.ensures.front in
-    let j = subst (λ (f : Finding). Judges path limit pend (Head f len)) arm.is read.0 in
+    let j = subst (λ (f : Finding). Judges path intake pend (Head f len)) arm.is read.0 in
     let known : prepend_known pend left ≡ Some input = keeps_known _ _ input c.in-Ok.ensures.kept e in
     let sent = c.closing_reply-in-Refused in
-    let whole = subst (λ (t : List ℕ). Replies path limit g.A.Answer.answers input s t [] true s) (sym sent.ensures)
-    (refused path limit g.A.Answer.answers pend left input s arm.status len j known) in
+    let whole = subst (λ (t : List ℕ). Replies path intake g.A.Answer.answers input s t [] true s) (sym sent.ensures)
+    (refused path intake g.A.Answer.answers pend left input s arm.status len j known) in
     (sent.result.now, [], true, whole, no_room _ _ (c.in-Err-write_all-2.ensures.fits sound))
 
 pub returns-in-Body-clause-fits : goal.returns-in-Body-clause-fits
 returns-in-Body-clause-fits g c = λ input e sure sound is.
     let path = c.args.path.now in
-    let limit = c.args.limit in
+    let intake = c.args.intake in
     let pend = c.read_front.new.pending in
     let left = g.R.Source.remaining c.read_front.new.reader in
     let arm = c.in-Body in
     let len = c.in-Head.len in
     let read = rw c.in-Head.is at c.in-Ok.ensures.front in
-    let j = subst (λ (f : Finding). Judges path limit pend (Head f len)) arm.is read.0 in
+    let j = subst (λ (f : Finding). Judges path intake pend (Head f len)) arm.is read.0 in
     let known : prepend_known pend left ≡ Some input = keeps_known _ _ input c.in-Ok.ensures.kept e in
     let split = prepend_split pend left input known in
     let rest = drop len pend ++ split.0 in
@@ -121,19 +121,19 @@ returns-in-Body-clause-fits g c = λ input e sure sound is.
       done.0,
       done.1,
       arm.closes,
-      subst (λ (t : List ℕ). Replies path limit g.A.Answer.answers t old done.0 done.1 arm.closes new) (sym split.2)
-          (body_answered path limit g.A.Answer.answers pend split.0 done.1 old new arm.n len arm.closes done.0 j done.2),
+      subst (λ (t : List ℕ). Replies path intake g.A.Answer.answers t old done.0 done.1 arm.closes new) (sym split.2)
+          (body_answered path intake g.A.Answer.answers pend split.0 done.1 old new arm.n len arm.closes arm.coding done.0 j done.2),
       done.3,
     )
 
 pub returns-in-Body-clause-certain : goal.returns-in-Body-clause-certain
 returns-in-Body-clause-certain g c = λ input e is.
     let path = c.args.path.now in
-    let limit = c.args.limit in
+    let intake = c.args.intake in
     let pend = c.read_front.new.pending in
     let left = g.R.Source.remaining c.read_front.new.reader in
     let arm = c.in-Body in
     let len = c.in-Head.len in
     let read = rw c.in-Head.is at c.in-Ok.ensures.front in
-    let j = subst (λ (f : Finding). Judges path limit pend (Head f len)) arm.is read.0 in
-    asks_for_body path limit pend left input arm.n len arm.closes j (keeps_known _ _ input c.in-Ok.ensures.kept e)
+    let j = subst (λ (f : Finding). Judges path intake pend (Head f len)) arm.is read.0 in
+    asks_for_body path intake pend left input arm.n len arm.closes arm.coding j (keeps_known _ _ input c.in-Ok.ensures.kept e)
