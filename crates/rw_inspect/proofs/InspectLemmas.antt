@@ -6,7 +6,7 @@ use Rattle.std.proofs.lemmas.Bool.{and_from}
 use Rattle.rw_types.specs.declared.entry.Entry.{Entry}
 use Rattle.rw_log_read.proofs.shared.LogLemmas.{reads_first}
 use Rattle.rw_log_read.specs.Logs.{AreRows, ReadsFirst, ReadsInto, fault_in}
-use Rattle.rw_log_read.specs.declared.log_read.Damage.{Damage}
+use Rattle.rw_wal_tail.specs.declared.place.Damage.{Damage}
 use Rattle.rw_log_read.specs.declared.log_read.Segment.{Segment}
 use Rattle.rw_inspect.specs.Counting.{log_counts}
 use Rattle.rw_inspect.specs.Inspecting.{AllSure, IsReportOfFirst}

@@ -5,7 +5,7 @@ use Rattle.rw_wal_format.specs.declared.tail_fault.TailFault.{TailFault}
 use Rattle.rw_wal_format.specs.declared.tail_fault.TailFault.TheVariants as tail
 use Rattle.rw_wal_tail.specs.declared.place.FaultPlace.{FaultPlace}
 use Rattle.rw_inspect.specs.declared.counts.Counts.{Counts}
-use Rattle.rw_log_read.specs.declared.log_read.Damage.{Damage}
+use Rattle.rw_wal_tail.specs.declared.place.Damage.{Damage}
 use Rattle.rw_inspect.specs.declared.report.Report.{Report}
 use Rattle.rw_log_read.specs.declared.log_read.Segment.{Segment}
 use Rattle.rw_inspect.specs.declared.sizes.Sizes.{Sizes}
@@ -107,15 +107,18 @@ series_counts_text c = field_text (codes "label sets                  ") c.label
 unfoldable pub found_text : Counts → List ℕ → List ℕ
 found_text c first = series_counts_text c ++ field_text (codes "\nsamples with bad labels     ") c.bad_labels ++ rising_text c.not_rising first
 
--- a place in a file
-unfoldable pub file_text : Segment → List ℕ
-file_text s = codes "place: file " ++ string_bytes s.name
+-- a place in a file of this name and length
+unfoldable pub file_text : List ℕ → List ℕ
+file_text name = codes "place: file " ++ name
 
 unfoldable pub offset_text : ℕ → ℕ → List ℕ
 offset_text offset behind = field_text (codes ", byte ") offset ++ field_text (codes "; bytes from there to its end: ") behind ++ codes "\n"
 
-unfoldable pub spot_text : Segment → ℕ → List ℕ
-spot_text s offset = file_text s ++ offset_text offset (s.bytes - offset)
+unfoldable pub spot_text : List ℕ → ℕ → ℕ → List ℕ
+spot_text name bytes offset = file_text name ++ offset_text offset (bytes - offset)
+
+abbrev pub segment_spot : Segment → ℕ → List ℕ
+segment_spot s offset = spot_text (string_bytes s.name) s.bytes offset
 
 abbrev pub any_spot : (Segment → ℕ → List ℕ) → Option Segment → ℕ → List ℕ
 any_spot text None offset = []
@@ -126,9 +129,17 @@ placed_text text segments None = []
 placed_text text segments (Some p) = any_spot text (slice_get segments p.segment) p.offset
 
 -- a fault, where it is, and what to do next
-unfoldable pub damage_text : List Segment → Damage → List ℕ
-damage_text segments d =
-    codes "fault: " ++ fault_words d.fault ++ codes "\n" ++ placed_text spot_text segments d.place ++ codes "next: " ++ next_step d.fault ++ codes "\n"
+unfoldable pub said_text : TailFault → List ℕ
+said_text f = codes "fault: " ++ fault_words f ++ codes "\n"
+
+unfoldable pub advice_text : TailFault → List ℕ
+advice_text f = codes "next: " ++ next_step f ++ codes "\n"
+
+unfoldable pub fault_text : TailFault → List ℕ → List ℕ
+fault_text f place = said_text f ++ place ++ advice_text f
+
+abbrev pub damage_text : List Segment → Damage → List ℕ
+damage_text segments d = fault_text d.fault (placed_text segment_spot segments d.place)
 
 abbrev pub any_damage : (List Segment → Damage → List ℕ) → List Segment → Option Damage → List ℕ
 any_damage text segments None = []

@@ -20,4 +20,4 @@ pub use found::{Found, find_entries};
 pub use json::json_of;
 pub use log_report::inspect;
 pub use report::Report;
-pub use table::table_of;
+pub use table::{fault_lines, table_of};

@@ -1,7 +1,7 @@
 //! Prints a report as a table.
 
 ghost use Rattle.std.specs.Prelude.{◌≡◌, ◌++◌, OnOk, IfOk, flat_map};
-ghost use Rattle.rw_inspect.specs.Texts.{any_damage, columns_text, count_columns, damage_text, file_text, found_text, line_text, offset_text, placed_text, positions_text, report_text, rising_text, row_text, series_counts_text, size_columns, spot_text, time_columns};
+ghost use Rattle.rw_inspect.specs.Texts.{advice_text, any_damage, columns_text, count_columns, damage_text, fault_text, file_text, found_text, line_text, offset_text, placed_text, positions_text, report_text, rising_text, row_text, said_text, segment_spot, series_counts_text, size_columns, spot_text, time_columns};
 
 use crate::counts::Counts;
 use crate::printed_parts::{
@@ -11,7 +11,7 @@ use crate::report::Report;
 use crate::sizes::{Sizes, sizes_in, sizes_of};
 use crate::words::{fault_words, next_step};
 use rw_log_read::{Damage, Segment, Sums};
-use rw_wal_tail::FaultPlace;
+use rw_wal_tail::{FaultPlace, TailFault};
 use std::alloc::{AllocError, Global};
 
 const HEAD: &[u8] =
@@ -125,11 +125,11 @@ fn push_found(out: &mut Vec<u8>, counts: &Counts, first: &[u64]) -> Result<(), A
 
 /// Adds the name of a file.
 #[tactic(auto, unfolding(crate::specs::Texts::file_text))]
-fn push_file(out: &mut Vec<u8>, segment: &Segment) -> Result<(), AllocError>
-    ensures { OnOk result (out.new.items ≡ out.old.items ++ file_text segment.now) }
+fn push_file(out: &mut Vec<u8>, name: &str) -> Result<(), AllocError>
+    ensures { OnOk result (out.new.items ≡ out.old.items ++ file_text name.now) }
 {
     out.extend_from_slice(b"place: file ")?;
-    out.extend_from_slice(segment.name.as_bytes())
+    out.extend_from_slice(name.as_bytes())
 }
 
 /// Adds an offset, and how many bytes are from there on.
@@ -142,13 +142,13 @@ fn push_offset(out: &mut Vec<u8>, offset: u64, behind: u64) -> Result<(), AllocE
     out.extend_from_slice(b"\n")
 }
 
-/// Adds a place in a file.
+/// Adds a place in a file of this name and length.
 #[tactic(auto, unfolding(crate::specs::Texts::spot_text))]
-fn push_spot(out: &mut Vec<u8>, segment: &Segment, offset: u64) -> Result<(), AllocError>
-    ensures { OnOk result (out.new.items ≡ out.old.items ++ spot_text segment.now offset) }
+fn push_spot(out: &mut Vec<u8>, name: &str, bytes: u64, offset: u64) -> Result<(), AllocError>
+    ensures { OnOk result (out.new.items ≡ out.old.items ++ spot_text name.now bytes offset) }
 {
-    push_file(out, segment)?;
-    push_offset(out, offset, segment.bytes.saturating_sub(offset))
+    push_file(out, name)?;
+    push_offset(out, offset, bytes.saturating_sub(offset))
 }
 
 /// Adds the place of a fault.
@@ -157,29 +157,65 @@ fn push_place(
     segments: &[Segment],
     place: Option<FaultPlace>,
 ) -> Result<(), AllocError>
-    ensures { OnOk result (out.new.items ≡ out.old.items ++ placed_text spot_text segments.now place) }
+    ensures { OnOk result (out.new.items ≡ out.old.items ++ placed_text segment_spot segments.now place) }
 {
     let Some(place) = place else {
         return Ok(());
     };
     match segments.get(place.segment as usize) {
-        Some(segment) => push_spot(out, segment, place.offset),
+        Some(segment) => push_spot(out, segment.name.as_str(), segment.bytes, place.offset),
         None => Ok(()),
     }
 }
 
+/// Adds what is wrong.
+#[tactic(auto, unfolding(crate::specs::Texts::said_text))]
+fn push_said(out: &mut Vec<u8>, fault: TailFault) -> Result<(), AllocError>
+    ensures { OnOk result (out.new.items ≡ out.old.items ++ said_text fault) }
+{
+    out.extend_from_slice(b"fault: ")?;
+    out.extend_from_slice(fault_words(fault).as_bytes())?;
+    out.extend_from_slice(b"\n")
+}
+
+/// Adds what to do next.
+#[tactic(auto, unfolding(crate::specs::Texts::advice_text))]
+fn push_advice(out: &mut Vec<u8>, fault: TailFault) -> Result<(), AllocError>
+    ensures { OnOk result (out.new.items ≡ out.old.items ++ advice_text fault) }
+{
+    out.extend_from_slice(b"next: ")?;
+    out.extend_from_slice(next_step(fault).as_bytes())?;
+    out.extend_from_slice(b"\n")
+}
+
 /// Adds a fault, where it is, and what to do next.
-#[tactic(auto, unfolding(crate::specs::Texts::damage_text))]
+#[tactic(auto, unfolding(crate::specs::Texts::fault_text))]
 fn push_damage(out: &mut Vec<u8>, segments: &[Segment], damage: &Damage) -> Result<(), AllocError>
     ensures { OnOk result (out.new.items ≡ out.old.items ++ damage_text segments.now damage.now) }
 {
-    out.extend_from_slice(b"fault: ")?;
-    out.extend_from_slice(fault_words(damage.fault).as_bytes())?;
-    out.extend_from_slice(b"\n")?;
+    push_said(out, damage.fault)?;
     push_place(out, segments, damage.place)?;
-    out.extend_from_slice(b"next: ")?;
-    out.extend_from_slice(next_step(damage.fault).as_bytes())?;
-    out.extend_from_slice(b"\n")
+    push_advice(out, damage.fault)
+}
+
+/// Returns the lines of the table about a fault at this offset of a file of this name and length:
+/// what is wrong, where, and what to do next.
+#[tactic(auto, unfolding(crate::specs::Texts::fault_text))]
+pub fn fault_lines(
+    alloc: Global,
+    fault: TailFault,
+    name: &str,
+    bytes: u64,
+    offset: u64,
+) -> Result<Vec<u8>, AllocError>
+    ensures { IfOk result
+        (λ text. text.items ≡ fault_text fault (spot_text name.now bytes offset)) }
+{
+    let mut out = Vec::new(alloc);
+    push_said(&mut out, fault)?;
+    push_spot(&mut out, name, bytes, offset)?;
+    push_advice(&mut out, fault)?;
+    Ok(out)
 }
 
 /// Adds a fault, if there is one.

@@ -1,5 +1,5 @@
 -- A log, read by a command: its entries and its fault.
-use Rattle.std.proofs.Common.{◌≡◌, ◌≢◌, ℕ, ◌<◌, List, [], ◌∷◌, ◌++◌, length, Bool, false, refl, sym, ◌∙◌, ap, subst, Option, Some, None, arith}
+use Rattle.std.proofs.Common.{◌≡◌, ◌≢◌, ℕ, ◌<◌, List, [], ◌∷◌, ◌++◌, length, Bool, false, refl, sym, ◌∙◌, ap, subst, Option, Some, None, is_some, Result, Ok, Err, arith}
 use Rattle.std.specs.Io.KnownBytes.{Consumes}
 use Rattle.rw_types.specs.declared.entry.Entry.{Entry}
 use Rattle.rw_wal_format.specs.Pieces.{bytes, entries, fault}
@@ -8,7 +8,7 @@ use Rattle.rw_wal_format.specs.declared.tail_fault.TailFault.TheVariants as tail
 use Rattle.rw_log_read.proofs.shared.LogLemmas.{fault_stays, no_pieces}
 use Rattle.rw_log_read.specs.Left.{current}
 use Rattle.rw_log_read.specs.Logs.{ReadsInto, ReadsTo, fault_in, log_of}
-use Rattle.rw_log_read.specs.declared.log_read.Damage.{Damage}
+use Rattle.rw_wal_tail.specs.declared.place.Damage.{Damage}
 use Rattle.rw_log_read.specs.declared.log_read.Segment.{Segment}
 use Rattle.rw_text.specs.declared.tool_fault.ToolFault.{ToolFault}
 use Rattle.rw_text.specs.declared.tool_fault.ToolFault.TheVariants.{OutOfMemory, Log, Line, SegmentFull, Device}
@@ -48,21 +48,40 @@ to_fault before after (t ∷ ts) f r e named =
       stays = λ more. fault_stays s.0 s.1 more f (ap (λ xs. fault (log_of xs)) (sym s.2) ∙ e);
     }
 
-at_fault : (before after : List (Option (List ℕ))) (texts : List (List ℕ)) (is_sure failed : Bool) (f : TailFault) → ReadsTo before texts after → fault (log_of texts) ≡ Some f → StopsLog before after is_sure failed (fault_of_log f)
-at_fault before after texts is_sure failed tail.OutOfMemory r e = tt
-at_fault before after texts is_sure failed tail.BadType r e = to_fault before after texts tail.BadType r e (λ h. cc)
-at_fault before after texts is_sure failed tail.BadLength r e = to_fault before after texts tail.BadLength r e (λ h. cc)
-at_fault before after texts is_sure failed tail.BadCrc r e = to_fault before after texts tail.BadCrc r e (λ h. cc)
-at_fault before after texts is_sure failed tail.Compressed r e = to_fault before after texts tail.Compressed r e (λ h. cc)
-at_fault before after texts is_sure failed tail.NonzeroPadding r e = to_fault before after texts tail.NonzeroPadding r e (λ h. cc)
-at_fault before after texts is_sure failed tail.Sequence r e = to_fault before after texts tail.Sequence r e (λ h. cc)
-at_fault before after texts is_sure failed tail.BadRecord r e = to_fault before after texts tail.BadRecord r e (λ h. cc)
-at_fault before after texts is_sure failed tail.TornSegment r e = to_fault before after texts tail.TornSegment r e (λ h. cc)
+-- what is not there is none
+pub none_there : {A : Type 0} (o : Option A) → is_some o ≡ false → o ≡ None
+none_there None e = refl
+none_there (Some x) e = absurd cc
+
+-- a command stops as a log with this fault makes it stop
+pub stops_there : (before after : List (Option (List ℕ))) (is_sure failed : Bool) (f : TailFault) → (f ≢ tail.OutOfMemory → ReadsLogToFault f before after) → StopsLog before after is_sure failed (fault_of_log f)
+stops_there before after is_sure failed tail.OutOfMemory h = tt
+stops_there before after is_sure failed tail.BadType h = h (λ e. cc)
+stops_there before after is_sure failed tail.BadLength h = h (λ e. cc)
+stops_there before after is_sure failed tail.BadCrc h = h (λ e. cc)
+stops_there before after is_sure failed tail.Compressed h = h (λ e. cc)
+stops_there before after is_sure failed tail.NonzeroPadding h = h (λ e. cc)
+stops_there before after is_sure failed tail.Sequence h = h (λ e. cc)
+stops_there before after is_sure failed tail.BadRecord h = h (λ e. cc)
+stops_there before after is_sure failed tail.TornSegment h = h (λ e. cc)
+
+pub stops_so : (before after : List (Option (List ℕ))) (is_sure failed : Bool) (d : Damage) (e : ToolFault) → (d.fault ≢ tail.OutOfMemory → ReadsLogToFault d.fault before after) → e ≡ fault_of_log d.fault → StopsLog before after is_sure failed e
+stops_so before after is_sure failed d e h from = subst (StopsLog before after is_sure failed) (sym from) (stops_there before after is_sure failed d.fault h)
+
+-- a command that answers a fault of the log has read the log up to it
+pub stops_in_log : (before after : List (Option (List ℕ))) (is_sure failed : Bool) (f : TailFault) (e : ToolFault) → (let answer : Result (Unit {0}) ToolFault = Err e in answer ≡ Err (Log f)) → StopsLog before after is_sure failed e → ReadsLogToFault f before after
+stops_in_log before after is_sure failed f e is h =
+    let same : e ≡ Log f = cc in
+    subst (StopsLog before after is_sure failed) same h
+
+-- the damage of a log that was read is the fault that it has
+pub damage_is_fault : (before after : List (Option (List ℕ))) (taken : List Entry) (rows : List Segment) (damage : Option Damage) (d : Damage) → ReadsInto false before after taken rows (fault_in damage) → damage ≡ Some d → d.fault ≢ tail.OutOfMemory → ReadsLogToFault d.fault before after
+damage_is_fault before after taken rows damage d h is named = to_fault before after h.texts d.fault h.read.read (sym h.fault_is ∙ ap fault_in is) named
 
 pub stops_at_fault : (before after : List (Option (List ℕ))) (taken : List Entry) (rows : List Segment) (damage : Option Damage) (d : Damage) (is_sure failed : Bool) (e : ToolFault)
     → ReadsInto false before after taken rows (fault_in damage) → damage ≡ Some d → e ≡ fault_of_log d.fault → StopsLog before after is_sure failed e
 stops_at_fault before after taken rows damage d is_sure failed e h is from =
-    subst (StopsLog before after is_sure failed) (sym from) (at_fault before after h.texts is_sure failed d.fault h.read.read (sym h.fault_is ∙ ap fault_in is))
+    stops_so before after is_sure failed d e (damage_is_fault before after taken rows damage d h is) from
 
 -- a log of one segment
 one_text : (left : Option (List ℕ)) (texts : List (List ℕ)) (after : List (Option (List ℕ))) → ReadsTo (left ∷ []) texts after → length texts ≡ 1 → (text : List ℕ) × (texts ≡ text ∷ []) × Consumes left (current after) text
@@ -94,3 +113,10 @@ stops_segment a b is_sure failed (Log f) h = segment_to_fault f a b h
 stops_segment a b is_sure failed (Line line) h = absurd h
 stops_segment a b is_sure failed SegmentFull h = absurd h
 stops_segment a b is_sure failed Device h = h.1
+
+-- the same of what a plan answers
+pub answers_fault : (before after : List (Option (List ℕ))) (taken : List Entry) (rows : List Segment) (damage : Option Damage) (d : Damage) → ReadsInto false before after taken rows (fault_in damage)
+    → (let answer : Option Damage → Result (Option Damage) ToolFault = λ o. Ok o in answer damage ≡ answer (Some d)) → d.fault ≢ tail.OutOfMemory → ReadsLogToFault d.fault before after
+answers_fault before after taken rows damage d h is named =
+    let same : damage ≡ Some d = cc in
+    damage_is_fault before after taken rows damage d h same named

@@ -5,32 +5,11 @@ ghost use Rattle.rw_wal_format.specs.Pieces.{bytes, entries};
 ghost use Rattle.rw_log_commands.specs.Taking.{ReadsWhole};
 ghost use Rattle.rw_log_commands.specs.inner.Taking.{ReadsSegment, StopsLog, StopsReading};
 
-use rw_log_read::{SegmentReader, read_into};
+use rw_log_read::read_into;
 use rw_text::ToolFault;
 use rw_types::Source;
 use rw_wal_tail::Taker;
 use std::alloc::Global;
-
-/// Reads a log to its end, lets a taker take all its entries, as its bytes come, and returns the
-/// taker.
-pub(crate) fn read_log<L: SegmentReader, T: Taker + Drop>(
-    alloc: Global,
-    log: &mut L,
-    taker: T,
-) -> Result<T, ToolFault>
-    requires { T.taken taker ≡ [] }
-    ensures ok { IfOk result (λ t. ReadsWhole (L.left log.old) (L.left log.new) (T.taken t)) }
-    ensures fixed { IfOk result (λ t. T.fixed t ≡ T.fixed taker) }
-    ensures sound { 0 < length (L.left log.old) → OnOk result (L.has_failed log.new ≡ false) }
-    ensures err { IfErr result
-        (StopsLog (L.left log.old) (L.left log.new) (L.is_sure log.old) (L.has_failed log.new)) }
-{
-    let (read, taker) = read_into(alloc, log, false, taker)?;
-    match read.damage {
-        Some(damage) => Err(ToolFault::from(damage.fault)),
-        None => Ok(taker),
-    }
-}
 
 /// Reads a log segment (wal.md) to its end, and lets all its entries be taken, as its bytes come.
 pub(crate) fn read_segment<R: Source, T: Taker + Drop>(
@@ -47,8 +26,9 @@ pub(crate) fn read_segment<R: Source, T: Taker + Drop>(
     ensures err { IfErr result
         (StopsReading (R.remaining reader.old) (R.remaining reader.new) (R.has_failed reader.new)) }
 {
-    match read_log(alloc, reader, taker) {
-        Ok(taker) => Ok(taker),
-        Err(fault) => Err(fault),
+    let (read, taker) = read_into(alloc, reader, false, taker)?;
+    match read.damage {
+        Some(damage) => Err(ToolFault::from(damage.fault)),
+        None => Ok(taker),
     }
 }

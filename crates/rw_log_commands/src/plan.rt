@@ -1,22 +1,23 @@
 //! The command `plan`, over any log and writer.
 
-ghost use Rattle.std.specs.Prelude.{◌≡◌, ◌≢◌, ◌⊎◌, ◌<◌, ◌∷◌, [], ℕ, List, length, true, false, Err, None, IfOk, OnOk, IfErr};
+ghost use Rattle.std.specs.Prelude.{◌≡◌, ◌≢◌, ◌⊎◌, ◌<◌, ◌∷◌, [], ℕ, List, length, true, false, Ok, Err, None, Some, IfOk, OnOk, IfErr};
 ghost use Rattle.rw_wal_format.specs.declared.tail_fault.TailFault.{TailFault};
+ghost use Rattle.rw_wal_format.specs.declared.tail_fault.TailFault.TheVariants as tail;
+ghost use Rattle.rw_wal_tail.specs.declared.place.Damage.{Damage};
 ghost use Rattle.rw_shard_core.specs.Configs.{choice_of};
 ghost use Rattle.rw_log_commands.specs.Planning.{PlansLog, PlansLogPart, WritesPlan, WritesPlanPart};
 ghost use Rattle.rw_log_commands.specs.Running.{ReadsFault, ReadsLine};
 ghost use Rattle.rw_log_commands.specs.Taking.{ReadsLogToFault};
 ghost use Rattle.rw_text.specs.declared.tool_fault.ToolFault.TheVariants.{Log, Line, SegmentFull, Device};
 
-use crate::log_read::read_log;
 use crate::planner::Planner;
 use crate::run::read_input;
-use rw_log_read::SegmentReader;
+use rw_log_read::{SegmentReader, read_into};
 use rw_relabel::Choice;
 use rw_settings::Settings;
 use rw_text::ToolFault;
 use rw_types::{Entry, Sink, Source, write_all};
-use rw_wal_tail::Taker;
+use rw_wal_tail::{Damage, Taker};
 use std::alloc::{AllocError, Global};
 
 impl Taker for Planner {
@@ -36,23 +37,27 @@ impl Taker for Planner {
 /// Reads a log to its end, and writes what the rules make of its entries: for each definition in
 /// log order `REF kept NUMBER LABELS`, `REF filtered LABELS` or `REF bad FAULT`, and then `samples
 /// kept A filtered B bad C noseries D`, each line ended by LF. Nothing is written before the whole
-/// plan is made.
+/// plan is made. If the log has a fault, the fault is returned with its place, and nothing is
+/// written.
 pub fn plan_log<L: SegmentReader, W: Sink>(
     alloc: Global,
     log: &mut L,
     writer: &mut W,
     choice: Choice,
-) -> Result<(), ToolFault>
-    ensures ok { OnOk result
-        (PlansLog choice (L.left log.old) (L.left log.new) (W.contents writer.old)
-        (W.contents writer.new)) }
-    ensures log_sound { 0 < length (L.left log.old) → OnOk result (L.has_failed log.new ≡ false) }
+) -> Result<Option<Damage>, ToolFault>
+    ensures ok { result ≡ Ok None
+        → PlansLog choice (L.left log.old) (L.left log.new) (W.contents writer.old)
+        (W.contents writer.new) }
+    ensures log_sound { 0 < length (L.left log.old) → result ≡ Ok None
+        → L.has_failed log.new ≡ false }
     ensures writer_sound { OnOk result
         (W.has_failed writer.old ≡ false → W.has_failed writer.new ≡ false) }
 
     // A fault of the log is the one that it has. Then nothing is written, nor if memory ran out.
-    ensures log { (f : TailFault) → result ≡ Err (Log f)
-        → ReadsLogToFault f (L.left log.old) (L.left log.new) }
+    ensures damaged { (d : Damage) → result ≡ Ok (Some d) → writer.new ≡ writer.old }
+    ensures log { (d : Damage) → result ≡ Ok (Some d) → d.fault ≢ tail.OutOfMemory
+        → ReadsLogToFault d.fault (L.left log.old) (L.left log.new) }
+    ensures no_log { (f : TailFault) → result ≡ Err (Log f) → ⊥ }
     ensures no_line { (n : ℕ) → result ≡ Err (Line n) → ⊥ }
     ensures no_full { result ≡ Err SegmentFull → ⊥ }
     ensures untouched { IfErr result (λ e. e ≢ Device → writer.new ≡ writer.old) }
@@ -65,10 +70,13 @@ pub fn plan_log<L: SegmentReader, W: Sink>(
         × PlansLogPart choice (L.left log.old) (L.left log.new) (W.contents writer.old)
         (W.contents writer.new)) }
 {
-    let planner = read_log(alloc, log, Planner::new(alloc, choice))?;
+    let (read, planner) = read_into(alloc, log, false, Planner::new(alloc, choice))?;
+    if read.damage.is_some() {
+        return Ok(read.damage);
+    }
     let plan = planner.into_text()?;
     write_all(writer, &plan)?;
-    Ok(())
+    Ok(None)
 }
 
 /// Reads a log segment (wal.md) to its end, and writes its plan.
@@ -97,7 +105,10 @@ fn plan_segment<R: Source, W: Sink>(
         × WritesPlanPart choice false (R.remaining reader.old) (R.remaining reader.new)
         (W.contents writer.old) (W.contents writer.new)) }
 {
-    plan_log(alloc, reader, writer, choice)
+    match plan_log(alloc, reader, writer, choice)? {
+        None => Ok(()),
+        Some(damage) => Err(ToolFault::from(damage.fault)),
+    }
 }
 
 /// Reads the hexadecimal text of a log segment to its end, and writes its plan.

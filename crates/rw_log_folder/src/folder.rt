@@ -29,6 +29,10 @@ pub struct Folder<R> {
     dir: String,
     /// `None` before the first one is there.
     current: Option<Current>,
+    /// The name of the one before it.
+    previous: Option<SegmentName>,
+    /// How many were opened.
+    begun: u64,
     /// The one after it, once it was seen.
     ahead: Option<SegmentName>,
     /// Whether a checkpoint is still to be looked for.
@@ -71,6 +75,8 @@ impl<R: Files<File = File> + AllocGlobal + Copy> Folder<R> {
             rt,
             dir,
             current: None,
+            previous: None,
+            begun: 0,
             ahead: None,
             from_checkpoint: false,
             opened,
@@ -89,6 +95,8 @@ impl<R: Files<File = File> + AllocGlobal + Copy> Folder<R> {
             rt,
             dir,
             current: None,
+            previous: None,
+            begun: 0,
             ahead: None,
             from_checkpoint: true,
             opened,
@@ -97,12 +105,39 @@ impl<R: Files<File = File> + AllocGlobal + Copy> Folder<R> {
         }
     }
 
+    /// Makes a segment the current one.
+    fn go_to(&mut self, next: Current) {
+        self.counters.begin_segment(next.segment.number);
+        self.begun = self.begun.saturating_add(1);
+        self.previous = match self.current.take() {
+            Some(current) => Some(current.segment),
+            None => None,
+        };
+        self.current = Some(next);
+    }
+
     /// Makes the next one of the open files the current one.
     fn take_opened(&mut self) {
         if let Some(next) = self.opened.pop() {
-            self.counters.begin_segment(next.segment.number);
-            self.current = Some(next);
+            self.go_to(next);
         }
+    }
+
+    /// Returns the name of a segment of the log, by how many segments come before it. It is known
+    /// of the current segment and of the one before it.
+    pub fn name_of(&self, segment: u64) -> Option<&str> {
+        let name = match self.begun.saturating_sub(segment) {
+            1 => match &self.current {
+                Some(current) => &current.segment,
+                None => return None,
+            },
+            2 => match &self.previous {
+                Some(previous) => previous,
+                None => return None,
+            },
+            _ => return None,
+        };
+        Some(name.name.as_str())
     }
 
     /// Opens the file that is read first, if it is there.
@@ -143,9 +178,8 @@ impl<R: Files<File = File> + AllocGlobal + Copy> Folder<R> {
         let path = path_of(self.rt.alloc(), self.dir.as_str(), segment.name.as_str())?;
         match fs::open(&self.rt, path.as_path()) {
             Ok(file) => {
-                self.counters.begin_segment(segment.number);
                 let file = Std::new(file);
-                self.current = Some(Current { segment, file });
+                self.go_to(Current { segment, file });
                 Ok(())
             }
             Err(_) => Err(ReadFault::Failed),

@@ -7,7 +7,7 @@ use Rattle.rw_wal_format.specs.declared.tail_fault.TailFault.{TailFault}
 use Rattle.rw_log_read.specs.Left.{current}
 use Rattle.rw_log_read.specs.Reading.{IsReadToEnd}
 use Rattle.rw_log_read.specs.Sums.{sums_of}
-use Rattle.rw_log_read.specs.declared.log_read.Damage.{Damage}
+use Rattle.rw_wal_tail.specs.declared.place.Damage.{Damage}
 use Rattle.rw_log_read.specs.declared.log_read.Segment.{Segment}
 
 -- a source that has this left is read to its end, and returns this text

@@ -12,7 +12,8 @@ mod skipped;
 mod sums;
 
 pub use log::read_into;
-pub use log_read::{Damage, LogRead, Segment};
+pub use log_read::{LogRead, Segment};
+pub use rw_wal_tail::Damage;
 pub use segment_list::{Named, SegmentList};
 pub use segment_reader::SegmentReader;
 pub use skipped::SkippedRecords;

@@ -9,12 +9,12 @@ ghost use Rattle.rw_log_read.specs.Logs.{ReadsInto, ReadsLog, fault_in};
 ghost use Rattle.rw_log_read.specs.inner.Logs.{AreTaken, ReadsSegment, begun};
 
 use crate::counting::Counting;
-use crate::log_read::{Damage, LogRead, Segment};
+use crate::log_read::{LogRead, Segment};
 use crate::segment_reader::SegmentReader;
 use crate::segment_text::read_text;
 use crate::skipped::skipped_records;
 use rw_types::ReadFault;
-use rw_wal_tail::{Tail, TailFault, Taker};
+use rw_wal_tail::{Damage, Tail, TailFault, Taker};
 use std::alloc::{AllocError, Global};
 
 /// How many bytes one read asks for.

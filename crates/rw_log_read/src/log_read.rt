@@ -2,7 +2,7 @@
 
 use crate::skipped::SkippedRecords;
 use crate::sums::Sums;
-use rw_wal_tail::{FaultPlace, TailFault};
+use rw_wal_tail::Damage;
 
 /// What was found in a segment.
 #[derive(Debug, Drop)]
@@ -12,14 +12,6 @@ pub struct Segment {
     /// Records that were skipped, since they are empty or of another type.
     pub passed: u64,
     pub sums: Sums,
-}
-
-/// A fault of the log.
-#[derive(Clone, Copy, Debug, PartialEq, Eq)]
-pub struct Damage {
-    pub fault: TailFault,
-    /// Where it is.
-    pub place: Option<FaultPlace>,
 }
 
 /// How far a log was read: a row for each segment, its damage, if it has one, and the records that

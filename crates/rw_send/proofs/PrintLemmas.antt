@@ -1,5 +1,5 @@
 -- A report is printed.
-use Rattle.std.proofs.Common.{◌≡◌, ◌⊎◌, inl, inr, ℕ, Bool, List, map, Option, Result, Ok, Err, OnOk, sym, ap, subst}
+use Rattle.std.proofs.Common.{◌≡◌, ◌⊎◌, inl, inr, ℕ, Bool, List, map, Option, None, Result, Ok, Err, OnOk, sym, ap, subst}
 use Rattle.std.specs.Result.{IsErrAnd}
 use Rattle.std.specs.Io.KnownBytes.{Appends}
 use Rattle.rw_follow.specs.declared.signal.StopRequest.{StopRequest}
@@ -10,14 +10,16 @@ use Rattle.rw_text.specs.declared.tool_fault.ToolFault.{ToolFault}
 use Rattle.rw_text.specs.declared.tool_fault.ToolFault.TheVariants as tool
 use Rattle.rw_send.specs.declared.follow_fault.FollowFault.{FollowFault}
 use Rattle.rw_send.specs.declared.follow_fault.FollowFault.TheVariants as fault
+use Rattle.rw_send.specs.declared.follow_fault.RunFault.{RunFault}
+use Rattle.rw_send.specs.RunFaults.{answer_of}
 use Rattle.rw_send.specs.Logs.{Seen, readers}
 use Rattle.rw_send.specs.ReportText.{IsTextOf, WritesReportPart}
 use Rattle.rw_send.specs.Sending.{IsSent, Prints}
 use Rattle.rw_send.proofs.AnswerLemmas.{failed}
 
-pub fault_is : (r : Result (Unit {0}) FollowFault) (f : FollowFault) → IsErrAnd r (λ e. e ≡ f) → failed f ≡ r
+pub fault_is : (r : Result (Unit {0}) RunFault) (f : FollowFault) → IsErrAnd r (λ e. e ≡ record { fault = f; place = None }) → failed f ≡ answer_of r
 fault_is (Ok u) f is = absurd is
-fault_is (Err e) f is = ap failed (sym is)
+fault_is (Err e) f is = ap (λ (x : RunFault). failed x.fault) (sym is)
 
 abbrev pub tool_failed : ToolFault → Result (Unit {0}) ToolFault
 tool_failed f = Err f

@@ -5,4 +5,5 @@ pub mod EpochSizes
 pub mod FeedErrors
 pub mod Segments
 pub mod Steps
+pub mod RunFaults
 pub mod inner

@@ -3,13 +3,14 @@
 ghost use Rattle.std.specs.Prelude.{◌≡◌, ◌⊎◌, [], true, false, Err, IfOk, OnOk};
 ghost use Rattle.rw_follow.specs.declared.signal.StopRequest.TheVariants as StopRequest;
 ghost use Rattle.rw_send.specs.Logs.{seen_of};
+ghost use Rattle.rw_send.specs.RunFaults.{answer_of};
 ghost use Rattle.rw_send.specs.Segments.{meal_of};
 ghost use Rattle.rw_send.specs.Sending.{IsSent, Prints};
 ghost use Rattle.rw_send.specs.inner.Sending.{left_undone};
 ghost use Rattle.rw_send.specs.declared.follow_fault.FollowFault.TheVariants.{Stopped};
 
 use crate::counters::{FeedContext, count_report, update_counters};
-use crate::follow_fault::FollowFault;
+use crate::follow_fault::{FollowFault, RunFault};
 use crate::live::{room_for_piece, ship_live};
 use crate::options::SendOptions;
 use crate::printed_report::print_report;
@@ -83,10 +84,18 @@ fn ship<
         &mut buf,
     );
     update_counters(counters, &shipper);
-    let Sent { report, answer } = stop_shipper(rt, shipper, ended);
+    let Sent {
+        report,
+        answer,
+        place,
+    } = stop_shipper(rt, shipper, ended);
     count_report(counters, &report);
     let answer = or_stopped(watch, answer);
-    Ok(Sent { report, answer })
+    Ok(Sent {
+        report,
+        answer,
+        place,
+    })
 }
 
 /// Ships a log until the watch asks to stop, then stops, and prints the report: `dropped POS
@@ -105,7 +114,8 @@ fn ship<
 /// Asked to finish, it reads what the log has, and waits until the receiver has acknowledged all of
 /// it; asked to end at once, it leaves what is not done. While it waits for room in a queue, or for
 /// the receiver, it sees that only if the stop flag of `options` is set too, after the stop signal.
-/// The counters are updated after each turn, and once the work has stopped.
+/// The counters are updated after each turn, and once the work has stopped. With a fault of the log
+/// comes its place.
 pub fn run_follow<
     R: Threads + Wait + Clock + Copy + Send + 'static,
     S: Segments,
@@ -120,19 +130,23 @@ pub fn run_follow<
     options: SendOptions<'_, C>,
     watch: &mut W,
     writer: &mut K,
-) -> Result<(), FollowFault>
+) -> Result<(), RunFault>
     ensures prints { (start : S.Start) → S.gave segments.old start (meal_of [])
         → Prints C.T.tells C.T.seen C.T.is_for settings.config options.entry.max_batch_bytes
         (seen_of (S.gave segments.new start) (S.had_all segments.new start)
         (S.lacks segments.new) (S.may_fail segments.old))
         (W.is_quiet watch.old) (W.said watch.new) (K.contents writer.old)
         (K.contents writer.new) (writer.new ≡ writer.old) (K.has_failed writer.new ≡ true)
-        result }
+        (answer_of result) }
     ensures sound { OnOk result
         (K.has_failed writer.old ≡ false → K.has_failed writer.new ≡ false) }
 {
     let Settings { config, limits: _ } = settings;
-    let Sent { report, answer } = ship(rt, alloc, config, segments, options, watch)?;
+    let Sent {
+        report,
+        answer,
+        place,
+    } = ship(rt, alloc, config, segments, options, watch)?;
     print_report(alloc, report, writer)?;
-    answer
+    RunFault::at(answer, place)
 }

@@ -18,7 +18,7 @@ pub use connect::TcpConnect;
 pub use counters::FeedContext;
 pub use feed_error::FeedError;
 pub use follow::run_follow;
-pub use follow_fault::FollowFault;
+pub use follow_fault::{FollowFault, RunFault};
 pub use options::SendOptions;
 pub use rw_worker::StopFlag;
 pub use send::run_send;

@@ -6,7 +6,7 @@ ghost use Rattle.rw_send.specs.Logs.{readers};
 ghost use Rattle.rw_send.specs.Sending.{Prints, as_answer};
 
 use crate::follow::run_follow;
-use crate::follow_fault::FollowFault;
+use crate::follow_fault::{FollowFault, RunFault};
 use crate::options::SendOptions;
 use rw_follow::{Queue, ToTheEnd};
 use rw_sender::Connect;
@@ -43,7 +43,8 @@ pub fn run_send<
 {
     let mut log = Queue::new(segments);
     let mut watch = ToTheEnd;
-    match run_follow(rt, alloc, settings, &mut log, options, &mut watch, writer) {
+    let ended = run_follow(rt, alloc, settings, &mut log, options, &mut watch, writer);
+    match RunFault::answer_of(ended) {
         Ok(()) => Ok(()),
         Err(FollowFault::Tool(fault)) => Err(fault),
         // A log that is there whole lacks no segment, and the watch only asks to finish.

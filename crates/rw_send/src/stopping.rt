@@ -11,6 +11,7 @@ use crate::feed_error::FeedError;
 use crate::follow_fault::FollowFault;
 use rw_sender::{Connect, Outcome, Report, Shipper};
 use rw_text::ToolFault;
+use rw_wal_tail::FaultPlace;
 use std::sync::Wait;
 use std::thread::Threads;
 
@@ -19,6 +20,8 @@ use std::thread::Threads;
 pub(crate) struct Sent<T> {
     pub(crate) report: Report<T>,
     pub(crate) answer: Result<(), FollowFault>,
+    /// Where a fault of the log was found, if one was.
+    pub(crate) place: Option<FaultPlace>,
 }
 
 /// Returns the answer of a run whose shipper was stopped in order.
@@ -63,16 +66,22 @@ pub(crate) fn stop_shipper<R: Threads + Wait, C: Connect + Drop>(
     ensures hard { IsSome (hard_fault shipped) → IsAbandoned result.report.outcome }
     ensures failed { IfSome shipper.fault (λ _. IsAbandoned result.report.outcome) }
 {
+    let place = shipper.fault_place();
     match hard_fault(shipped) {
         None => {
             let end = shipper.entries_read();
             let report = shipper.stop_orderly(rt, end);
             let answer = answer_to(&report.outcome);
-            Sent { report, answer }
+            Sent {
+                report,
+                answer,
+                place,
+            }
         }
         Some(fault) => Sent {
             report: shipper.stop_hard(rt),
             answer: Err(fault),
+            place,
         },
     }
 }

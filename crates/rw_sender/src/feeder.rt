@@ -1,10 +1,11 @@
 //! The entries of a log, one after the other.
 
-ghost use Rattle.std.specs.Prelude.{◌≡◌, ◌⊎◌, ◌<◌, ◌≤◌, ◌^◌, ◌++◌, ◌∷◌, [], length, OnOk, OnErr, IfOk};
+ghost use Rattle.std.specs.Prelude.{◌≡◌, ◌⊎◌, ◌<◌, ◌≤◌, ◌^◌, ◌++◌, ◌∷◌, [], length, Some, OnOk, OnErr, IfOk, IfSome};
 ghost use Rattle.rw_types.specs.Beginnings.{Begins};
 ghost use Rattle.rw_types.specs.declared.entry.Entry.{Entry};
 ghost use Rattle.rw_wal_format.specs.Pieces.{entries};
 ghost use Rattle.rw_wal_tail.specs.Fed.{piece_of, size_of};
+ghost use Rattle.rw_wal_tail.specs.Places.{fault_place};
 ghost use Rattle.rw_series_cache.specs.Routing.{TakesMemory};
 ghost use Rattle.rw_sender.specs.Logs.{named, dropped, filtered};
 ghost use Rattle.rw_sender.specs.Feeders.{ReadsNext, IsDropped, IsDroppedSample, IsToBeSent, Judges, HasPlaced};
@@ -14,7 +15,7 @@ use rw_ledger::{Ledger, Reason};
 use rw_relabel::Choice;
 use rw_series_cache::{Routed, RoutedSample, Router};
 use rw_types::Entry;
-use rw_wal_tail::{Piece, SkippedType, Tail, TailFault, is_out_of_memory};
+use rw_wal_tail::{FaultPlace, Piece, SkippedType, Tail, TailFault, is_out_of_memory};
 use std::alloc::{AllocError, Global};
 use std::marker::Model;
 
@@ -109,6 +110,13 @@ impl Feeder {
                 Ok(Next::Damaged(fault))
             }
         }
+    }
+
+    /// Returns where the fault is that `read` has reported, or `None` before it has reported one.
+    pub fn fault_place(&self) -> Option<FaultPlace>
+        ensures { IfSome result (λ place. fault_place self.now.pieces ≡ Some place) }
+    {
+        self.tail.fault_place()
     }
 
     /// Names the sample that comes next as dropped, for `reason`.

@@ -2,6 +2,7 @@
 
 ghost use Rattle.std.specs.Prelude.{◌≡◌, ◌⊎◌, List, true, false, ◌+◌, ◌≤◌, ◌<◌, [], ◌++◌, length, map, None, Some, Err, IfOk, IfErr, IfSome, OnOk, is_some};
 ghost use Rattle.rw_wal_tail.specs.Fed.{piece_of};
+ghost use Rattle.rw_wal_tail.specs.Places.{fault_place};
 ghost use Rattle.rw_fleet.specs.ShardHistories.{AreFresh, AreSame, marked, marks_of};
 ghost use Rattle.rw_fleet.specs.Work.{AreResolved, HasCut};
 ghost use Rattle.rw_fleet.specs.Fleets.{EndBy};
@@ -26,7 +27,7 @@ use rw_ledger::Ledger;
 use rw_relabel::{Choice, Rules};
 use rw_shard_core::{Config, ConfigFields, Outcome};
 use rw_shard_queue::Kind;
-use rw_wal_tail::{Piece, SkippedType, TailFault};
+use rw_wal_tail::{FaultPlace, Piece, SkippedType, TailFault};
 use rw_worker::StopFlag;
 use std::alloc::{AllocError, Global};
 use std::error::Error;
@@ -288,6 +289,14 @@ impl<C: Connect + Drop> Shipper<C> {
                 Err(answer_to(fault))
             }
         }
+    }
+
+    /// Returns where the fault of the log is that `feed` has answered, or `None` before it has
+    /// answered one.
+    pub fn fault_place(&self) -> Option<FaultPlace>
+        ensures { IfSome result (λ place. fault_place self.now.log.pieces ≡ Some place) }
+    {
+        self.feeder.fault_place()
     }
 
     /// Puts one Flush into each queue of the epoch. It may wait for room in a queue.

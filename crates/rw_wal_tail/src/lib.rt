@@ -22,7 +22,7 @@ mod tail;
 mod taker;
 
 pub use piece::Piece;
-pub use place::FaultPlace;
+pub use place::{Damage, FaultPlace};
 pub use rw_wal_format::{SkippedType, TailFault};
 pub use tail::{Tail, is_out_of_memory};
 pub use taker::{Taker, take_all};

@@ -1,4 +1,6 @@
-//! Where a log has a fault.
+//! Which fault a log has, and where.
+
+use rw_wal_format::TailFault;
 
 /// Where in a log a fault was found.
 #[derive(Clone, Copy, Debug, PartialEq, Eq, Drop)]
@@ -10,4 +12,12 @@ pub struct FaultPlace {
     /// segment ends inside a record, it is the offset of the fragment that is not whole, or the end
     /// of the segment if each fragment is whole.
     pub offset: u64,
+}
+
+/// A fault of a log, and where it is.
+#[derive(Clone, Copy, Debug, PartialEq, Eq)]
+pub struct Damage {
+    pub fault: TailFault,
+    /// No clause says that it is known.
+    pub place: Option<FaultPlace>,
 }

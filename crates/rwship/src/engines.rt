@@ -2,7 +2,7 @@
 
 use crate::explanations::report_input_result;
 use crate::input::{Form, Input, Reader};
-use crate::inspect_command::{note_checkpoint, print_plan, report_run_fault};
+use crate::inspect_command::LogCommand;
 use crate::program_end::{report_settings_fault, report_unread_input};
 use crate::settings::settings_in;
 use rw_cli::{LogDir, SettingsFile};
@@ -61,23 +61,6 @@ pub fn log(
     }
 }
 
-/// Prints the plan of the segments of a folder.
-fn plan_folder(
-    rt: &HostRuntime,
-    dir: LogDir<'_>,
-    settings: Settings,
-    is_explained: bool,
-) -> ExitCode {
-    if is_explained {
-        note_checkpoint(rt, dir);
-    }
-    let mut output = Std::new(rt.stdout());
-    match print_plan(rt, dir, settings, is_explained, &mut output) {
-        Ok(()) => ExitCode::SUCCESS,
-        Err(fault) => report_run_fault(rt, &mut output, dir, fault, is_explained),
-    }
-}
-
 /// Prints the plan of a segment.
 fn plan_segment(rt: &HostRuntime, settings: Settings, hex: bool, is_explained: bool) -> ExitCode {
     match Input::open(rt, Form::of_segment(hex), is_explained) {
@@ -100,7 +83,7 @@ pub fn plan(
 ) -> ExitCode {
     match settings_in(rt, file) {
         Ok(settings) => match dir {
-            Some(dir) => plan_folder(rt, dir, settings, file.is_explained),
+            Some(dir) => LogCommand::new(rt, dir, file.is_explained).plan(settings),
             None => plan_segment(rt, settings, hex, file.is_explained),
         },
         Err(fault) => report_settings_fault(rt, fault),

@@ -1,7 +1,7 @@
 //! What `--explain` prints about an input that has a fault, after the one line.
 
 use crate::input::{Form, Input, Reader};
-use crate::inspect_command::{inspect_segment, print_damage_report};
+use crate::inspect_command::{inspect_segment, print_damage};
 use crate::program_end::{point_to_explain, print_device_error, print_output_error, report_result};
 use rw_replay::{log_line_note, numbered_line, script_line_note, shown_line};
 use rw_text::ToolFault;
@@ -19,7 +19,7 @@ const MIXED: &str =
 /// Prints where a segment is damaged.
 fn print_segment_damage(rt: &HostRuntime, segment: &[u8]) -> Result<(), ToolFault> {
     let report = inspect_segment(rt, Reader::Held(segment))?;
-    Ok(print_damage_report(rt, &report)?)
+    Ok(print_damage(rt, &report)?)
 }
 
 /// Prints a line, and what is wrong with it.

@@ -7,6 +7,8 @@ mod input;
 mod inspect_command;
 mod kept_receiver;
 mod live_report;
+mod log_fault;
+mod log_files;
 mod program_end;
 mod receive_command;
 mod send_command;
@@ -15,15 +17,13 @@ mod stop;
 
 use clap::ArgMatches;
 use engines::{body, log, plan, replay};
-use inspect_command::{has_output_failed, print_found, print_inspected, report_run_fault};
+use inspect_command::{LogCommand, inspect_input};
 use program_end::{
-    report_bad_address, report_bad_arguments, report_follow_fault, report_missing,
-    report_output_fault, report_parse_error, report_result, report_settings_fault,
-    report_unread_input,
+    report_bad_address, report_bad_arguments, report_output_fault, report_parse_error,
+    report_result, report_settings_fault,
 };
 use receive_command::receive;
 use rw_cli::{LogDir, SettingsFile, Task, command_line, positions_of, task_of};
-use rw_send::FollowFault;
 use rw_text::ToolFault;
 use rw_types::{Std, write_all};
 use send_command::send;
@@ -48,49 +48,11 @@ fn print_settings(rt: &HostRuntime, settings: SettingsFile<'_>) -> ExitCode {
     }
 }
 
-/// Reports why the segment on standard input could not be inspected. Its damage is printed already.
-fn report_uninspected(rt: &HostRuntime, output: &mut Std<Stdout>, fault: FollowFault) -> ExitCode {
-    if has_output_failed(output) {
-        return report_output_fault(rt, true);
-    }
-    match fault {
-        FollowFault::Tool(fault) => report_unread_input(rt, fault),
-        _ => report_follow_fault(rt, fault),
-    }
-}
-
-/// Prints what a log holds, the one in a folder or the segment on standard input.
-fn inspect(rt: &HostRuntime, dir: Option<LogDir<'_>>, json: bool, is_explained: bool) -> ExitCode {
-    let mut output = Std::new(rt.stdout());
-    match (
-        print_inspected(rt, dir, json, is_explained, &mut output),
-        dir,
-    ) {
-        (Ok(()), _) => ExitCode::SUCCESS,
-        (Err(fault), Some(dir)) => report_run_fault(rt, &mut output, dir, fault, is_explained),
-        (Err(fault), None) => report_uninspected(rt, &mut output, fault),
-    }
-}
-
-/// Returns how many of the positions that the arguments name have no entry, and prints the others.
-fn find_positions(
-    rt: &HostRuntime,
-    dir: LogDir<'_>,
-    words: &ArgMatches<'_>,
-    is_explained: bool,
-    output: &mut Std<Stdout>,
-) -> Result<u64, FollowFault> {
-    let positions = positions_of(rt.alloc(), words)?;
-    print_found(rt, dir, positions, is_explained, output)
-}
-
 /// Prints the entries at positions of the log in a folder.
 fn find(rt: &HostRuntime, dir: LogDir<'_>, words: &ArgMatches<'_>, is_explained: bool) -> ExitCode {
-    let mut output = Std::new(rt.stdout());
-    match find_positions(rt, dir, words, is_explained, &mut output) {
-        Ok(0) => ExitCode::SUCCESS,
-        Ok(count) => report_missing(rt, count),
-        Err(fault) => report_run_fault(rt, &mut output, dir, fault, is_explained),
+    match positions_of(rt.alloc(), words) {
+        Ok(positions) => LogCommand::new(rt, dir, is_explained).find(positions),
+        Err(_) => report_result(rt, Err(ToolFault::OutOfMemory)),
     }
 }
 
@@ -116,7 +78,10 @@ fn perform<R: Threads + Wait + Clock + Copy + Send + Sync + 'static>(
             dir,
             json,
             is_explained,
-        } => inspect(rt, dir, json, is_explained),
+        } => match dir {
+            Some(dir) => LogCommand::new(rt, dir, is_explained).inspect(json),
+            None => inspect_input(rt, json),
+        },
         Task::Find { dir, is_explained } => find(rt, dir, words, is_explained),
         Task::Replay { settings } => replay(rt, settings),
         Task::Settings { settings } => print_settings(rt, settings),

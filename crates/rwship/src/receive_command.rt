@@ -1,10 +1,10 @@
 //! The command `receive`.
 
-use crate::inspect_command::has_output_failed;
 use crate::kept_receiver::{
     FolderHead, lock_folder, open_head, report_keep_error, report_kept, report_opened,
 };
 use crate::live_report::{OutputAfterReport, begin_reporting, end_reporting, print_listen_error};
+use crate::log_fault::has_output_failed;
 use crate::program_end::{
     point_to_explain, report_misplaced, report_output_fault, report_result, report_settings_fault,
 };

@@ -1,10 +1,11 @@
 //! The command `send`.
 
-use crate::inspect_command::{
-    fault_of_folder, files_of, log_fault, note_checkpoint, note_empty, note_gaps,
-    passes_checkpoint_over, report_run_fault,
-};
 use crate::live_report::{begin_reporting, end_reporting};
+use crate::log_fault::{LogFault, Spot, log_fault, report_run_fault};
+use crate::log_files::{
+    fault_of_folder, files_of, names_of, note_checkpoint, note_empty, note_gaps,
+    passes_checkpoint_over,
+};
 use crate::program_end::{
     empty_status, gap_status, point_to_explain, print_device_error, report_dropped,
     report_misplaced, report_result, report_settings_fault, report_skipped,
@@ -12,10 +13,10 @@ use crate::program_end::{
 use crate::settings::settings_in;
 use crate::stop::{is_misplaced, stop_signal};
 use rw_cli::{Following, LogDir, Reading, Sending, SettingsFile};
-use rw_follow::Timed;
+use rw_follow::{Queue, Timed, ToTheEnd};
 use rw_log_folder::{Folder, FolderFault, Opened, SegmentFile, check_folder, watch_newest_segment};
 use rw_metrics::{Counters, SendCounters, show_stalls};
-use rw_send::{FollowFault, SendOptions, StopFlag, TcpConnect, run_follow, run_send};
+use rw_send::{FollowFault, RunFault, SendOptions, StopFlag, TcpConnect, run_follow};
 use rw_settings::Settings;
 use rw_tcp::look_up;
 use rw_text::{Address, ToolFault};
@@ -206,6 +207,23 @@ fn prepare<R: Threads>(
     }
 }
 
+/// Returns why a run over a growing folder ended, with the file of a fault.
+fn fault_in(
+    rt: &HostRuntime,
+    folder: &Folder<HostRuntime>,
+    ended: RunFault,
+) -> Result<LogFault, AllocError> {
+    let mut fault = LogFault::from(ended.fault);
+    if let Some(place) = ended.place {
+        if let Some(name) = folder.name_of(place.segment) {
+            let file = String::from_str(rt.alloc(), name)?;
+            let offset = place.offset;
+            fault.spot = Some(Spot { file, offset });
+        }
+    }
+    Ok(fault)
+}
+
 /// Ships a log, until its end or until a stop, and prints the report.
 fn ship_log<R: Threads + Wait + Clock + Copy + Send + 'static>(
     rt: &HostRuntime,
@@ -214,23 +232,34 @@ fn ship_log<R: Threads + Wait + Clock + Copy + Send + 'static>(
     log: Log,
     options: SendOptions<'_, TcpConnect<HostRuntime>>,
     output: &mut Std<Stdout>,
-) -> Result<(), FollowFault> {
+) -> Result<(), LogFault> {
+    let alloc = rt.alloc();
     match log {
         Log::Whole(files) => {
-            match run_send(threads, rt.alloc(), settings, files, options, output) {
+            let names = names_of(alloc, &files)?;
+            let mut files = Queue::new(files);
+            let mut end = ToTheEnd;
+            match run_follow(
+                threads, alloc, settings, &mut files, options, &mut end, output,
+            ) {
                 Ok(()) => Ok(()),
-                Err(fault) => Err(FollowFault::Tool(fault)),
+                Err(ended) => Err(LogFault::of_run(names, ended)),
             }
         }
-        Log::Growing(mut folder, mut watch) => run_follow(
-            threads,
-            rt.alloc(),
-            settings,
-            &mut folder,
-            options,
-            &mut watch,
-            output,
-        ),
+        Log::Growing(mut folder, mut watch) => {
+            match run_follow(
+                threads,
+                alloc,
+                settings,
+                &mut folder,
+                options,
+                &mut watch,
+                output,
+            ) {
+                Ok(()) => Ok(()),
+                Err(ended) => Err(fault_in(rt, &folder, ended)?),
+            }
+        }
     }
 }
 
@@ -347,7 +376,10 @@ fn start<R: Threads>(
     match look_up(rt, rt.alloc(), to.name(), to.port) {
         Ok(addresses) => match prepare(rt, threads, sending, addresses, timeout_ms) {
             Ok(shipment) => Ok(shipment),
-            Err(fault) => Err(log_fault(rt, sending.dir, fault, is_explained)),
+            Err(fault) => {
+                let fault = LogFault::from(fault);
+                Err(log_fault(rt, sending.dir, &fault, is_explained))
+            }
         },
         Err(error) => Err(report_lookup_error(rt, to.name(), &error, is_explained)),
     }
@@ -360,7 +392,7 @@ fn finish(
     sending: &Sending<'_>,
     counters: Arc<SendCounters, Global>,
     noted: Noted,
-    outcome: Result<(), FollowFault>,
+    outcome: Result<(), LogFault>,
     output: &mut Std<Stdout>,
     is_explained: bool,
 ) -> ExitCode {
@@ -376,7 +408,7 @@ fn finish(
     match outcome {
         Ok(()) if noted.has_nothing && sending.fails_on_empty => empty_status(),
         Ok(()) => report_unshipped(rt, sending, unshipped),
-        Err(fault) => report_run_fault(rt, output, sending.dir, fault, is_explained),
+        Err(fault) => report_run_fault(rt, output, sending.dir, &fault, is_explained),
     }
 }
 

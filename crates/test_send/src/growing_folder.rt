@@ -8,7 +8,7 @@ use Change::{Dir, Goes, Grows, Nothing};
 use rw_follow::{SegmentError, StopRequest, Watch};
 use rw_log_folder::Folder;
 use rw_metrics::SendCounters;
-use rw_send::{FollowFault, SendOptions, StopFlag, run_follow};
+use rw_send::{FollowFault, RunFault, SendOptions, StopFlag, run_follow};
 use rw_text::ToolFault;
 use rw_types::Room;
 use std::alloc::{AllocError, Global};
@@ -213,7 +213,7 @@ fn follow_sending<R: Threads + Wait + Clock + Copy + Send + 'static>(
     threads: &R,
     dir: &str,
     printed: &mut Room,
-) -> Result<Result<(), FollowFault>, AllocError> {
+) -> Result<Result<(), RunFault>, AllocError> {
     let alloc = rt.alloc();
     let counters = SendCounters::new(alloc)?;
     let opened = Arc::new(alloc, SendCounters::new(alloc)?)?;
@@ -255,7 +255,8 @@ fn is_unreadable<R: Threads + Wait + Clock + Copy + Send + 'static>(
     let mut printed = Room::new(rt.alloc(), 4096)?;
     let answer = follow_sending(rt, threads, dir, &mut printed)?;
     let is_printed = printed.as_slice() == b"filtered 0\nreport abandoned 0\n".as_slice();
-    Ok(is_printed && answer == Err(FollowFault::Tool(ToolFault::Device)))
+    let fault = FollowFault::Tool(ToolFault::Device);
+    Ok(is_printed && answer == Err(RunFault { fault, place: None }))
 }
 
 /// A folder can be opened as a file is, but cannot be read so.

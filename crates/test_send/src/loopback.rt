@@ -18,9 +18,18 @@ use std::thread;
 use std::thread::Threads;
 use std::time::Clock;
 
-/// A name, the settings of both, the connections that the sender makes, the log, and what the
-/// sender and the receiver print.
-type Row<'a> = (&'static str, &'a [u8], u64, &'a [u8], &'a [u8], &'a [u8]);
+/// A log that is sent to a receiver under the same settings.
+struct Row<'a> {
+    name: &'static str,
+    settings: &'a [u8],
+    /// How many connections the sender makes.
+    connections: u64,
+    log: &'a [u8],
+    /// What the sender prints.
+    sent: &'a [u8],
+    /// What the receiver prints.
+    held: &'a [u8],
+}
 
 const COMPLETE: &[u8] = b"filtered 0\nreport complete 2\n";
 
@@ -30,64 +39,78 @@ const HELD: &[u8] = b"received {__name__=\"up\"} 1000=1\n";
 const NOT_SENT: &[u8] = b"dropped 2 labels 3\ndropped 3 labels 3\nfiltered 0\nreport complete 4\n";
 
 static ROWS: [Row<'static>; 9] = [
-    ("one sample", b"", 1, UP, COMPLETE, HELD),
-    (
-        "a receiver that is busy at first",
-        b"[receive]\nbusy_first = 1\n",
-        2,
-        UP,
-        COMPLETE,
-        HELD,
-    ),
-    (
-        "samples that do not rise",
-        b"",
-        1,
-        FALLS,
-        b"dropped 2 notrising\ndropped 3 notrising\nfiltered 0\nreport complete 5\n",
-        b"received {__name__=\"up\"} 10=1 20=3\n",
-    ),
-    (
-        "two references of one series",
-        b"[send]\nshards = 3\n",
-        1,
-        BEHIND,
-        b"dropped 3 notrising\nfiltered 0\nreport complete 4\n",
-        b"received {__name__=\"up\"} 20=1\n",
-    ),
-    (
-        "both take any name",
-        b"[send]\nnames = 'utf8'\n[receive]\nnames = 'utf8'\n",
-        1,
-        NAMES,
-        b"filtered 0\nreport complete 4\n",
-        b"received {\"9x\"=\"1\"} 10=2\nreceived {__name__=\"http.rate\",\"s\xc3\xa4ge\"=\"1\"} 10=1\n",
-    ),
-    (
-        "the sender alone takes any name",
-        b"[send]\nnames = 'utf8'\n",
-        1,
-        NAMES,
-        b"dropped 2 status 400\ndropped 3 status 400\nfiltered 0\nreport complete 4\n",
-        b"",
-    ),
-    ("legacy names by default", b"", 0, NAMES, NOT_SENT, b""),
-    (
-        "the receiver alone takes any name",
-        b"[receive]\nnames = 'utf8'\n",
-        0,
-        NAMES,
-        NOT_SENT,
-        b"",
-    ),
-    (
-        "both take legacy names",
-        b"[send]\nnames = 'legacy'\n[receive]\nnames = 'legacy'\n",
-        0,
-        NAMES,
-        NOT_SENT,
-        b"",
-    ),
+    Row {
+        name: "one sample",
+        settings: b"",
+        connections: 1,
+        log: UP,
+        sent: COMPLETE,
+        held: HELD,
+    },
+    Row {
+        name: "a receiver that is busy at first",
+        settings: b"[receive]\nbusy_first = 1\n",
+        connections: 2,
+        log: UP,
+        sent: COMPLETE,
+        held: HELD,
+    },
+    Row {
+        name: "samples that do not rise",
+        settings: b"",
+        connections: 1,
+        log: FALLS,
+        sent: b"dropped 2 notrising\ndropped 3 notrising\nfiltered 0\nreport complete 5\n",
+        held: b"received {__name__=\"up\"} 10=1 20=3\n",
+    },
+    Row {
+        name: "two references of one series",
+        settings: b"[send]\nshards = 3\n",
+        connections: 1,
+        log: BEHIND,
+        sent: b"dropped 3 notrising\nfiltered 0\nreport complete 4\n",
+        held: b"received {__name__=\"up\"} 20=1\n",
+    },
+    Row {
+        name: "both take any name",
+        settings: b"[send]\nnames = 'utf8'\n[receive]\nnames = 'utf8'\n",
+        connections: 1,
+        log: NAMES,
+        sent: b"filtered 0\nreport complete 4\n",
+        held: b"received {\"9x\"=\"1\"} 10=2\nreceived {__name__=\"http.rate\",\"s\xc3\xa4ge\"=\"1\"} 10=1\n",
+    },
+    Row {
+        name: "the sender alone takes any name",
+        settings: b"[send]\nnames = 'utf8'\n",
+        connections: 1,
+        log: NAMES,
+        sent: b"dropped 2 status 400\ndropped 3 status 400\nfiltered 0\nreport complete 4\n",
+        held: b"",
+    },
+    Row {
+        name: "legacy names by default",
+        settings: b"",
+        connections: 0,
+        log: NAMES,
+        sent: NOT_SENT,
+        held: b"",
+    },
+    Row {
+        name: "the receiver alone takes any name",
+        settings: b"[receive]\nnames = 'utf8'\n",
+        connections: 0,
+        log: NAMES,
+        sent: NOT_SENT,
+        held: b"",
+    },
+    Row {
+        name: "both take legacy names",
+        settings: b"[send]\nnames = 'legacy'\n[receive]\nnames = 'legacy'\n",
+        connections: 0,
+        log: NAMES,
+        sent: NOT_SENT,
+        held: b"",
+    },
 ];
 
 /// Connections to a receiver.
@@ -111,7 +134,7 @@ fn receives<R: Threads + Wait + Clock + Sync>(
     listener: TcpListener,
     held: &mut Room,
 ) -> bool {
-    let Some(most) = Bounded::try_new(row.2.max(1)) else {
+    let Some(most) = Bounded::try_new(row.connections.max(1)) else {
         return false;
     };
     let Ok(counters) = ReceiveCounters::new(alloc) else {
@@ -125,11 +148,11 @@ fn receives<R: Threads + Wait + Clock + Sync>(
         capacity: Capacity::unlimited(),
         counters: &counters,
     };
-    let has_ended = match read_settings(alloc, row.1) {
+    let has_ended = match read_settings(alloc, row.settings) {
         Ok(settings) => run_receive(rt, alloc, &settings, service, listener, held).is_ok(),
         Err(_) => false,
     };
-    has_ended && holds_as_printed(alloc, &counters, row.5)
+    has_ended && holds_as_printed(alloc, &counters, row.held)
 }
 
 /// Returns whether a sender ships a log and ends well.
@@ -156,7 +179,7 @@ fn sends<R: Threads + Wait + Clock + Copy + Send + 'static, C: Connect + Drop>(
         max_batch_bytes: None,
         stop,
     };
-    match read_settings(alloc, row.1) {
+    match read_settings(alloc, row.settings) {
         Ok(settings) => run_send(rt, alloc, settings, segments, options, printed).is_ok(),
         Err(_) => false,
     }
@@ -165,7 +188,7 @@ fn sends<R: Threads + Wait + Clock + Copy + Send + 'static, C: Connect + Drop>(
 /// Returns whether the sender made a connection, or another client can connect after it: a receiver
 /// ends after one connection.
 fn passes_by<N: Net<Stream = TcpStream>>(net: &N, row: &Row<'_>, address: SocketAddr) -> bool {
-    row.2 > 0 || TcpStream::connect(net, address).is_ok()
+    row.connections > 0 || TcpStream::connect(net, address).is_ok()
 }
 
 /// A receiver that is busy for the first connection takes the sample of the second one. Samples
@@ -175,8 +198,8 @@ fn passes_by<N: Net<Stream = TcpStream>>(net: &N, row: &Row<'_>, address: Socket
 fn what_is_sent_is_received(rt: HostRuntime) -> Result<(), Fail> {
     let alloc = rt.alloc();
     for row in &ROWS {
-        let name = row.0;
-        let log = segment(alloc, row.3)?;
+        let name = row.name;
+        let log = segment(alloc, row.log)?;
         let mut printed = Room::new(alloc, 4096)?;
         let mut held = Room::new(alloc, 4096)?;
         let listener = TcpListener::bind(&rt, "127.0.0.1:0")?;
@@ -187,7 +210,7 @@ fn what_is_sent_is_received(rt: HostRuntime) -> Result<(), Fail> {
             || receives(&rt, alloc, row, listener, &mut held),
             || sends(&rt, alloc, row, &log, connect, &mut printed) & passes_by(&rt, row, address),
         );
-        let is_right = printed.as_slice() == row.4 && held.as_slice() == row.5;
+        let is_right = printed.as_slice() == row.sent && held.as_slice() == row.held;
         assert!(rt; received && sent && is_right, "{name}");
     }
     Ok(())

@@ -70,17 +70,17 @@ const BUSY: Answers = Answers {
     epochs: 1,
 };
 
-/// A name, the settings, the log, its receivers, how much may be printed, the answer, and what is
-/// printed.
-type Row<'a> = (
-    &'static str,
-    &'a [u8],
-    &'a [Part<'a>],
-    Answers,
-    usize,
-    Result<(), ToolFault>,
-    &'a [u8],
-);
+/// A log that is sent, and how that ends.
+struct Row<'a> {
+    name: &'static str,
+    settings: &'a [u8],
+    log: &'a [Part<'a>],
+    receivers: Answers,
+    /// How many bytes may be printed.
+    room: usize,
+    answer: Result<(), ToolFault>,
+    prints: &'a [u8],
+}
 
 fn bytes_of(alloc: Global, part: Part<'_>) -> Result<Vec<u8>, AllocError> {
     match part {
@@ -138,14 +138,14 @@ fn shipped<R: Threads + Wait + Clock + Copy + Send + 'static>(
     printed: &mut Room,
 ) -> Result<Result<(), ToolFault>, AllocError> {
     let mut readers = Vec::new(alloc);
-    put_readers(alloc, &mut readers, row.2)?;
+    put_readers(alloc, &mut readers, row.log)?;
     let options = SendOptions {
-        connect: receivers_of(rt, row.3)?,
+        connect: receivers_of(rt, row.receivers)?,
         counters,
         max_batch_bytes: limit,
         stop: StopFlag::new(alloc)?,
     };
-    match read_settings(alloc, row.1) {
+    match read_settings(alloc, row.settings) {
         Ok(settings) => Ok(run_send(rt, alloc, settings, readers, options, printed)),
         Err(_) => Err(AllocError),
     }
@@ -158,11 +158,11 @@ fn does<R: Threads + Wait + Clock + Copy + Send + 'static>(
     row: &Row<'_>,
     limit: Option<u64>,
 ) -> Result<bool, AllocError> {
-    let mut printed = Room::new(alloc, row.4)?;
+    let mut printed = Room::new(alloc, row.room)?;
     let counters = SendCounters::new(alloc)?;
     let answer = shipped(rt, alloc, row, limit, &counters, &mut printed)?;
-    let is_counted = tells_as_printed(alloc, &counters, row.6);
-    Ok(answer == row.5 && printed.as_slice() == row.6 && is_counted)
+    let is_counted = tells_as_printed(alloc, &counters, row.prints);
+    Ok(answer == row.answer && printed.as_slice() == row.prints && is_counted)
 }
 
 fn wrong_row<R: Threads + Wait + Clock + Copy + Send + 'static>(
@@ -172,118 +172,118 @@ fn wrong_row<R: Threads + Wait + Clock + Copy + Send + 'static>(
 ) -> Result<Option<&'static str>, AllocError> {
     for row in rows {
         if !does(rt, alloc, row, None)? {
-            return Ok(Some(row.0));
+            return Ok(Some(row.name));
         }
     }
     Ok(None)
 }
 
 static ONE_SEGMENT: [Row<'static>; 11] = [
-    (
-        "one sample",
-        b"",
-        &[Whole(UP)],
-        TAKEN,
-        4096,
-        Ok(()),
-        b"filtered 0\nreport complete 2\n",
-    ),
-    (
-        "an empty segment",
-        b"",
-        &[Whole(b"")],
-        TAKEN,
-        4096,
-        Ok(()),
-        b"filtered 0\nreport complete 0\n",
-    ),
-    (
-        "a refused batch",
-        b"",
-        &[Whole(UP)],
-        REFUSED,
-        4096,
-        Ok(()),
-        b"dropped 1 status 400\nfiltered 0\nreport complete 2\n",
-    ),
-    (
-        "a sample without a series",
-        b"",
-        &[Whole(b"sample 7 10 1\n")],
-        TAKEN,
-        4096,
-        Ok(()),
-        b"dropped 0 noseries\nfiltered 0\nreport complete 1\n",
-    ),
-    (
-        "a name that is not sent",
-        b"",
-        &[Whole(b"series 5 {__name__=\"9\"}\nsample 5 10 1\n")],
-        TAKEN,
-        4096,
-        Ok(()),
-        b"dropped 1 labels 3\nfiltered 0\nreport complete 2\n",
-    ),
-    (
-        "a rule drops the series",
-        b"[[rule]]\naction = \"drop\"\nsource_labels = [\"__name__\"]\nregex = \"up\"\n",
-        &[Whole(UP)],
-        TAKEN,
-        4096,
-        Ok(()),
-        b"filtered 1\nreport complete 2\n",
-    ),
-    (
-        "two shards are refused",
-        b"[send]\nshards = 2\n",
-        &[Whole(
+    Row {
+        name: "one sample",
+        settings: b"",
+        log: &[Whole(UP)],
+        receivers: TAKEN,
+        room: 4096,
+        answer: Ok(()),
+        prints: b"filtered 0\nreport complete 2\n",
+    },
+    Row {
+        name: "an empty segment",
+        settings: b"",
+        log: &[Whole(b"")],
+        receivers: TAKEN,
+        room: 4096,
+        answer: Ok(()),
+        prints: b"filtered 0\nreport complete 0\n",
+    },
+    Row {
+        name: "a refused batch",
+        settings: b"",
+        log: &[Whole(UP)],
+        receivers: REFUSED,
+        room: 4096,
+        answer: Ok(()),
+        prints: b"dropped 1 status 400\nfiltered 0\nreport complete 2\n",
+    },
+    Row {
+        name: "a sample without a series",
+        settings: b"",
+        log: &[Whole(b"sample 7 10 1\n")],
+        receivers: TAKEN,
+        room: 4096,
+        answer: Ok(()),
+        prints: b"dropped 0 noseries\nfiltered 0\nreport complete 1\n",
+    },
+    Row {
+        name: "a name that is not sent",
+        settings: b"",
+        log: &[Whole(b"series 5 {__name__=\"9\"}\nsample 5 10 1\n")],
+        receivers: TAKEN,
+        room: 4096,
+        answer: Ok(()),
+        prints: b"dropped 1 labels 3\nfiltered 0\nreport complete 2\n",
+    },
+    Row {
+        name: "a rule drops the series",
+        settings: b"[[rule]]\naction = \"drop\"\nsource_labels = [\"__name__\"]\nregex = \"up\"\n",
+        log: &[Whole(UP)],
+        receivers: TAKEN,
+        room: 4096,
+        answer: Ok(()),
+        prints: b"filtered 1\nreport complete 2\n",
+    },
+    Row {
+        name: "two shards are refused",
+        settings: b"[send]\nshards = 2\n",
+        log: &[Whole(
             b"series 1 {__name__=\"a\"}\nseries 2 {__name__=\"b\"}\nsample 2 10 1\nsample 1 10 1\nsample 3 10 1\nsample 2 20 1\nsample 1 20 1\n",
         )],
-        REFUSED,
-        4096,
-        Ok(()),
-        b"dropped 2 status 400\ndropped 3 status 400\ndropped 4 noseries\ndropped 5 status 400\ndropped 6 status 400\nfiltered 0\nreport complete 7\n",
-    ),
-    (
-        "samples that do not rise",
-        b"",
-        &[Whole(FALLS)],
-        TAKEN,
-        4096,
-        Ok(()),
-        b"dropped 2 notrising\ndropped 3 notrising\nfiltered 0\nreport complete 5\n",
-    ),
-    (
-        "two references of one series",
-        b"[send]\nshards = 3\n",
-        &[Whole(BEHIND)],
-        TAKEN,
-        4096,
-        Ok(()),
-        b"dropped 3 notrising\nfiltered 0\nreport complete 4\n",
-    ),
+        receivers: REFUSED,
+        room: 4096,
+        answer: Ok(()),
+        prints: b"dropped 2 status 400\ndropped 3 status 400\ndropped 4 noseries\ndropped 5 status 400\ndropped 6 status 400\nfiltered 0\nreport complete 7\n",
+    },
+    Row {
+        name: "samples that do not rise",
+        settings: b"",
+        log: &[Whole(FALLS)],
+        receivers: TAKEN,
+        room: 4096,
+        answer: Ok(()),
+        prints: b"dropped 2 notrising\ndropped 3 notrising\nfiltered 0\nreport complete 5\n",
+    },
+    Row {
+        name: "two references of one series",
+        settings: b"[send]\nshards = 3\n",
+        log: &[Whole(BEHIND)],
+        receivers: TAKEN,
+        room: 4096,
+        answer: Ok(()),
+        prints: b"dropped 3 notrising\nfiltered 0\nreport complete 4\n",
+    },
     // a batch of 2,000 samples, whose labels in each of them would take more than 64 KiB, makes one
     // request
-    (
-        "2,000 samples are one request",
-        b"",
-        &[Many(2_000)],
-        TAKEN_ONCE,
-        4096,
-        Ok(()),
-        b"filtered 0\nreport complete 2001\n",
-    ),
-    (
-        "samples go each way",
-        b"[send]\nshards = 2\n[[rule]]\naction = \"drop\"\nsource_labels = [\"__name__\"]\nregex = \"c\"\n",
-        &[Whole(
+    Row {
+        name: "2,000 samples are one request",
+        settings: b"",
+        log: &[Many(2_000)],
+        receivers: TAKEN_ONCE,
+        room: 4096,
+        answer: Ok(()),
+        prints: b"filtered 0\nreport complete 2001\n",
+    },
+    Row {
+        name: "samples go each way",
+        settings: b"[send]\nshards = 2\n[[rule]]\naction = \"drop\"\nsource_labels = [\"__name__\"]\nregex = \"c\"\n",
+        log: &[Whole(
             b"series 1 {__name__=\"a\"}\nseries 2 {__name__=\"b\"}\nseries 3 {__name__=\"c\"}\nseries 4 {__name__=\"9\"}\nsample 1 10 1\nsample 2 10 1\nsample 3 10 1\nsample 4 10 1\nsample 5 10 1\nsample 2 10 2\nsample 3 20 1\nsample 2 20 1\n",
         )],
-        REFUSED,
-        4096,
-        Ok(()),
-        b"dropped 4 status 400\ndropped 5 status 400\ndropped 7 labels 3\ndropped 8 noseries\ndropped 9 notrising\ndropped 11 status 400\nfiltered 2\nreport complete 12\n",
-    ),
+        receivers: REFUSED,
+        room: 4096,
+        answer: Ok(()),
+        prints: b"dropped 4 status 400\ndropped 5 status 400\ndropped 7 labels 3\ndropped 8 noseries\ndropped 9 notrising\ndropped 11 status 400\nfiltered 2\nreport complete 12\n",
+    },
 ];
 
 #[test]
@@ -295,51 +295,51 @@ fn logs_of_one_segment(rt: HostRuntime) -> Result<(), Fail> {
 const NEXT: &[u8] = b"sample 1 2000 2\n";
 
 static SEVERAL_SEGMENTS: [Row<'static>; 5] = [
-    (
-        "no segment",
-        b"",
-        &[],
-        TAKEN,
-        4096,
-        Ok(()),
-        b"filtered 0\nreport complete 0\n",
-    ),
-    (
-        "a series of an earlier segment",
-        b"",
-        &[Whole(UP), Whole(NEXT)],
-        TAKEN,
-        4096,
-        Ok(()),
-        b"filtered 0\nreport complete 3\n",
-    ),
-    (
-        "a changed byte ends the log",
-        b"",
-        &[Changed(UP), Whole(NEXT)],
-        TAKEN,
-        4096,
-        Err(ToolFault::Log(TailFault::BadCrc)),
-        b"filtered 0\nreport damaged 3\n",
-    ),
-    (
-        "the last segment is cut",
-        b"",
-        &[Cut(UP)],
-        TAKEN,
-        4096,
-        Ok(()),
-        b"filtered 0\nreport complete 1\n",
-    ),
-    (
-        "an earlier segment is cut",
-        b"",
-        &[Cut(UP), Cut(UP)],
-        TAKEN,
-        4096,
-        Err(ToolFault::Log(TailFault::TornSegment)),
-        b"filtered 0\nreport damaged 8\n",
-    ),
+    Row {
+        name: "no segment",
+        settings: b"",
+        log: &[],
+        receivers: TAKEN,
+        room: 4096,
+        answer: Ok(()),
+        prints: b"filtered 0\nreport complete 0\n",
+    },
+    Row {
+        name: "a series of an earlier segment",
+        settings: b"",
+        log: &[Whole(UP), Whole(NEXT)],
+        receivers: TAKEN,
+        room: 4096,
+        answer: Ok(()),
+        prints: b"filtered 0\nreport complete 3\n",
+    },
+    Row {
+        name: "a changed byte ends the log",
+        settings: b"",
+        log: &[Changed(UP), Whole(NEXT)],
+        receivers: TAKEN,
+        room: 4096,
+        answer: Err(ToolFault::Log(TailFault::BadCrc)),
+        prints: b"filtered 0\nreport damaged 3\n",
+    },
+    Row {
+        name: "the last segment is cut",
+        settings: b"",
+        log: &[Cut(UP)],
+        receivers: TAKEN,
+        room: 4096,
+        answer: Ok(()),
+        prints: b"filtered 0\nreport complete 1\n",
+    },
+    Row {
+        name: "an earlier segment is cut",
+        settings: b"",
+        log: &[Cut(UP), Cut(UP)],
+        receivers: TAKEN,
+        room: 4096,
+        answer: Err(ToolFault::Log(TailFault::TornSegment)),
+        prints: b"filtered 0\nreport damaged 8\n",
+    },
 ];
 
 /// A sample in a later segment may be one of a series of an earlier one. A segment that ends inside
@@ -358,24 +358,24 @@ const NO_RECEIVER: Answers = Answers {
 };
 
 static NOT_PRINTED: [Row<'static>; 2] = [
-    (
-        "no room for the report",
-        b"",
-        &[Whole(UP)],
-        TAKEN,
-        20,
-        Err(ToolFault::Device),
-        b"",
-    ),
-    (
-        "no memory for the first receiver",
-        b"",
-        &[Whole(UP)],
-        NO_RECEIVER,
-        4096,
-        Err(ToolFault::OutOfMemory),
-        b"",
-    ),
+    Row {
+        name: "no room for the report",
+        settings: b"",
+        log: &[Whole(UP)],
+        receivers: TAKEN,
+        room: 20,
+        answer: Err(ToolFault::Device),
+        prints: b"",
+    },
+    Row {
+        name: "no memory for the first receiver",
+        settings: b"",
+        log: &[Whole(UP)],
+        receivers: NO_RECEIVER,
+        room: 4096,
+        answer: Err(ToolFault::OutOfMemory),
+        prints: b"",
+    },
 ];
 
 /// There is no room for the report, or no memory for the first receiver.
@@ -386,35 +386,35 @@ fn nothing_is_printed(rt: HostRuntime) -> Result<(), Fail> {
 }
 
 static FAILING: [Row<'static>; 3] = [
-    (
-        "it fails at once",
-        b"",
-        &[Fails(b"")],
-        BUSY,
-        4096,
-        Err(ToolFault::Device),
-        b"filtered 0\nreport abandoned 0\n",
-    ),
-    (
-        "it fails after a sample",
-        b"",
-        &[Fails(UP)],
-        BUSY,
-        4096,
-        Err(ToolFault::Device),
-        b"filtered 0\nabandoned 1\nreport abandoned 2\n",
-    ),
-    (
-        "two shards with full queues",
-        b"[send]\nshards = 2\ncapacity = 1\nbatch = 1\n",
-        &[Fails(
+    Row {
+        name: "it fails at once",
+        settings: b"",
+        log: &[Fails(b"")],
+        receivers: BUSY,
+        room: 4096,
+        answer: Err(ToolFault::Device),
+        prints: b"filtered 0\nreport abandoned 0\n",
+    },
+    Row {
+        name: "it fails after a sample",
+        settings: b"",
+        log: &[Fails(UP)],
+        receivers: BUSY,
+        room: 4096,
+        answer: Err(ToolFault::Device),
+        prints: b"filtered 0\nabandoned 1\nreport abandoned 2\n",
+    },
+    Row {
+        name: "two shards with full queues",
+        settings: b"[send]\nshards = 2\ncapacity = 1\nbatch = 1\n",
+        log: &[Fails(
             b"series 1 {__name__=\"a\"}\nseries 2 {__name__=\"b\"}\nsample 1 10 1\nsample 2 10 1\nsample 1 20 1\nsample 2 20 1\n",
         )],
-        BUSY,
-        4096,
-        Err(ToolFault::Device),
-        b"filtered 0\nabandoned 2\nabandoned 3\nabandoned 4\nabandoned 5\nreport abandoned 6\n",
-    ),
+        receivers: BUSY,
+        room: 4096,
+        answer: Err(ToolFault::Device),
+        prints: b"filtered 0\nabandoned 2\nabandoned 3\nabandoned 4\nabandoned 5\nreport abandoned 6\n",
+    },
 ];
 
 /// The receivers are always busy, so that a sample that was read is not resolved when the work is
@@ -443,51 +443,51 @@ const TAKEN_TWICE: Answers = Answers {
 static LIMITED: [(u64, Row<'static>); 4] = [
     (
         124,
-        (
-            "four samples make one request",
-            b"",
-            &[Whole(FOUR)],
-            TAKEN_ONCE,
-            4096,
-            Ok(()),
-            b"filtered 0\nreport complete 5\n",
-        ),
+        Row {
+            name: "four samples make one request",
+            settings: b"",
+            log: &[Whole(FOUR)],
+            receivers: TAKEN_ONCE,
+            room: 4096,
+            answer: Ok(()),
+            prints: b"filtered 0\nreport complete 5\n",
+        },
     ),
     (
         62,
-        (
-            "two samples make a request",
-            b"",
-            &[Whole(FOUR)],
-            TAKEN_TWICE,
-            4096,
-            Ok(()),
-            b"filtered 0\nreport complete 5\n",
-        ),
+        Row {
+            name: "two samples make a request",
+            settings: b"",
+            log: &[Whole(FOUR)],
+            receivers: TAKEN_TWICE,
+            room: 4096,
+            answer: Ok(()),
+            prints: b"filtered 0\nreport complete 5\n",
+        },
     ),
     (
         123,
-        (
-            "the last sample is a request of its own",
-            b"",
-            &[Whole(FOUR)],
-            TAKEN_ONCE,
-            4096,
-            Ok(()),
-            b"dropped 4 status 400\nfiltered 0\nreport complete 5\n",
-        ),
+        Row {
+            name: "the last sample is a request of its own",
+            settings: b"",
+            log: &[Whole(FOUR)],
+            receivers: TAKEN_ONCE,
+            room: 4096,
+            answer: Ok(()),
+            prints: b"dropped 4 status 400\nfiltered 0\nreport complete 5\n",
+        },
     ),
     (
         1,
-        (
-            "each sample is a request of its own",
-            b"",
-            &[Whole(FOUR)],
-            TAKEN_TWICE,
-            4096,
-            Ok(()),
-            b"dropped 3 status 400\ndropped 4 status 400\nfiltered 0\nreport complete 5\n",
-        ),
+        Row {
+            name: "each sample is a request of its own",
+            settings: b"",
+            log: &[Whole(FOUR)],
+            receivers: TAKEN_TWICE,
+            room: 4096,
+            answer: Ok(()),
+            prints: b"dropped 3 status 400\ndropped 4 status 400\nfiltered 0\nreport complete 5\n",
+        },
     ),
 ];
 
@@ -498,7 +498,7 @@ fn wrong_limit<R: Threads + Wait + Clock + Copy + Send + 'static>(
 ) -> Result<Option<&'static str>, AllocError> {
     for (limit, row) in &LIMITED {
         if !does(rt, alloc, row, Some(*limit))? {
-            return Ok(Some(row.0));
+            return Ok(Some(row.name));
         }
     }
     Ok(None)
@@ -530,51 +530,51 @@ const SLOW_FOR_TWO: Answers = Answers {
 };
 
 static SHARDS: [Row<'static>; 5] = [
-    (
-        "no memory for more shards",
-        NARROW,
-        &[Whole(FOUR), Whole(ONE_MORE)],
-        SLOW,
-        4096,
-        Err(ToolFault::OutOfMemory),
-        b"filtered 0\nreport abandoned 5\n",
-    ),
-    (
-        "more shards take over",
-        NARROW,
-        &[Whole(FOUR), Whole(ONE_MORE)],
-        SLOW_FOR_TWO,
-        4096,
-        Ok(()),
-        b"filtered 0\nreport complete 6\n",
-    ),
-    (
-        "a receiver that keeps up",
-        NARROW,
-        &[Whole(FOUR), Whole(ONE_MORE)],
-        TAKEN,
-        4096,
-        Ok(()),
-        b"filtered 0\nreport complete 6\n",
-    ),
-    (
-        "a single segment",
-        NARROW,
-        &[Whole(FOUR)],
-        SLOW,
-        4096,
-        Ok(()),
-        b"filtered 0\nreport complete 5\n",
-    ),
-    (
-        "a fixed number of shards",
-        FIXED,
-        &[Whole(FOUR), Whole(ONE_MORE)],
-        SLOW,
-        4096,
-        Ok(()),
-        b"filtered 0\nreport complete 6\n",
-    ),
+    Row {
+        name: "no memory for more shards",
+        settings: NARROW,
+        log: &[Whole(FOUR), Whole(ONE_MORE)],
+        receivers: SLOW,
+        room: 4096,
+        answer: Err(ToolFault::OutOfMemory),
+        prints: b"filtered 0\nreport abandoned 5\n",
+    },
+    Row {
+        name: "more shards take over",
+        settings: NARROW,
+        log: &[Whole(FOUR), Whole(ONE_MORE)],
+        receivers: SLOW_FOR_TWO,
+        room: 4096,
+        answer: Ok(()),
+        prints: b"filtered 0\nreport complete 6\n",
+    },
+    Row {
+        name: "a receiver that keeps up",
+        settings: NARROW,
+        log: &[Whole(FOUR), Whole(ONE_MORE)],
+        receivers: TAKEN,
+        room: 4096,
+        answer: Ok(()),
+        prints: b"filtered 0\nreport complete 6\n",
+    },
+    Row {
+        name: "a single segment",
+        settings: NARROW,
+        log: &[Whole(FOUR)],
+        receivers: SLOW,
+        room: 4096,
+        answer: Ok(()),
+        prints: b"filtered 0\nreport complete 5\n",
+    },
+    Row {
+        name: "a fixed number of shards",
+        settings: FIXED,
+        log: &[Whole(FOUR), Whole(ONE_MORE)],
+        receivers: SLOW,
+        room: 4096,
+        answer: Ok(()),
+        prints: b"filtered 0\nreport complete 6\n",
+    },
 ];
 
 /// A queue and a batch of one sample each: if the receiver is slow, two of four samples may wait,

@@ -9,11 +9,11 @@ use Part::{Cut, Gap, More, Next, Padded, Quiet, Rest};
 use http::StatusCode;
 use rw_follow::{Event, Listed, StopRequest, StopSignal, Timed, Watch};
 use rw_metrics::SendCounters;
-use rw_send::{FollowFault, SendOptions, StopFlag, run_follow};
+use rw_send::{FollowFault, RunFault, SendOptions, StopFlag, run_follow};
 use rw_settings::{Settings, read_settings};
 use rw_text::ToolFault;
 use rw_types::Room;
-use rw_wal_format::TailFault;
+use rw_wal_tail::{FaultPlace, TailFault};
 use std::alloc::{AllocError, Global};
 use std::collections::VecDeque;
 use std::sync::{Arc, Wait};
@@ -108,7 +108,7 @@ fn follow<R: Threads + Wait + Clock + Copy + Send + 'static, W: Watch>(
     options: SendOptions<'_, Receivers<R>>,
     watch: &mut W,
     printed: &mut Room,
-) -> Result<Result<(), FollowFault>, AllocError> {
+) -> Result<Result<(), RunFault>, AllocError> {
     let mut log = log_of(alloc, parts)?;
     Ok(run_follow(rt, alloc, settings, &mut log, options, watch, printed))
 }
@@ -124,21 +124,44 @@ fn receivers_of<R: Copy>(clock: &R, status: StatusCode) -> Receivers<R> {
     }
 }
 
-/// A name, what happens, after how many looks it is to stop, by which request; the answer, and what
-/// is printed.
-type Row<'a> = (
-    &'static str,
-    &'a [Part<'a>],
-    u32,
-    StopRequest,
-    Result<(), FollowFault>,
-    &'a [u8],
-);
+/// A log that is followed, and how that ends.
+struct Row<'a> {
+    name: &'static str,
+    log: &'a [Part<'a>],
+    /// How many looks at the stop signal come before it asks for something.
+    looks: u32,
+    asks: StopRequest,
+    answer: Result<(), RunFault>,
+    prints: &'a [u8],
+}
+
+/// The second record of `UP`: the first one has 22 bytes after its header of 7.
+const SECOND_RECORD: Option<FaultPlace> = Some(FaultPlace {
+    segment: 0,
+    offset: 29,
+});
+
+/// The end of `UP`: its second record has 27 bytes after its header.
+const AFTER_UP: Option<FaultPlace> = Some(FaultPlace {
+    segment: 0,
+    offset: 63,
+});
+
+/// Returns whether a run was stopped at once.
+fn is_stopped_at_once(answer: &Result<(), RunFault>) -> bool {
+    match answer {
+        Ok(()) => false,
+        Err(ended) => ended.fault == FollowFault::Stopped,
+    }
+}
 
 /// Returns whether a run that is answered so has to end before it is asked to stop: a log that is
 /// damaged, or that lacks a segment, is not followed any further.
-fn ends_unasked(answer: &Result<(), FollowFault>) -> bool {
-    matches!(answer, Err(FollowFault::Tool(_) | FollowFault::Missing(_)))
+fn ends_unasked(answer: &Result<(), RunFault>) -> bool {
+    match answer {
+        Ok(()) => false,
+        Err(ended) => ended.fault != FollowFault::Stopped,
+    }
 }
 
 /// Returns whether a run with this limit in bytes does as a row says, if the number of shards is
@@ -153,8 +176,8 @@ fn does<R: Threads + Wait + Clock + Copy + Send + 'static>(
     let settings = settings_of(alloc, b"")?;
     let mut printed = Room::new(alloc, 4096)?;
     let mut watch = Countdown {
-        looks: row.2,
-        request: row.3,
+        looks: row.looks,
+        request: row.asks,
         flushes: false,
         reshards,
         said: StopRequest::Continue,
@@ -171,18 +194,18 @@ fn does<R: Threads + Wait + Clock + Copy + Send + 'static>(
         rt,
         alloc,
         settings,
-        row.1,
+        row.log,
         options,
         &mut watch,
         &mut printed,
     )?;
-    let is_counted = tells_as_printed(alloc, &counters, row.5);
+    let is_counted = tells_as_printed(alloc, &counters, row.prints);
     let is_unasked = watch.said == StopRequest::Continue;
     Ok(
-        answer == row.4
-            && printed.as_slice() == row.5
+        answer == row.answer
+            && printed.as_slice() == row.prints
             && is_counted
-            && is_unasked == ends_unasked(&row.4),
+            && is_unasked == ends_unasked(&row.answer),
     )
 }
 
@@ -193,101 +216,113 @@ fn wrong_row<R: Threads + Wait + Clock + Copy + Send + 'static>(
 ) -> Result<Option<&'static str>, AllocError> {
     for row in rows {
         if !does(rt, alloc, row, false, None)? || !does(rt, alloc, row, true, None)? {
-            return Ok(Some(row.0));
+            return Ok(Some(row.name));
         }
     }
     Ok(None)
 }
 
 static SHIPPED: [Row<'static>; 11] = [
-    (
-        "nothing",
-        &[],
-        2,
-        StopRequest::Finish,
-        Ok(()),
-        b"filtered 0\nreport complete 0\n",
-    ),
-    (
-        "one sample",
-        &[More(UP)],
-        5,
-        StopRequest::Finish,
-        Ok(()),
-        b"filtered 0\nreport complete 2\n",
-    ),
-    (
-        "two pieces make one request",
-        &[More(UP), Quiet, More(LATER)],
-        5,
-        StopRequest::Finish,
-        Ok(()),
-        b"filtered 0\nreport complete 3\n",
-    ),
-    (
-        "stopped before the first look",
-        &[More(UP)],
-        0,
-        StopRequest::Finish,
-        Ok(()),
-        b"filtered 0\nreport complete 2\n",
-    ),
-    (
-        "a record comes in two parts",
-        &[Cut(UP, 34), Quiet, Quiet, Rest(UP, 34)],
-        5,
-        StopRequest::Finish,
-        Ok(()),
-        b"filtered 0\nreport complete 2\n",
-    ),
-    (
-        "a segment ends at a page's end",
-        &[Padded(UP), Quiet, Next(LATER)],
-        5,
-        StopRequest::Finish,
-        Ok(()),
-        b"filtered 0\nreport complete 3\n",
-    ),
-    (
-        "a segment ends within a page",
-        &[More(UP), Quiet, Next(LATER)],
-        5,
-        StopRequest::Finish,
-        Ok(()),
-        b"filtered 0\nreport complete 3\n",
-    ),
-    (
-        "a segment ends within a record",
-        &[Cut(UP, 34), Quiet, Next(LATER)],
-        1000,
-        StopRequest::Finish,
-        Err(FollowFault::Tool(ToolFault::Log(TailFault::TornSegment))),
-        b"filtered 0\nreport damaged 8\n",
-    ),
-    (
-        "a byte is missing within a record",
-        &[More(UP), Quiet, Cut(UP, 20), Rest(UP, 21)],
-        1000,
-        StopRequest::Finish,
-        Err(FollowFault::Tool(ToolFault::Log(TailFault::BadCrc))),
-        b"filtered 0\nreport damaged 3\n",
-    ),
-    (
-        "a segment is missing",
-        &[More(UP), Quiet, Gap(3)],
-        1000,
-        StopRequest::Finish,
-        Err(FollowFault::Missing(3)),
-        b"filtered 0\nabandoned 1\nreport abandoned 2\n",
-    ),
-    (
-        "stopped at once",
-        &[More(UP)],
-        3,
-        StopRequest::Abort,
-        Err(FollowFault::Stopped),
-        b"filtered 0\nabandoned 1\nreport abandoned 2\n",
-    ),
+    Row {
+        name: "nothing",
+        log: &[],
+        looks: 2,
+        asks: StopRequest::Finish,
+        answer: Ok(()),
+        prints: b"filtered 0\nreport complete 0\n",
+    },
+    Row {
+        name: "one sample",
+        log: &[More(UP)],
+        looks: 5,
+        asks: StopRequest::Finish,
+        answer: Ok(()),
+        prints: b"filtered 0\nreport complete 2\n",
+    },
+    Row {
+        name: "two pieces make one request",
+        log: &[More(UP), Quiet, More(LATER)],
+        looks: 5,
+        asks: StopRequest::Finish,
+        answer: Ok(()),
+        prints: b"filtered 0\nreport complete 3\n",
+    },
+    Row {
+        name: "stopped before the first look",
+        log: &[More(UP)],
+        looks: 0,
+        asks: StopRequest::Finish,
+        answer: Ok(()),
+        prints: b"filtered 0\nreport complete 2\n",
+    },
+    Row {
+        name: "a record comes in two parts",
+        log: &[Cut(UP, 34), Quiet, Quiet, Rest(UP, 34)],
+        looks: 5,
+        asks: StopRequest::Finish,
+        answer: Ok(()),
+        prints: b"filtered 0\nreport complete 2\n",
+    },
+    Row {
+        name: "a segment ends at a page's end",
+        log: &[Padded(UP), Quiet, Next(LATER)],
+        looks: 5,
+        asks: StopRequest::Finish,
+        answer: Ok(()),
+        prints: b"filtered 0\nreport complete 3\n",
+    },
+    Row {
+        name: "a segment ends within a page",
+        log: &[More(UP), Quiet, Next(LATER)],
+        looks: 5,
+        asks: StopRequest::Finish,
+        answer: Ok(()),
+        prints: b"filtered 0\nreport complete 3\n",
+    },
+    Row {
+        name: "a segment ends within a record",
+        log: &[Cut(UP, 34), Quiet, Next(LATER)],
+        looks: 1000,
+        asks: StopRequest::Finish,
+        answer: Err(RunFault {
+            fault: FollowFault::Tool(ToolFault::Log(TailFault::TornSegment)),
+            place: SECOND_RECORD,
+        }),
+        prints: b"filtered 0\nreport damaged 8\n",
+    },
+    Row {
+        name: "a byte is missing within a record",
+        log: &[More(UP), Quiet, Cut(UP, 20), Rest(UP, 21)],
+        looks: 1000,
+        asks: StopRequest::Finish,
+        answer: Err(RunFault {
+            fault: FollowFault::Tool(ToolFault::Log(TailFault::BadCrc)),
+            place: AFTER_UP,
+        }),
+        prints: b"filtered 0\nreport damaged 3\n",
+    },
+    Row {
+        name: "a segment is missing",
+        log: &[More(UP), Quiet, Gap(3)],
+        looks: 1000,
+        asks: StopRequest::Finish,
+        answer: Err(RunFault {
+            fault: FollowFault::Missing(3),
+            place: None,
+        }),
+        prints: b"filtered 0\nabandoned 1\nreport abandoned 2\n",
+    },
+    Row {
+        name: "stopped at once",
+        log: &[More(UP)],
+        looks: 3,
+        asks: StopRequest::Abort,
+        answer: Err(RunFault {
+            fault: FollowFault::Stopped,
+            place: None,
+        }),
+        prints: b"filtered 0\nabandoned 1\nreport abandoned 2\n",
+    },
 ];
 
 #[test]
@@ -302,7 +337,7 @@ fn flushed<R: Threads + Wait + Clock + Copy + Send + 'static>(
     rt: &R,
     alloc: Global,
     printed: &mut Room,
-) -> Result<Result<(), FollowFault>, AllocError> {
+) -> Result<Result<(), RunFault>, AllocError> {
     let settings = settings_of(alloc, b"")?;
     let counters = SendCounters::new(alloc)?;
     let signal = Arc::new(alloc, StopSignal::new())?;
@@ -341,7 +376,7 @@ fn a_quiet_log_is_flushed(rt: HostRuntime) -> Result<(), Fail> {
     let answer = flushed(&rt, rt.alloc(), &mut printed)?;
     let is_so = printed.as_slice()
         == b"dropped 1 status 400\nfiltered 0\nreport abandoned 2\n".as_slice();
-    assert!(rt; is_so && answer == Err(FollowFault::Stopped));
+    assert!(rt; is_so && is_stopped_at_once(&answer));
     Ok(())
 }
 
@@ -363,7 +398,7 @@ fn follow_in_vain<R: Threads + Wait + Clock + Copy + Send + 'static>(
     signal: Arc<StopSignal, Global>,
     stop: StopFlag,
     printed: &mut Room,
-) -> Result<Result<(), FollowFault>, AllocError> {
+) -> Result<Result<(), RunFault>, AllocError> {
     let settings = settings_of(alloc, b"[send]\ncapacity = 1\nbatch = 1\n")?;
     let counters = SendCounters::new(alloc)?;
     let moment = Duration::from_millis(5);
@@ -397,7 +432,7 @@ fn stopped_twice<R: Threads + Wait + Clock + Copy + Send + Sync + 'static>(
     alloc: Global,
     text: &[u8],
     printed: &mut Room,
-) -> Result<Result<(), FollowFault>, AllocError> {
+) -> Result<Result<(), RunFault>, AllocError> {
     let stop = StopFlag::new(alloc)?;
     let workers = stop.share()?;
     let signal = Arc::new(alloc, StopSignal::new())?;
@@ -415,14 +450,14 @@ const FOUR: &[u8] =
     b"series 1 {__name__=\"up\"}\nsample 1 10 1\nsample 1 20 1\nsample 1 30 1\nsample 1 40 1\n";
 
 /// Its receiver takes one request. A message of one sample takes 31 bytes.
-static LIMITED: Row<'static> = (
-    "two samples make a request",
-    &[More(FOUR)],
-    5,
-    StopRequest::Finish,
-    Ok(()),
-    b"dropped 3 status 400\ndropped 4 status 400\nfiltered 0\nreport complete 5\n",
-);
+static LIMITED: Row<'static> = Row {
+    name: "two samples make a request",
+    log: &[More(FOUR)],
+    looks: 5,
+    asks: StopRequest::Finish,
+    answer: Ok(()),
+    prints: b"dropped 3 status 400\ndropped 4 status 400\nfiltered 0\nreport complete 5\n",
+};
 
 /// The samples of a batch have a limit in bytes, if the options of a run have one.
 #[test]
@@ -442,7 +477,7 @@ fn is_stopped<R: Threads + Wait + Clock + Copy + Send + Sync + 'static>(
     let is_printed = printed
         .as_slice()
         .starts_with(b"filtered 0\nabandoned 1\n".as_slice());
-    Ok(is_printed && answer == Err(FollowFault::Stopped))
+    Ok(is_printed && is_stopped_at_once(&answer))
 }
 
 /// A stop at once is seen while the end in order waits for the receiver, and while a full queue is
@@ -476,7 +511,7 @@ struct ShardsRow<'a> {
     asks: bool,
     /// There is no memory for the shards of the epochs from this one on.
     epochs: u64,
-    answer: Result<(), FollowFault>,
+    answer: Result<(), RunFault>,
     printed: &'a [u8],
     /// How many shards the counters have at the end, if the load does not decide.
     shards: Option<u64>,
@@ -542,7 +577,10 @@ static SHARDS: [ShardsRow<'static>; 7] = [
         happens: &[More(FOUR), Quiet, Next(ONE_MORE)],
         asks: false,
         epochs: 1,
-        answer: Err(FollowFault::Tool(ToolFault::OutOfMemory)),
+        answer: Err(RunFault {
+            fault: FollowFault::Tool(ToolFault::OutOfMemory),
+            place: None,
+        }),
         printed: b"filtered 0\nreport abandoned 5\n",
         shards: Some(1),
     },
@@ -562,7 +600,10 @@ static SHARDS: [ShardsRow<'static>; 7] = [
         happens: &[More(FOUR)],
         asks: true,
         epochs: 1,
-        answer: Err(FollowFault::Tool(ToolFault::OutOfMemory)),
+        answer: Err(RunFault {
+            fault: FollowFault::Tool(ToolFault::OutOfMemory),
+            place: None,
+        }),
         printed: b"filtered 0\nreport abandoned 5\n",
         shards: Some(1),
     },

@@ -43,7 +43,7 @@ pub fn of_feeders() {
     let _ = (Feeder::new, Feeder::feed, Feeder::read, Feeder::place);
     let _ = (Feeder::sent, Feeder::count, Feeder::dropped);
     let _ = (Feeder::filtered, Feeder::finish);
-    let _ = (Feeder::skipped_of, Feeder::newest);
+    let _ = (Feeder::skipped_of, Feeder::newest, Feeder::fault_place);
     let _ = (Cuts::within, Cuts::reset, Cuts::count);
 }
 
@@ -71,6 +71,7 @@ pub fn of_resharded_shippers<C: Connect + Drop, R: Threads + Wait + Copy + Send 
 /// How far a shipper is.
 pub fn of_loads<C: Connect + Drop>() {
     let _ = (Shipper::<C>::entries_read, Shipper::<C>::load);
+    let _ = Shipper::<C>::fault_place;
     let _ = (Shipper::<C>::dropped, Shipper::<C>::filtered);
     let _ = (Shipper::<C>::skipped_of, Shipper::<C>::newest);
 }

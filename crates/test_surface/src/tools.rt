@@ -35,6 +35,7 @@ pub fn of_written_folders<F: Files, R: Source>(
 pub fn of_folders<R: Files<File = File> + AllocGlobal + Copy>() {
     let _ = (
         Folder::<R>::new,
+        Folder::<R>::name_of,
         Folder::<R>::from_checkpoint,
         segment_files::<R>,
     );

@@ -8,7 +8,7 @@ use rw_relabel::Choice;
 use rw_test_parts::raw_labels;
 use rw_text::ToolFault;
 use rw_types::{ReadFault, Room, Word};
-use rw_wal_tail::TailFault;
+use rw_wal_tail::{Damage, FaultPlace, TailFault};
 use rw_wal_write::{SegmentWriter, sample_record, series_record};
 use std::alloc::{AllocError, Global};
 use std::test::Fail;
@@ -133,12 +133,15 @@ const PLAN: &str = "1 kept 0 {__name__=\"up\"}
 samples kept 4 filtered 0 bad 1 noseries 1
 ";
 
+/// The offset of the last record of the second segment: it has 27 bytes after its header of 7.
+const LAST_RECORD: u64 = 186 - 34;
+
 /// Returns what is written as the plan of two segments, and how the run ends.
 fn plan_of(
     alloc: Global,
     first: &[u8],
     second: &[u8],
-) -> Result<(Vec<u8>, Result<(), ToolFault>), AllocError> {
+) -> Result<(Vec<u8>, Result<Option<Damage>, ToolFault>), AllocError> {
     let mut writer = Room::new(alloc, 4096)?;
     let mut log = SegmentList::new(both(alloc, first, second)?);
     let outcome = plan_log(alloc, &mut log, &mut writer, Choice::legacy(alloc));
@@ -151,15 +154,19 @@ fn are_planned(alloc: Global) -> Result<(bool, bool), AllocError> {
     let first = segment_of(alloc, &FIRST)?;
     let mut second = segment_of(alloc, &SECOND)?;
     let (plan, outcome) = plan_of(alloc, &first, &second)?;
-    let is_whole = plan.as_slice() == PLAN.as_bytes() && outcome.is_ok();
+    let is_whole = plan.as_slice() == PLAN.as_bytes() && outcome == Ok(None);
     if let Some(byte) = second.last_mut() {
         *byte = 1;
     }
     let (plan, outcome) = plan_of(alloc, &first, &second)?;
-    Ok((
-        is_whole,
-        plan.is_empty() && outcome == Err(ToolFault::Log(TailFault::BadCrc)),
-    ))
+    let damage = Damage {
+        fault: TailFault::BadCrc,
+        place: Some(FaultPlace {
+            segment: 1,
+            offset: LAST_RECORD,
+        }),
+    };
+    Ok((is_whole, plan.is_empty() && outcome == Ok(Some(damage))))
 }
 
 #[test]

@@ -2,7 +2,7 @@
 -- proofs use them.
 use Rattle.std.specs.Prelude.{◌≡◌, List, take, Option}
 use Rattle.rw_types.specs.declared.entry.Entry.{Entry}
-use Rattle.rw_log_read.specs.declared.log_read.Damage.{Damage}
+use Rattle.rw_wal_tail.specs.declared.place.Damage.{Damage}
 use Rattle.rw_log_read.specs.declared.log_read.Segment.{Segment}
 use Rattle.rw_inspect.specs.Counting.{log_counts}
 use Rattle.rw_inspect.specs.Troubles.{not_rising, troubles_of}

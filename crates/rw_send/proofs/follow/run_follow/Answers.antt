@@ -1,4 +1,4 @@
-use Rattle.std.proofs.Common.{inl, refl}
+use Rattle.std.proofs.Common.{inl, refl, sym}
 use Rattle.rw_send.proofs.PrintLemmas.{fault_is, if_ok, prints_all, prints_part, prints_so}
 use Rattle.rw_send.proofs.follow.run_follow.Goals as goal
 
@@ -12,7 +12,7 @@ returns-in_err-print_report-clause-prints g c = λ start h.
     (prints_part _ _ _ _ _ _ _ _ _ _ _ _ _ _ _ (c.in_ok-report.ensures start h) printed.faults printed.memory printed.device)
 
 pub returns-clause-prints : goal.returns-clause-prints
-returns-clause-prints g c = λ start h. prints_all _ _ _ _ _ _ _ _ _ _ _ _ _ _ (c.in_ok-report.ensures start h) c.in_ok-print_report.ensures.ok
+returns-clause-prints g c = λ start h. prints_so _ _ _ _ _ _ _ _ _ _ _ _ _ _ (sym c.at.ensures) (prints_all _ _ _ _ _ _ _ _ _ _ _ _ _ _ (c.in_ok-report.ensures start h) c.in_ok-print_report.ensures.ok)
 
 pub returns-clause-sound : goal.returns-clause-sound
 returns-clause-sound g c = if_ok _ c.in_ok-print_report.ensures.sound
