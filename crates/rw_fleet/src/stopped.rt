@@ -1,6 +1,6 @@
 //! The shards of all epochs that have ended.
 
-ghost use Rattle.std.specs.Prelude.{◌≡◌, ◌+◌, ◌<◌, ◌≤◌, List, [], ◌∷◌, ◌++◌, length, map, drop, take, OnOk};
+ghost use Rattle.std.specs.Prelude.{◌≡◌, ◌+◌, ◌<◌, ◌≤◌, [], ◌∷◌, ◌++◌, length, map, drop, take, OnOk};
 ghost use Rattle.std.specs.List.{sum_by};
 ghost use Rattle.rw_worker.specs.Report.{counted_to};
 ghost use Rattle.rw_fleet.specs.Loads.{load_of, resolved_in, left_in_shard};

@@ -1,5 +1,5 @@
 -- The places that are noted while a message is staged.
-use Rattle.std.proofs.Common.{◌≡◌, ◌≢◌, ℕ, ◌+◌, ◌-◌, ◌<◌, ◌≤◌, List, [], ◌∷◌, ◌++◌, length, set, get_or, nat_eq, eqb-true, eq-eqb, Bool, true, false, cond, ◌||◌, ⊎_elim, refl, sym, ◌∙◌, ap, subst, arith, append-nil, AllPairs}
+use Rattle.std.proofs.Common.{◌≡◌, ◌≢◌, ℕ, ◌+◌, ◌<◌, ◌≤◌, List, [], ◌∷◌, ◌++◌, length, set, get_or, nat_eq, eqb-true, eq-eqb, Bool, true, false, cond, ◌||◌, ⊎_elim, refl, sym, ◌∙◌, ap, subst, arith, append-nil, AllPairs}
 use Rattle.std.specs.List.{list_any}
 use Rattle.std.proofs.lemmas.Bool.{cases_lt, true≢false}
 use Rattle.std.proofs.lemmas.List.{get_or-set_same, get_or-set_other, get_or_append_left, get_or_push, length-set, length_push, length-append}

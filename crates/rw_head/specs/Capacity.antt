@@ -1,6 +1,6 @@
 -- How much a head may hold. A request that would take it above that is answered with 503 Service
 -- Unavailable (RFC 9110).
-use Rattle.std.specs.Prelude.{◌≡◌, ◌⊎◌, ℕ, ◌-◌, ◌^◌, ◌≤◌, nat_lt, Bool, ◌&&◌, ◌||◌, if◌then◌else◌, List, length}
+use Rattle.std.specs.Prelude.{◌⊎◌, ℕ, ◌-◌, ◌^◌, ◌≤◌, nat_lt, Bool, ◌&&◌, ◌||◌, if◌then◌else◌, List, length}
 use Rattle.rw_head.specs.declared.capacity.Admission.{Admission}
 use Rattle.rw_head.specs.declared.capacity.Admission.TheVariants.{Answered, Full}
 use Rattle.rw_head.specs.declared.capacity.Capacity.{Capacity}

@@ -1,12 +1,11 @@
 //! The lists of all label sets, and what a message would make of them.
 
-ghost use Rattle.std.specs.Prelude.{◌≡◌, ◌≢◌, ◌↔◌, ◌+◌, ◌-◌, ◌^◌, ◌<◌, ◌≤◌, ◌++◌, ◌∷◌, [], ℕ, length, None, Some, IsTrue, IfOk, IfErr, IfSome, OnOk, OnErr, map, slice_index_or, slice_set, vec_len, vec_capacity};
+ghost use Rattle.std.specs.Prelude.{◌≡◌, ◌≢◌, ◌↔◌, ◌+◌, ◌-◌, ◌^◌, ◌<◌, ◌≤◌, [], ℕ, length, None, Some, IsTrue, IfOk, IfSome, map, slice_index_or, slice_set, vec_len, vec_capacity};
 ghost use Rattle.rw_types.specs.Beginnings.{Begins};
 ghost use Rattle.rw_types.specs.Labels.{text_label};
 ghost use Rattle.std.specs.BTreeMap.{get};
 ghost use Rattle.std.specs.FinMap.{empty};
-ghost use Rattle.rw_types.specs.LabelOrder.{labels_cmp};
-ghost use Rattle.rw_head.specs.declared.verdict.Verdict.TheVariants.{OutOfOrder, NoMemory};
+ghost use Rattle.rw_head.specs.declared.verdict.Verdict.TheVariants.{NoMemory};
 ghost use Rattle.rw_head.specs.Order.{points, accept};
 ghost use Rattle.rw_head.specs.Placed.{IsPlaced};
 ghost use Rattle.rw_head.specs.Store.{list_of, total, label_sets, held_series, AreListsOf, HasNoEmptyList};
@@ -20,7 +19,7 @@ ghost use Rattle.rw_head.specs.inner.Blocks.{open_of};
 ghost use Rattle.rw_head.specs.Added.{AddsUp};
 ghost use Rattle.rw_head.specs.Capacity.{exceeds, is_above, unlimited};
 ghost use Rattle.rw_head.specs.Lists.{no_lists};
-ghost use Rattle.rw_head.specs.inner.Lists.{more_count, note_of, Settled, IsAdded, IsStagedAt, ListGives, StoreGives};
+ghost use Rattle.rw_head.specs.inner.Lists.{more_count, note_of, Settled, IsStagedAt, ListGives, StoreGives};
 
 use crate::added::AllAdded;
 use crate::block::Block;

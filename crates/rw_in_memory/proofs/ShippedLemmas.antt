@@ -1,23 +1,20 @@
 -- A shipper over lines, from its start until the head is back.
-use Rattle.std.proofs.Common.{◌≡◌, inl, inr, ℕ, ◌≤◌, List, [], ◌∷◌, ◌++◌, All, drop, map, take, length, Option, None, Some, Result, Ok, Err, IfOk, IfSome, slice_get, get_or, refl, sym, ap, ◌∙◌, subst, arith}
+use Rattle.std.proofs.Common.{◌≡◌, inl, inr, ℕ, ◌≤◌, List, [], ◌++◌, All, drop, map, take, length, Option, None, Some, Result, Ok, Err, IfOk, IfSome, slice_get, get_or, refl, sym, ap, ◌∙◌, subst, arith}
 use Rattle.std.specs.Prelude.{IsSome, is_some, OnOk}
 use Rattle.std.specs.FinMap.{empty}
 use Rattle.std.proofs.lemmas.List.{length-map}
 use Rattle.std.proofs.lemmas.Option.{none-some, slice_get_within, get_or_from_slice_get, slice_get-get_or}
 use Rattle.rw_wal_tail.specs.Fed.{piece_of}
 use Rattle.rw_wal_tail.specs.declared.piece.Piece.{Piece}
-use Rattle.rw_wal_format.specs.Pieces.{reading, entries}
-use Rattle.rw_wal_format.specs.Segments.{segment}
+use Rattle.rw_wal_format.specs.Pieces.{entries}
 use Rattle.rw_wal_format.specs.declared.tail_fault.TailFault.{TailFault}
-use Rattle.rw_relabel.specs.declared.choice.Choice.{Choice}
 use Rattle.rw_shard_core.specs.Configs.{choice_of}
 use Rattle.rw_shard_core.specs.declared.config.ConfigFields.{ConfigFields}
-use Rattle.rw_shard_core.specs.declared.outcome.Outcome.{Outcome}
 use Rattle.rw_shard_core.specs.declared.outcome.Outcome.TheVariants.{Complete, Damaged}
 use Rattle.rw_head.specs.Head.{State}
 use Rattle.rw_head.specs.declared.limits.Limits.{Limits}
 use Rattle.rw_sender.specs.Feeders.{Sorting, HasRead}
-use Rattle.rw_fleet.specs.ShardHistories.{ShardHistory, AreFresh, AreSame}
+use Rattle.rw_fleet.specs.ShardHistories.{AreFresh}
 use Rattle.rw_fleet.specs.Work.{lane_of, finished_of}
 use Rattle.rw_fleet.specs.Fleets.{Shards, EndBy}
 use Rattle.rw_fleet.specs.declared.joined.StoppedShard.{StoppedShard}

@@ -14,7 +14,7 @@ use Rattle.rw_types.proofs.shared.GatherLemmas.{gather-push}
 use Rattle.rw_inspect.specs.Counting.{log_counts}
 use Rattle.rw_inspect.specs.inner.Counting.{IsCacheOf, IsCounter, IsPlaced}
 use Rattle.rw_log_read.proofs.shared.HereLemmas.{here_none, sums_of-push}
-use Rattle.rw_log_read.specs.Sums.{no_sums, sums_of, sums_with_entry}
+use Rattle.rw_log_read.specs.Sums.{no_sums, sums_with_entry}
 use Rattle.rw_inspect.specs.Troubles.{has_bad_labels, has_no_series, not_rising, trouble_of}
 use Rattle.rw_inspect.specs.declared.counts.Counts.{Counts}
 use Rattle.rw_log_read.specs.declared.sums.Sums.{Sums}

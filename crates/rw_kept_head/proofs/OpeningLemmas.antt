@@ -1,5 +1,5 @@
 -- A segment of the log of a head was taken, or memory ran out.
-use Rattle.std.proofs.Common.{◌≡◌, ℕ, Bool, true, false, Result, Ok, Err, OnOk, OnErr, ap, ◌∙◌}
+use Rattle.std.proofs.Common.{◌≡◌, ℕ, true, false, Result, Ok, Err, OnOk, OnErr, ap, ◌∙◌}
 use Rattle.rw_head.specs.Verdicts.{LabelLimits}
 use Rattle.rw_kept_log.specs.Taken.{LogTaken}
 use Rattle.rw_kept_head.specs.inner.Opening.{IsMadeWith}

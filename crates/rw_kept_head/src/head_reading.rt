@@ -1,6 +1,6 @@
 //! A head, opened from the log in a journal.
 
-ghost use Rattle.std.specs.Prelude.{◌≡◌, ◌<◌, ◌≤◌, ◌^◌, ◌++◌, [], ◌∷◌, length, take, None, IfOk, OnOk, IfErr, IsErrOf, IfSome};
+ghost use Rattle.std.specs.Prelude.{◌≡◌, ◌<◌, ◌≤◌, ◌++◌, [], ◌∷◌, length, take, None, IfOk, OnOk, IfErr, IsErrOf, IfSome};
 ghost use Rattle.rw_kept_log.specs.Journal.{on_last, Only, LeavesOnly};
 ghost use Rattle.rw_kept_log.specs.Logs.{entries_of};
 ghost use Rattle.rw_kept_log.specs.Ends.{EndsAt};

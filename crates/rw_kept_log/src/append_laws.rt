@@ -2,7 +2,6 @@
 //! contract is the law.
 
 ghost use Rattle.std.specs.Prelude.{◌≡◌, ◌++◌, [], ◌∷◌, ℕ, List, Some, length, ℤ, map};
-ghost use Rattle.std.specs.List.{AllByRecursion};
 ghost use Rattle.rw_types.specs.Beginnings.{Begins};
 ghost use Rattle.rw_types.specs.Labels.{Labels};
 ghost use Rattle.rw_types.specs.declared.entry.Entry.{Entry};

@@ -1,6 +1,6 @@
 //! Finds the place at which the last segment is cut.
 
-ghost use Rattle.std.specs.Prelude.{◌≡◌, ◌<◌, ◌≤◌, false, length, true, IfOk, IfErr};
+ghost use Rattle.std.specs.Prelude.{◌≡◌, ◌<◌, ◌≤◌, false, true, IfOk, IfErr};
 ghost use Rattle.rw_kept_log.specs.Torn.{end_of_page};
 ghost use Rattle.rw_wal_format.specs.Pieces.{page_size};
 ghost use Rattle.rw_kept_log.specs.inner.Reading.{IsReadOf};

@@ -1,6 +1,6 @@
 //! The end of a log.
 
-ghost use Rattle.std.specs.Prelude.{◌≡◌, ◌≤◌, ◌*◌, ◌++◌, [], ◌∷◌, map, IfOk};
+ghost use Rattle.std.specs.Prelude.{◌≡◌, ◌≤◌, ◌*◌, ◌++◌, map, IfOk};
 ghost use Rattle.rw_wal_format.specs.Laws.{sample_entry};
 ghost use Rattle.rw_wal_format.specs.Pieces.{page_size};
 ghost use Rattle.rw_kept_log.specs.Journal.{Segments, with_more};

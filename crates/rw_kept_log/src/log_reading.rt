@@ -1,6 +1,6 @@
 //! Opens a log after a crash.
 
-ghost use Rattle.std.specs.Prelude.{◌≡◌, ◌++◌, [], ◌∷◌, ℕ, List, length, true, false, IfOk, OnOk, OnErr, IfErr, IfSome, IsErrOf};
+ghost use Rattle.std.specs.Prelude.{◌≡◌, ◌++◌, [], ◌∷◌, List, length, true, false, IfOk, OnOk, OnErr, IfErr, IfSome, IsErrOf};
 ghost use Rattle.rw_types.specs.declared.entry.Entry.{Entry};
 ghost use Rattle.rw_kept_log.specs.Journal.{Segments};
 ghost use Rattle.rw_wal_format.specs.Pieces.{page_size};

@@ -1,6 +1,6 @@
 //! A journal in memory. Only contracts see what it held at each moment.
 
-ghost use Rattle.std.specs.Prelude.{◌≡◌, ◌<◌, ◌-◌, ◌≤◌, ◌++◌, [], ◌∷◌, length, take, get_or, IfOk, OnOk};
+ghost use Rattle.std.specs.Prelude.{◌≡◌, ◌<◌, ◌-◌, ◌++◌, [], ◌∷◌, length, take, get_or, IfOk, OnOk};
 ghost use Rattle.std.proofs.Common.{inl};
 ghost use Rattle.rw_kept_log.specs.Journal.{Only};
 ghost use Rattle.rw_kept_log.specs.Memory.{image_segments, IsLeftOf, LeftSince, only_this, all_left};

@@ -1,6 +1,6 @@
 //! Records of definitions and samples, written to memory.
 
-ghost use Rattle.std.specs.Prelude.{◌≡◌, ◌<◌, ◌^◌, ◌++◌, [], ◌∷◌, length, map, OnOk, Some, List};
+ghost use Rattle.std.specs.Prelude.{◌≡◌, ◌<◌, ◌^◌, [], ◌∷◌, length, map, OnOk, Some, List};
 ghost use Rattle.rw_types.specs.Labels.{bytes_label};
 ghost use Rattle.rw_types.specs.declared.entry.Entry.{Entry};
 ghost use Rattle.rw_wal_format.specs.Laws.{AreTexts, AreSamples, sample_entry};

@@ -1,6 +1,6 @@
 //! A segment, read to its end.
 
-ghost use Rattle.std.specs.Prelude.{◌≡◌, ◌<◌, [], length, None, Some, IfOk, OnOk};
+ghost use Rattle.std.specs.Prelude.{◌≡◌, ◌<◌, [], None, Some, IfOk, OnOk};
 ghost use Rattle.rw_wal_format.specs.Pieces.{page_size};
 ghost use Rattle.rw_wal_format.specs.declared.tail_fault.TailFault.{TailFault};
 ghost use Rattle.rw_wal_tail.specs.Places.{stop_after};

@@ -1,5 +1,5 @@
 -- Runs of the command `plan`.
-use Rattle.std.proofs.Common.{◌≡◌, ℕ, ◌≤◌, List, [], ◌∷◌, length, take, ◌++◌, Bool, true, false, Option, None, Some, Result, Ok, Err, refl, sym, ◌∙◌, ap, subst, append-nil}
+use Rattle.std.proofs.Common.{◌≡◌, ℕ, ◌≤◌, List, [], ◌∷◌, length, take, ◌++◌, true, false, Option, None, Some, Result, Ok, Err, refl, sym, ◌∙◌, ap, subst, append-nil}
 use Rattle.std.specs.Result.{OnOk}
 use Rattle.std.specs.Io.KnownBytes.{Appends, Consumes, IsAtEnd}
 use Rattle.rw_types.specs.declared.entry.Entry.{Entry}
@@ -7,7 +7,7 @@ use Rattle.rw_wal_format.specs.Pieces.{bytes, entries, fault}
 use Rattle.rw_wal_format.specs.declared.tail_fault.TailFault.{TailFault}
 use Rattle.rw_text.specs.HexText.{read_text}
 use Rattle.rw_relabel.specs.declared.choice.Choice.{Choice}
-use Rattle.rw_log_commands.specs.Plan.{plan_of, plan_text}
+use Rattle.rw_log_commands.specs.Plan.{plan_text}
 use Rattle.rw_log_commands.specs.Planning.{PlansLog, PlansLogPart, WritesPlan, WritesPlanPart}
 use Rattle.rw_log_commands.specs.Running.{ReadsFault, ReadsInput}
 use Rattle.rw_log_commands.specs.Taking.{ReadsWhole}

@@ -1,9 +1,8 @@
 //! The entries of a log, taken as its bytes come.
 
-ghost use Rattle.std.specs.Prelude.{◌≡◌, ◌<◌, ℕ, List, [], ◌∷◌, false, None, IfOk, IfErr, OnOk, length};
+ghost use Rattle.std.specs.Prelude.{◌≡◌, ◌<◌, ℕ, List, [], ◌∷◌, false, None, IfOk, IfErr, OnOk};
 ghost use Rattle.rw_wal_format.specs.Pieces.{bytes, entries};
-ghost use Rattle.rw_log_commands.specs.Taking.{ReadsWhole};
-ghost use Rattle.rw_log_commands.specs.inner.Taking.{ReadsSegment, StopsLog, StopsReading};
+ghost use Rattle.rw_log_commands.specs.inner.Taking.{ReadsSegment, StopsReading};
 
 use rw_log_read::read_into;
 use rw_text::ToolFault;

@@ -1,6 +1,6 @@
 //! The command `plan`, over any log and writer.
 
-ghost use Rattle.std.specs.Prelude.{◌≡◌, ◌≢◌, ◌⊎◌, ◌<◌, ◌∷◌, [], ℕ, List, length, true, false, Ok, Err, None, Some, IfOk, OnOk, IfErr};
+ghost use Rattle.std.specs.Prelude.{◌≡◌, ◌≢◌, ◌⊎◌, ◌<◌, ℕ, length, true, false, Ok, Err, None, Some, OnOk, IfErr};
 ghost use Rattle.rw_wal_format.specs.declared.tail_fault.TailFault.{TailFault};
 ghost use Rattle.rw_wal_format.specs.declared.tail_fault.TailFault.TheVariants as tail;
 ghost use Rattle.rw_wal_tail.specs.declared.place.Damage.{Damage};

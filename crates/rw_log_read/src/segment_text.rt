@@ -1,9 +1,8 @@
 //! A segment, read to its end or to its first fault.
 
-ghost use Rattle.std.specs.Prelude.{◌≡◌, ◌<◌, ◌+◌, ◌++◌, ◌∷◌, ℕ, List, [], length, true, false, Err, Ok, Some, None, IfOk, OnOk};
+ghost use Rattle.std.specs.Prelude.{◌≡◌, ◌<◌, ◌+◌, ◌∷◌, ℕ, [], length, true, false, Err, Ok, Some, None, IfOk, OnOk};
 ghost use Rattle.std.specs.Io.KnownBytes.{Consumes, IsAtEnd};
 ghost use Rattle.rw_types.specs.declared.transfer.ReadFault.TheVariants.{Failed};
-ghost use Rattle.rw_types.specs.declared.entry.Entry.{Entry};
 ghost use Rattle.rw_wal_tail.specs.Taking.{HasTaken};
 ghost use Rattle.rw_log_read.specs.Left.{current, later};
 ghost use Rattle.rw_log_read.specs.inner.Reading.{FeedsMore, ReadsText};

@@ -1,8 +1,7 @@
 -- What holds after every event, whatever the timestamps: what `settle` needs to come to a report.
-use Rattle.std.proofs.Common.{◌≡◌, ℕ, suc, ◌+◌, ◌<◌, ◌≤◌, ◌==◌, Bool, true, false, cond, List, [], ◌∷◌, ◌++◌, length, take, Option, Some, None, is_some, slice_get, refl, sym, ap, ◌∙◌, subst, ℤ, ◌||◌, ◌&&◌, not, nat_le, length-append, arith}
+use Rattle.std.proofs.Common.{◌≡◌, ℕ, suc, ◌+◌, ◌<◌, ◌≤◌, Bool, true, false, cond, List, [], ◌∷◌, ◌++◌, length, take, Option, Some, None, is_some, slice_get, refl, sym, ap, ◌∙◌, subst, ℤ, ◌||◌, ◌&&◌, not, nat_le, length-append, arith}
 use Rattle.std.specs.List.{AllByRecursion, list_any}
-use Rattle.std.proofs.lemmas.Bool.{leb-true, true≢false, not-true, and_parts, and_from}
-use Rattle.std.proofs.lemmas.Bool.Decides.{Decides-eqb}
+use Rattle.std.proofs.lemmas.Bool.{leb-true, true≢false, not-true, and_parts}
 use Rattle.std.proofs.lemmas.Option.{same_Some}
 use Rattle.rw_types.proofs.shared.AllLemmas.{AllByRecursion-append, AllByRecursion-left, AllByRecursion-right}
 use Rattle.rw_machine.proofs.shared.Steps.{always, Each, each_change, each_new}

@@ -1,7 +1,7 @@
 //! The page of a receiver for people.
 
 ghost use Rattle.std.specs.Prelude.{◌≡◌, ◌++◌, IfOk, OnOk};
-ghost use Rattle.rw_metrics.specs.ReceiveHtml.{answers_table, connections_table, held_table, kept_table, log_table, receive_html};
+ghost use Rattle.rw_metrics.specs.ReceiveHtml.{connections_table, held_table, kept_table, log_table, receive_html};
 
 use crate::html::{push_page_end, push_page_start, push_table};
 use crate::receive_numbers::{KeptNumbers, ReceiveNumbers};

@@ -1,6 +1,6 @@
 //! Rows of a page or of a line: a label and its number.
 
-ghost use Rattle.std.specs.Prelude.{◌≡◌, ◌++◌, ◌≤◌, OnOk, map, length, decimal, flat_map};
+ghost use Rattle.std.specs.Prelude.{◌≡◌, ◌++◌, ◌≤◌, OnOk, map, length};
 ghost use Rattle.rw_metrics.specs.Rows.{cause_text, has_row, row_text, rows_text, seconds_text, shown_text, status_text, statuses_text, three_digits};
 ghost use Rattle.rw_metrics.specs.inner.Rows.{shape_of, text_of};
 

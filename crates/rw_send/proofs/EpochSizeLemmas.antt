@@ -1,6 +1,6 @@
 -- How many shards each epoch has, while their number changes.
-use Rattle.std.proofs.Common.{◌≡◌, ◌≢◌, ◌⊎◌, inl, inr, ℕ, zero, suc, ◌+◌, ◌-◌, ◌≤◌, ◌<◌, Bool, true, false, List, [], ◌∷◌, ◌++◌, length, map, Some, Result, Ok, Err, cond, refl, sym, ap, ◌∙◌, subst, length-append, arith}
-use Rattle.std.specs.Prelude.{◌==◌, ◌*◌, min, max, nat_lt, if◌then◌else◌, filter, slice_get, OnOk, is_err}
+use Rattle.std.proofs.Common.{◌≡◌, ◌≢◌, ◌⊎◌, inl, inr, ℕ, suc, ◌+◌, ◌-◌, ◌≤◌, ◌<◌, Bool, true, false, List, [], ◌∷◌, ◌++◌, length, map, Some, Result, Ok, Err, cond, refl, sym, ap, ◌∙◌, subst, length-append, arith}
+use Rattle.std.specs.Prelude.{◌==◌, ◌*◌, max, nat_lt, if◌then◌else◌, filter, slice_get, OnOk, is_err}
 use Rattle.std.specs.Int.{div_ceil, abs_diff}
 use Rattle.std.proofs.Math.Nat.{eq-or-lt_of_le, le-max_left, le-min, min-le_right}
 use Rattle.std.proofs.lemmas.Bool.{eq-eqb, eqb-true, false_from_ne_true}
@@ -10,7 +10,6 @@ use Rattle.rw_reshard.specs.Wanted.{desired, if_far, wanted, within}
 use Rattle.rw_fleet.specs.Fleets.{Shards, AreAll}
 use Rattle.rw_fleet.specs.ShardHistories.{ShardHistory, AreFresh, AreSame}
 use Rattle.rw_fleet.specs.Work.{AreResolved, lane_of}
-use Rattle.rw_fleet.specs.declared.joined.StoppedShard.{StoppedShard}
 use Rattle.rw_fleet.specs.declared.load.Load.{Load}
 use Rattle.rw_sender.specs.Feeders.{Sorting}
 use Rattle.rw_sender.specs.Shipping.{Shipping, HasCompared, PlacesAll}

@@ -1,11 +1,8 @@
 //! A transport over TCP connections.
 
 ghost use Rattle.std.specs.Prelude.{◌≡◌, ◌<◌, ◌*◌, [], Ok, IfOk, IsOk, IsSome, vec_len};
-ghost use Rattle.std.specs.Io.KnownBytes.{Appends};
-ghost use Rattle.rw_retry.specs.Judgements.{judgement_of};
 ghost use Rattle.rw_shard_core.specs.declared.replies.ReplyRead.TheVariants as read;
 ghost use Rattle.rw_retry.specs.declared.judgement.Judgement.TheVariants as judgement;
-ghost use Rattle.rw_tcp.specs.Hearing.{Hears};
 
 use crate::reply::{Heard, NoReply, hear_answer};
 use http::StatusCode;

@@ -1,5 +1,5 @@
 -- Known bytes through several calls.
-use Rattle.std.proofs.Common.{ℕ, List, [], ◌++◌, Option, None, Some, refl, sym, ◌∙◌, ap, append_assoc, append-nil}
+use Rattle.std.proofs.Common.{ℕ, List, [], ◌++◌, Option, None, Some, sym, ◌∙◌, ap, append_assoc, append-nil}
 use Rattle.std.specs.Io.KnownBytes.{Keeps, Appends, Consumes}
 use Rattle.std.proofs.KnownBytes.{Consumes-trans, Consumes-nil}
 use Rattle.rw_types.specs.Memory.{ReadsOnto}

@@ -1,6 +1,6 @@
 //! The types of skipped records (wal.md).
 
-ghost use Rattle.std.specs.Prelude.{◌≡◌, ◌<◌, ◌∷◌, []};
+ghost use Rattle.std.specs.Prelude.{◌≡◌, ◌<◌};
 ghost use Rattle.rw_wal_format.specs.Skipped.{type_of_byte, skipped_type, type_number, loses_samples};
 
 /// The type of a record that is skipped, since it holds neither series nor samples.

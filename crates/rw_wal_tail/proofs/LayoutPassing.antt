@@ -1,16 +1,16 @@
 -- What a reader passes over, an item at a time: its reading and the number of its bytes.
-use Rattle.std.proofs.Common.{◌≡◌, ℕ, zero, suc, ◌+◌, ◌-◌, ◌<◌, ◌≤◌, List, [], ◌∷◌, ◌++◌, length, drop, replicate, map, flat_map, Option, Some, None, true, false, ltb, refl, sym, ap, ◌∙◌, subst, inl, inr, arith, lt-ltb, le-ltb, append_assoc, append-nil, length-append, length-drop, le_refl}
+use Rattle.std.proofs.Common.{◌≡◌, ℕ, zero, suc, ◌+◌, ◌-◌, ◌<◌, ◌≤◌, List, [], ◌∷◌, ◌++◌, length, drop, replicate, map, flat_map, Option, Some, None, true, false, ltb, refl, sym, ap, ◌∙◌, subst, inl, inr, arith, lt-ltb, le-ltb, append_assoc, append-nil, length-append}
 use Rattle.std.proofs.lemmas.Bool.{cases_lt}
 use Rattle.std.proofs.lemmas.List.{length-replicate}
 use Rattle.std.proofs.Math.Seq.{drop-append_seam}
 use Rattle.std.specs.List.{concat}
 use Rattle.rw_types.specs.declared.entry.Entry.{Entry}
 use Rattle.rw_wal_format.specs.Records.{record_entries}
-use Rattle.rw_wal_format.specs.Segments.{Kind, full, first, middle, last, Item, nothing, begun, zeros, fragment, wrong, item_at, left_after, Reading, with_record, read_from}
+use Rattle.rw_wal_format.specs.Segments.{Kind, full, first, middle, last, begun, zeros, fragment, item_at, left_after, Reading, with_record, read_from}
 use Rattle.rw_wal_format.proofs.shared.Growing.{left_after_pos}
 use Rattle.rw_wal_format.proofs.shared.Items.{read_zeros, read_full, read_first, read_middle, read_last}
-use Rattle.rw_wal_tail.specs.Places.{closes, opens, count_after, count_from, counted_items, read_count}
-use Rattle.rw_wal_tail.proofs.shared.PlaceLaws.{same_after, same_count, empty_count, count_enough, count_step, count_item}
+use Rattle.rw_wal_tail.specs.Places.{closes, opens, count_after, read_count}
+use Rattle.rw_wal_tail.proofs.shared.PlaceLaws.{count_item}
 use Rattle.rw_wal_tail.specs.LayoutItems.{Fragment, IsFragment}
 use Rattle.rw_wal_tail.specs.LayoutFragments.{InTurn, IsOpenRecord, IsRecord, MayBeOpen}
 use Rattle.rw_wal_tail.specs.LayoutSegment.{IsPage, IsPaged, IsFront}

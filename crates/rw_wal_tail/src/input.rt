@@ -1,6 +1,6 @@
 //! The bytes of a log that are not read yet.
 
-ghost use Rattle.std.specs.Prelude.{◌≡◌, ◌≤◌, ◌<◌, ◌+◌, ◌*◌, [], true, length, drop, map, IfOk, IfSome, OnOk, OnErr};
+ghost use Rattle.std.specs.Prelude.{◌≡◌, ◌≤◌, ◌<◌, ◌+◌, ◌*◌, true, length, drop, map, IfOk, IfSome, OnOk, OnErr};
 ghost use Rattle.rw_wal_tail.specs.inner.Held.{has_ended, begun_with, extend_last, fed, unfed, passed, marked, can_count, waits_as, later_bytes};
 
 use std::alloc::{AllocError, Global};

@@ -1,5 +1,5 @@
 -- Placements with one sample or one epoch more.
-use Rattle.std.proofs.Common.{◌≡◌, ◌≢◌, ◌⊎◌, inl, inr, ℕ, zero, suc, ◌+◌, ◌<◌, Bool, true, false, List, [], ◌∷◌, ◌++◌, length, map, Some, None, cond, refl, sym, ap, ◌∙◌, subst, append_assoc, append-nil, length-append, add-zero, zero-add, arith}
+use Rattle.std.proofs.Common.{◌≡◌, ◌≢◌, ◌⊎◌, inl, inr, ℕ, zero, suc, ◌+◌, ◌<◌, false, List, [], ◌∷◌, ◌++◌, length, map, Some, None, cond, refl, sym, ap, ◌∙◌, subst, append_assoc, append-nil, length-append, add-zero, zero-add, arith}
 use Rattle.std.specs.Prelude.{◌==◌, set, slice_get}
 use Rattle.std.proofs.lemmas.List.{length-set}
 use Rattle.std.proofs.lemmas.List.Elements.{filter-append}

@@ -3,7 +3,6 @@ use Rattle.std.proofs.Common.{◌≡◌, ℕ, ℤ, List, [], ◌∷◌, ◌++◌
 use Rattle.std.proofs.lemmas.List.{append-nil}
 use Rattle.std.proofs.lemmas.List.Elements.{filter-append}
 use Rattle.std.proofs.lemmas.List.Sums.{fold-append}
-use Rattle.std.proofs.Math.Seq.{take-length}
 use Rattle.std.specs.List.{fold}
 use Rattle.rw_types.specs.Labels.{Labels, label_fault}
 use Rattle.rw_types.specs.declared.entry.Entry.{Entry}

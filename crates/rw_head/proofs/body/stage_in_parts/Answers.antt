@@ -5,7 +5,7 @@ use Rattle.rw_write_request.specs.Message.{Sample}
 use Rattle.rw_write_request.specs.Texts.{series_of_texts}
 use Rattle.rw_head.specs.Verdicts.{taken}
 use Rattle.rw_head.proofs.shared.GrowthLemmas.{taken_within}
-use Rattle.rw_head.proofs.PartLemmas.{HasParts, labels_taken, one_part, part_refused, no_fault, parts_taken}
+use Rattle.rw_head.proofs.PartLemmas.{labels_taken, one_part, part_refused, no_fault, parts_taken}
 use Rattle.rw_head.proofs.body.stage_in_parts.Goals as goal
 
 pub loop-rest-init : goal.loop-rest-init

@@ -1,4 +1,4 @@
-use Rattle.std.proofs.Common.{◌≡◌, ◌∙◌, Bool, cond, Some, None, sym, subst, rules}
+use Rattle.std.proofs.Common.{◌≡◌, ◌∙◌, cond, Some, None, sym, subst, rules}
 use Rattle.rw_kept_log.specs.Journal.{LeavesOnly}
 use Rattle.rw_head.specs.Capacity.{StaysWithin}
 use Rattle.rw_head.specs.Head.{State, answer}

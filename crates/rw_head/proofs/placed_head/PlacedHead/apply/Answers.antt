@@ -1,4 +1,4 @@
-use Rattle.std.proofs.Common.{ap, sym, subst, ◌++◌, ◌∙◌}
+use Rattle.std.proofs.Common.{subst}
 use Rattle.rw_head.specs.Placed.{Placing}
 use Rattle.rw_head.proofs.PlacedLemmas.{Answers, settled_ready, settled_answers}
 use Rattle.rw_head.proofs.placed_head.PlacedHead.apply.Goals as goal

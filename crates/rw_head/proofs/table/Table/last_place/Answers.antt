@@ -1,8 +1,6 @@
-use Rattle.std.proofs.Common.{List, Option, Some, length, map, ap, subst, ◌≡◌, ◌+◌, ◌∙◌, arith}
-use Rattle.std.specs.BTreeMap.{get}
+use Rattle.std.proofs.Common.{List, length, map, ap, subst, ◌≡◌, ◌+◌, ◌∙◌, arith}
 use Rattle.std.specs.Prelude.{IfSome}
 use Rattle.rw_types.specs.Labels.{Labels, text_label}
-use Rattle.rw_types.specs.LabelOrder.{labels_cmp}
 use Rattle.rw_head.specs.Placed.{IsPlaced}
 use Rattle.rw_head.proofs.PlacedLemmas.{if_placed}
 use Rattle.rw_head.proofs.table.Table.last_place.Goals as goal

@@ -1,4 +1,4 @@
-use Rattle.std.proofs.Common.{◌≡◌, ◌+◌, ◌-◌, ◌∙◌, [], List, take, length, ap, arith}
+use Rattle.std.proofs.Common.{◌≡◌, ◌+◌, ◌-◌, ◌∙◌, [], take, length, ap, arith}
 use Rattle.rw_head.specs.inner.Lists.{settled_names}
 use Rattle.rw_head.proofs.shared.StagingLemmas.{no_places, IsSound-empty}
 use Rattle.rw_head.proofs.AddedLemmas.{nothing_added}

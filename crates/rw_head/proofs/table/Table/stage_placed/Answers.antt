@@ -1,18 +1,13 @@
-use Rattle.std.proofs.Common.{◌≡◌, ◌<◌, [], List, Some, length, get_or, refl, ap, subst, sym, ◌∙◌, arith}
+use Rattle.std.proofs.Common.{[], length, get_or, refl, ap, subst, sym, ◌∙◌, arith}
 use Rattle.std.proofs.lemmas.List.{length-set}
-use Rattle.std.specs.BTreeMap.{get}
-use Rattle.rw_types.specs.Labels.{Labels}
-use Rattle.rw_types.specs.LabelOrder.{labels_cmp}
 use Rattle.rw_write_request.specs.Message.{TimeSeries}
 use Rattle.rw_head.specs.Order.{points}
 use Rattle.rw_head.specs.Lists.{no_lists}
 use Rattle.rw_head.specs.inner.Growth.{HoldsNoneRefused}
-use Rattle.rw_head.specs.inner.Lists.{StoreGives, settled_names}
-use Rattle.rw_head.specs.Verdicts.{taken}
 use Rattle.rw_head.proofs.PlaceLemmas.{none_refused, staged_few}
 use Rattle.rw_head.proofs.PlacedLemmas.{placed_at}
 use Rattle.rw_head.proofs.shared.StagingLemmas.{taken_by}
-use Rattle.rw_head.proofs.TableLemmas.{Holds, held_at}
+use Rattle.rw_head.proofs.TableLemmas.{held_at}
 use Rattle.rw_head.proofs.table.Table.stage_placed.Goals as goal
 
 pub stage_held-requires-clause-place : goal.stage_held-requires-clause-place

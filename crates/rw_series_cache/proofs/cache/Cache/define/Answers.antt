@@ -1,11 +1,8 @@
-use Rattle.std.proofs.Common.{◌≡◌, ◌<◌, ◌∷◌, [], List, length, nat_eq, cond, Some, sym, ap, subst, ◌∙◌, length-append, arith, rules}
+use Rattle.std.proofs.Common.{◌∷◌, [], List, length, nat_eq, cond, Some, sym, ap, subst, ◌∙◌, length-append, rules}
 use Rattle.rw_types.specs.declared.entry.Entry.{Entry}
 use Rattle.rw_types.specs.declared.entry.Entry.TheVariants.{Def}
-use Rattle.rw_series_cache.specs.Known.{standing_of}
-use Rattle.rw_series_cache.specs.Numbers.{with_series}
 use Rattle.rw_series_cache.specs.inner.Verdicts.{verdict_in, IsWithin}
 use Rattle.rw_series_cache.proofs.CacheLemmas.{one_defined}
-use Rattle.rw_series_cache.proofs.NumberLemmas.{one_more_at_most}
 use Rattle.rw_series_cache.proofs.cache.Cache.define.Goals as goal
 
 pub invariant_of-self-2 : goal.invariant_of-self-2
