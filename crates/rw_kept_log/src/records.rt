@@ -1,9 +1,8 @@
 //! Records of definitions and samples, written to memory.
 
-ghost use Rattle.std.specs.Prelude.{◌≡◌, ◌<◌, ◌^◌, [], ◌∷◌, length, map, OnOk, Some, List};
-ghost use Rattle.rw_types.specs.Labels.{bytes_label};
+ghost use Rattle.std.specs.Prelude.{◌≡◌, ◌<◌, [], ◌∷◌, length, map, OnOk, Some, List};
 ghost use Rattle.rw_types.specs.declared.entry.Entry.{Entry};
-ghost use Rattle.rw_wal_format.specs.Laws.{AreTexts, AreSamples, sample_entry};
+ghost use Rattle.rw_wal_format.specs.Laws.{sample_entry};
 ghost use Rattle.rw_wal_format.specs.Records.{record_entries};
 ghost use Rattle.rw_kept_log.specs.Additions.{definition_entry};
 ghost use Rattle.rw_kept_log.specs.inner.Writing.{Holds};
@@ -29,37 +28,6 @@ fn put_record(writer: &mut SegmentWriter<Buffer>, rec: &[u8]) -> Result<(), Appe
     }
 }
 
-/// Reads how long a name and a value are, so that the contract knows that 64 bits hold it.
-fn read_lengths(label: &(Vec<u8>, Vec<u8>))
-    ensures { AreTexts (bytes_label label.now ∷ []) }
-{
-    let _name = label.0.len();
-    let _value = label.1.len();
-}
-
-/// Reads the lengths of labels.
-fn read_labels(labels: &RawLabels)
-    ensures texts { AreTexts labels.now }
-    ensures count { length labels.now < 2 ^ 64 }
-{
-    let _count = labels.len();
-    let items = labels.as_slice();
-    for label in items {
-        read_lengths(label);
-    }
-}
-
-/// Reads samples, so that the contract knows that each fits into 64 bits.
-fn read_samples(samples: &[(u64, i64, Word)])
-    ensures { AreSamples samples.now }
-{
-    for sample in samples {
-        let _reference = sample.0;
-        let _time = sample.1;
-        let _word = sample.2.0;
-    }
-}
-
 /// Writes a definition.
 fn put_definition(
     alloc: Global,
@@ -68,7 +36,6 @@ fn put_definition(
 ) -> Result<(), AppendError>
     ensures { OnOk result (Holds writer.old writer.new (definition_entry definition.now ∷ [])) }
 {
-    read_labels(&definition.1);
     let rec = series_record(alloc, definition.0, &definition.1)?;
     put_record(writer, &rec)?;
     Ok(())
@@ -97,7 +64,6 @@ fn put_part(
 ) -> Result<(), AppendError>
     ensures { OnOk result (Holds writer.old writer.new (map sample_entry samples.now)) }
 {
-    read_samples(samples);
     let rec = sample_record(alloc, samples)?;
     put_record(writer, &rec)?;
     Ok(())

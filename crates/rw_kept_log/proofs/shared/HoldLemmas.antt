@@ -6,7 +6,7 @@ use Rattle.std.specs.List.{AllByRecursion}
 use Rattle.rw_types.specs.Labels.{Labels, bytes_label}
 use Rattle.rw_types.specs.declared.entry.Entry.{Entry}
 use Rattle.rw_wal_format.proofs.shared.Written.{segment_read}
-use Rattle.rw_wal_format.specs.Laws.{AreRecords, log_all, entries_of_records, reading_of_records, AreTexts, IsSample, AreSamples, sample_entry}
+use Rattle.rw_wal_format.specs.Laws.{AreRecords, log_all, entries_of_records, reading_of_records, sample_entry}
 use Rattle.rw_wal_format.specs.Pieces.{page_size}
 use Rattle.rw_wal_format.specs.Records.{◌then◌, record_entries}
 use Rattle.rw_wal_format.specs.Segments.{between, Reading, with_entries}
@@ -123,32 +123,6 @@ put_next a b c samples rest part later n h front back g =
 -- all items of a list
 pub holds_all : {A : Type 0} (f : A → Entry) (xs : List A) (i : ℕ) (a b : Segment Buffered) → length xs ≤ i → Holds a b (map f (take i xs)) → Holds a b (map f xs)
 holds_all f xs i a b le h = subst (λ ys. Holds a b (map f ys)) (take_all i xs le) h
-
--- ---- what fits into 64 bits
-
-pub samples_all : (ss : List (ℕ × ℤ × ℕ)) (i : ℕ) → length ss ≤ i → AreSamples (take i ss) → AreSamples ss
-samples_all ss i le h = subst AreSamples (take_all i ss le) h
-
-pub texts_all : (ls : List (Vec ℕ Global × Vec ℕ Global)) (i : ℕ) (labels : Labels) → length ls ≤ i → map bytes_label ls ≡ labels → AreTexts (map bytes_label (take i ls)) → AreTexts labels
-texts_all ls i labels le e h = subst AreTexts e (subst (λ ks. AreTexts (map bytes_label ks)) (take_all i ls le) h)
-
-pub texts_more : (ls : Labels) (m : List ℕ × List ℕ) → AreTexts ls → AreTexts (m ∷ []) → AreTexts (ls ++ m ∷ [])
-texts_more [] m h g = g
-texts_more (l ∷ ls) m h g = (h.0, h.1, texts_more ls m h.2 g)
-
-pub samples_more : (ss : List (ℕ × ℤ × ℕ)) (s : ℕ × ℤ × ℕ) → AreSamples ss → IsSample s → AreSamples (ss ++ s ∷ [])
-samples_more [] s h g = (g, tt)
-samples_more (x ∷ ss) s h g = (h.0, samples_more ss s h.1 g)
-
-pub samples_next : (ss : List (ℕ × ℤ × ℕ)) (i : ℕ) (s : ℕ × ℤ × ℕ) → i < length ss → s ≡ get_or ss i s → AreSamples (take i ss) → IsSample s → AreSamples (take (i + 1) ss)
-samples_next ss i s lt is h g =
-    subst AreSamples (sym (take_more ss i s lt ∙ ap (λ y. take i ss ++ y ∷ []) (sym is))) (samples_more (take i ss) s h g)
-
-pub texts_next : (ls : List (Vec ℕ Global × Vec ℕ Global)) (i : ℕ) (l : Vec ℕ Global × Vec ℕ Global) → i < length ls → l ≡ get_or ls i l
-    → AreTexts (map bytes_label (take i ls)) → AreTexts (bytes_label l ∷ []) → AreTexts (map bytes_label (take (i + 1) ls))
-texts_next ls i l lt is h g =
-    let one : take (i + 1) ls ≡ take i ls ++ l ∷ [] = take_more ls i l lt ∙ ap (λ y. take i ls ++ y ∷ []) (sym is) in
-    subst AreTexts (sym (ap (map bytes_label) one ∙ map-append bytes_label (take i ls) (l ∷ []))) (texts_more (map bytes_label (take i ls)) (bytes_label l) h g)
 
 -- ---- whole segments
 
