@@ -1,7 +1,7 @@
 //! The commands that read standard input, or a folder, and write what they make of it.
 
 use crate::explanations::report_input_result;
-use crate::input::{Form, Input, Reader};
+use crate::input::{Form, Input};
 use crate::inspect_command::LogCommand;
 use crate::program_end::{report_settings_fault, report_unread_input};
 use crate::settings::settings_in;
@@ -12,34 +12,85 @@ use rw_settings::Settings;
 use rw_text::ToolFault;
 use rw_types::{Bounded, Std};
 use std::process::ExitCode;
+use std::rt::Stdout;
 
-/// Writes the body of a segment.
-pub fn body(rt: &HostRuntime, hex: bool, is_explained: bool) -> ExitCode {
-    match Input::open(rt, Form::of_segment(hex), is_explained) {
-        Ok(input) => {
-            let mut output = Std::new(rt.stdout());
-            let outcome = run_body(rt.alloc(), &mut input.reader(rt), &mut output, hex);
-            report_input_result(rt, &input, None, outcome)
+/// A command over standard input.
+#[derive(Drop)]
+struct InputCommand<'a> {
+    rt: &'a HostRuntime,
+    input: Input,
+    output: Std<Stdout>,
+}
+
+impl<'a> InputCommand<'a> {
+    /// Returns the command over standard input in this form, which is read whole if `is_explained`
+    /// says so. If that fails, it reports so, and returns the exit status.
+    fn open(
+        rt: &'a HostRuntime,
+        form: Form,
+        is_explained: bool,
+    ) -> Result<InputCommand<'a>, ExitCode> {
+        match Input::open(rt, form, is_explained) {
+            Ok(input) => Ok(InputCommand {
+                rt,
+                input,
+                output: Std::new(rt.stdout()),
+            }),
+            Err(fault) => Err(report_unread_input(rt, fault)),
         }
-        Err(fault) => report_unread_input(rt, fault),
+    }
+
+    /// Reports how the command ended that wrote to a folder or, if there is none, to standard
+    /// output. Returns the exit status.
+    fn end(&self, dir: Option<&str>, outcome: Result<(), ToolFault>) -> ExitCode {
+        report_input_result(self.rt, &self.input, dir, outcome)
+    }
+
+    /// Writes the body of a segment.
+    fn body(&mut self, hex: bool) -> ExitCode {
+        let mut reader = self.input.reader(self.rt);
+        let outcome = run_body(self.rt.alloc(), &mut reader, &mut self.output, hex);
+        self.end(None, outcome)
+    }
+
+    /// Writes a segment of log text, or the segments into a folder.
+    fn log(&mut self, hex: bool, pages: Bounded<1, 4096>, dir: Option<&str>) -> ExitCode {
+        let (rt, alloc) = (self.rt, self.rt.alloc());
+        let pages = pages.get() as usize;
+        let mut reader = self.input.reader(rt);
+        let outcome = match dir {
+            Some(dir) => run_log_dir(rt, alloc, &mut reader, dir, pages),
+            None => run_log(alloc, &mut reader, &mut self.output, hex, pages),
+        };
+        self.end(dir, outcome)
+    }
+
+    /// Prints the plan of a segment.
+    fn plan(&mut self, settings: Settings, hex: bool) -> ExitCode {
+        let mut reader = self.input.reader(self.rt);
+        let outcome = run_plan(
+            self.rt.alloc(),
+            &mut reader,
+            &mut self.output,
+            settings,
+            hex,
+        );
+        self.end(None, outcome)
+    }
+
+    /// Plays a script and prints the state at its end.
+    fn replay(&mut self, settings: Settings) -> ExitCode {
+        let mut reader = self.input.reader(self.rt);
+        let outcome = run_replay(self.rt.alloc(), &mut reader, &mut self.output, settings);
+        self.end(None, outcome)
     }
 }
 
-/// Writes a segment of log text, or the segments into a folder.
-fn log_from(
-    rt: &HostRuntime,
-    input: &mut Reader<'_>,
-    hex: bool,
-    pages: Bounded<1, 4096>,
-    dir: Option<&str>,
-) -> Result<(), ToolFault> {
-    let pages = pages.get() as usize;
-    match dir {
-        Some(dir) => run_log_dir(rt, rt.alloc(), input, dir, pages),
-        None => {
-            let mut output = Std::new(rt.stdout());
-            run_log(rt.alloc(), input, &mut output, hex, pages)
-        }
+/// Writes the body of the segment on standard input.
+pub fn body(rt: &HostRuntime, hex: bool, is_explained: bool) -> ExitCode {
+    match InputCommand::open(rt, Form::of_segment(hex), is_explained) {
+        Ok(mut command) => command.body(hex),
+        Err(status) => status,
     }
 }
 
@@ -52,61 +103,39 @@ pub fn log(
     dir: Option<&str>,
     is_explained: bool,
 ) -> ExitCode {
-    match Input::open(rt, Form::LogText, is_explained) {
-        Ok(input) => {
-            let outcome = log_from(rt, &mut input.reader(rt), hex, pages, dir);
-            report_input_result(rt, &input, dir, outcome)
-        }
-        Err(fault) => report_unread_input(rt, fault),
+    match InputCommand::open(rt, Form::LogText, is_explained) {
+        Ok(mut command) => command.log(hex, pages, dir),
+        Err(status) => status,
     }
 }
 
-/// Prints the plan of a segment.
-fn plan_segment(rt: &HostRuntime, settings: Settings, hex: bool, is_explained: bool) -> ExitCode {
-    match Input::open(rt, Form::of_segment(hex), is_explained) {
-        Ok(input) => {
-            let mut reader = input.reader(rt);
-            let mut output = Std::new(rt.stdout());
-            let outcome = run_plan(rt.alloc(), &mut reader, &mut output, settings, hex);
-            report_input_result(rt, &input, None, outcome)
-        }
-        Err(fault) => report_unread_input(rt, fault),
-    }
-}
-
-/// Prints the plan of a segment, or of the segments of a folder.
+/// Prints the plan of the segment on standard input, or of the segments of a folder.
 pub fn plan(
     rt: &HostRuntime,
     file: SettingsFile<'_>,
     hex: bool,
     dir: Option<LogDir<'_>>,
 ) -> ExitCode {
-    match settings_in(rt, file) {
-        Ok(settings) => match dir {
-            Some(dir) => LogCommand::new(rt, dir, file.is_explained).plan(settings),
-            None => plan_segment(rt, settings, hex, file.is_explained),
-        },
-        Err(fault) => report_settings_fault(rt, fault),
-    }
-}
-
-/// Plays a script under settings.
-fn play(rt: &HostRuntime, settings: Settings, is_explained: bool) -> ExitCode {
-    match Input::open(rt, Form::Script, is_explained) {
-        Ok(input) => {
-            let mut reader = input.reader(rt);
-            let mut output = Std::new(rt.stdout());
-            let outcome = run_replay(rt.alloc(), &mut reader, &mut output, settings);
-            report_input_result(rt, &input, None, outcome)
-        }
-        Err(fault) => report_unread_input(rt, fault),
-    }
+    let settings = match settings_in(rt, file) {
+        Ok(settings) => settings,
+        Err(fault) => return report_settings_fault(rt, fault),
+    };
+    let Some(dir) = dir else {
+        return match InputCommand::open(rt, Form::of_segment(hex), file.is_explained) {
+            Ok(mut command) => command.plan(settings, hex),
+            Err(status) => status,
+        };
+    };
+    LogCommand::new(rt, dir, file.is_explained).plan(settings)
 }
 
 /// Plays a script and prints the state at its end.
 pub fn replay(rt: &HostRuntime, file: SettingsFile<'_>) -> ExitCode {
     match settings_in(rt, file) {
-        Ok(settings) => play(rt, settings, file.is_explained),
+        Ok(settings) => match InputCommand::open(rt, Form::Script, file.is_explained) {
+            Ok(mut command) => command.replay(settings),
+            Err(status) => status,
+        },
         Err(fault) => report_settings_fault(rt, fault),
     }
 }
