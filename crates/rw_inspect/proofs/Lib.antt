@@ -2,4 +2,4 @@ pub mod CounterLemmas
 pub mod FindingLemmas
 pub mod InspectLemmas
 pub mod PlacedLemmas
-pub mod TextLemmas
+mod RowLemmas

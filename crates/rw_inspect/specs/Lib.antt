@@ -1,6 +1,11 @@
+pub mod Cells
 pub mod Counting
+pub mod Faults
 pub mod Finding
 pub mod Inspecting
-pub mod Texts
+pub mod Json
+pub mod JsonText
+pub mod Sizes
+pub mod Table
 pub mod Troubles
 pub mod inner

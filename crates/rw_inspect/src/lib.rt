@@ -2,12 +2,14 @@
 //! drop.
 #![tactic(auto)]
 
+mod cells;
 mod counter;
 mod counts;
+mod faults;
 mod found;
 mod json;
+mod json_text;
 mod log_report;
-mod printed_parts;
 mod report;
 mod sizes;
 mod table;
@@ -16,8 +18,9 @@ mod words;
 
 pub use counter::Counter;
 pub use counts::Counts;
+pub use faults::fault_lines;
 pub use found::{Found, find_entries};
 pub use json::json_of;
 pub use log_report::inspect;
 pub use report::Report;
-pub use table::{fault_lines, table_of};
+pub use table::table_of;

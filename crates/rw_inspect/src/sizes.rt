@@ -1,7 +1,7 @@
 //! How large segments are.
 
 ghost use Rattle.std.specs.Prelude.{◌≡◌, ◌+◌, IfOk};
-ghost use Rattle.rw_inspect.specs.Texts.{pages_of, sizes_in, sizes_of, with_segment};
+ghost use Rattle.rw_inspect.specs.Sizes.{pages_of, sizes_in, sizes_of, with_segment};
 
 use rw_log_read::Segment;
 use std::alloc::AllocError;

@@ -1,5 +1,5 @@
 use Rattle.std.proofs.Common.{◌≡◌, take}
-use Rattle.rw_inspect.specs.Texts.{sizes_in}
+use Rattle.rw_inspect.specs.Sizes.{sizes_in}
 use Rattle.rw_inspect.proofs.sizes.sizes_in.Given as goal
 
 abbrev pub invariant-loop-segment : goal.invariant-loop-segment

@@ -1,5 +1,5 @@
 use Rattle.std.proofs.Common.{◌≡◌, ◌++◌, take, flat_map}
-use Rattle.rw_inspect.specs.Texts.{line_text}
+use Rattle.rw_inspect.specs.Table.{line_text}
 use Rattle.rw_inspect.proofs.table.push_rows.Given as goal
 
 abbrev pub invariant-loop-segment : goal.invariant-loop-segment

@@ -1,0 +1,6 @@
+-- Inner definitions beside those of Cells.antt: only private functions and proofs use them.
+use Rattle.std.specs.Prelude.{ℕ, List}
+use Rattle.std.specs.Borrow.{Bor}
+
+abbrev pub text_of : Bor (List ℕ) → List ℕ
+text_of text = text.now
