@@ -94,6 +94,8 @@ pub struct Sending<'a> {
     pub fails_on_skip: bool,
     /// The most bytes of a batch's body, or `None` for no limit.
     pub max_batch_bytes: Option<u64>,
+    /// Whether bodies are sent as Snappy blocks, whatever the settings say.
+    pub sends_snappy: bool,
 }
 
 /// What `receive` is to do.

@@ -309,6 +309,12 @@ static SEND: Words = Words {
             bonds: &[],
             help: "Keep request bodies within N bytes, 1 to\n1099511627776; a larger single sample is still sent",
         },
+        Opt {
+            name: "snappy",
+            takes: Takes::Nothing,
+            bonds: &[],
+            help: "Send bodies with Content-Encoding: snappy, as\nPrometheus does",
+        },
         PROGRESS,
         METRICS,
     ],

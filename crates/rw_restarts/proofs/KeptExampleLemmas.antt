@@ -39,11 +39,11 @@ use Rattle.rw_kept_head.specs.Answered.{KeepsHead, IsKeptAnswer}
 use Rattle.rw_kept_head.specs.Kept.{Kept, SaysWhat, IsTornWrite, IsLeft}
 use Rattle.rw_kept_head.specs.Opening.{HasSameEntries}
 use Rattle.rw_restarts.specs.WireReceivers.{RunOfWorkers, ExchangePlace, IsEarlierExchange, WireEvent, Comes, Reopens, ReopensDuring, BringsExchange}
-use Rattle.rw_restarts.specs.KeptWireReceivers.{ReadsBody, IsSound, IsOpenedFrom, IsCrash, HappensToKept, IsKeptReceiver}
+use Rattle.rw_restarts.specs.KeptWireReceivers.{ReadsBody, ReadsCarried, IsSound, IsOpenedFrom, IsCrash, HappensToKept, IsKeptReceiver}
 use Rattle.rw_restarts.specs.Examples.{example_series, first, message_of, with_first}
 use Rattle.rw_restarts.specs.WireExamples as wire
 use Rattle.rw_restarts.specs.KeptExamples.{ExampleJournal, seen, may_leave, moment, left_since, tears, definition_written, sample_written, written, begun_header, torn, opened_over, cut_journal, written_over, kept_with, events, states}
-use Rattle.rw_restarts.proofs.KeptWireLemmas.{RequestsAreRead}
+use Rattle.rw_restarts.proofs.CarriedLemmas.{RequestsAreRead}
 use Rattle.rw_restarts.proofs.WireExampleLemmas.{short_message, is_message, none-earlier, body_is, runs, here, taken, comes-among, runs-are, nothing-before}
 
 -- ---- what is read of the log
@@ -284,6 +284,9 @@ module _ (reads : (m : WriteRequest) → IsMessage m → read (canon m) ≡ Ok m
         holds = one.holds;
       }
 
+  is-carried : ReadsCarried wire.receiver (wire.exchange worker shared).request body
+  is-carried = record { bytes = (wire.exchange worker shared).request; carries = inl refl; reads = body-is-read }
+
   -- ---- the answer
   abbrev empty_head : State
   empty_head = (kept_with empty (opened_over [])).head
@@ -337,7 +340,7 @@ module _ (reads : (m : WriteRequest) → IsMessage m → read (canon m) ≡ Ok m
     x = wire.exchange worker shared;
     is = here reads worker shared;
     body = body;
-    reads = body-is-read;
+    reads = is-carried;
     left = torn ∷ [];
     crash = crashes;
     taken = ap (λ (a : Answer). a.status) answer_is;
@@ -351,7 +354,7 @@ module _ (reads : (m : WriteRequest) → IsMessage m → read (canon m) ≡ Ok m
     w = wire.run worker shared;
     x = wire.exchange worker shared;
     is = here reads worker shared;
-    answered = (record { body = body; reads = body-is-read; answered = answers_204 definition_written sample_written begun_header after-definition }, different);
+    answered = (record { body = body; reads = is-carried; answered = answers_204 definition_written sample_written begun_header after-definition }, different);
     acknowledged = refl;
   }
 

@@ -1,13 +1,10 @@
 -- A receiver whose head is kept in a journal is one of those to which requests come over the wire.
-use Rattle.std.proofs.Common.{◌≡◌, ◌≢◌, ◌⊎◌, inl, inr, ℕ, zero, suc, ◌≤◌, ◌<◌, ◌^◌, nat_lt, Bool, true, false, List, ◌++◌, append-nil, length, length-append, map, Option, None, Some, Result, Ok, Err, refl, sym, ap, ◌∙◌, subst, arith}
+use Rattle.std.proofs.Common.{◌≡◌, ◌≢◌, ◌⊎◌, inl, inr, ℕ, zero, suc, ◌≤◌, nat_lt, Bool, true, false, List, length, map, Option, None, Some, Result, Ok, Err, refl, sym, ap, ◌∙◌, subst, arith}
 use Rattle.std.specs.List.{AllByRecursion}
 use Rattle.std.proofs.lemmas.Bool.{cond-false, le-ltb}
 use Rattle.std.proofs.lemmas.Bool.Decides.{eqb_tells}
 use Rattle.std.proofs.lemmas.Option.{slice_get_within}
-use Rattle.std.proofs.lemmas.List.{nil_from_length}
-use Rattle.httparse.proofs.GrammarLemmas.{request_unique}
 use Rattle.rw_types.specs.Beginnings.{Begins}
-use Rattle.rw_types.specs.Requests.{is_host_name, is_request_path}
 use Rattle.rw_types.proofs.shared.BeginningLemmas.{begins_itself, begins_twice}
 use Rattle.rw_types.specs.Labels.{Labels}
 use Rattle.rw_types.specs.declared.entry.Entry.{Entry}
@@ -21,15 +18,7 @@ use Rattle.rw_retry.specs.declared.judgement.Judgement.{Judgement}
 use Rattle.rw_retry.specs.declared.judgement.Judgement.TheVariants.{Done, Again, Refused}
 use Rattle.rw_plain_queue.specs.Items.{Placed}
 use Rattle.rw_batch.specs.Grouping.{message}
-use Rattle.rw_shard_core.specs.SentRequest.{request_of}
 use Rattle.rw_shard_core.specs.Shard.{IsReadAgain, body_of, labelled}
-use Rattle.rw_worker.specs.Transcript.{batch_request}
-use Rattle.rw_endpoint.specs.Alone.{IsOneRequest}
-use Rattle.rw_endpoint.specs.Coding.{text_of}
-use Rattle.rw_endpoint.specs.Judgement.{finding_of}
-use Rattle.rw_endpoint.specs.declared.coding.Coding.{Coding}
-use Rattle.rw_endpoint.specs.declared.intake.Intake.{Intake}
-use Rattle.rw_endpoint.specs.declared.finding.Finding.TheVariants.{Body}
 use Rattle.rw_head.specs.Head.{State, answer, answer_to}
 use Rattle.rw_head.specs.Store.{Store, list_of}
 use Rattle.rw_head.specs.Verdicts.{LabelLimits, taken_all}
@@ -47,7 +36,8 @@ use Rattle.rw_restarts.specs.Arrivals.{Receives}
 use Rattle.rw_restarts.specs.Receivers.{IsRestarted, state_of}
 use Rattle.rw_restarts.specs.KeptReceivers.{acknowledged_after}
 use Rattle.rw_restarts.specs.WireReceivers.{RunOfWorkers, WireEvent, Comes, Reopens, ReopensDuring, receiver_state, HasShortBody, HappensOnWire, HoldsLogByWire}
-use Rattle.rw_restarts.specs.KeptWireReceivers.{KeptState, wire_state, ReadsBody, IsSound, IsOpenedFrom, IsAskedFor, IsAnsweredKept, IsAskedMore, IsCrash, IsIdleCrash, IsCrashAtRefused, HasReopened, HappensToKept, IsKeptReceiver, IsWireReceiverKept, HoldsLogKept}
+use Rattle.rw_restarts.specs.KeptWireReceivers.{KeptState, wire_state, IsSound, IsOpenedFrom, IsAskedFor, IsAnsweredKept, IsAskedMore, IsCrash, IsIdleCrash, IsCrashAtRefused, HasReopened, HappensToKept, IsKeptReceiver, IsWireReceiverKept, HoldsLogKept}
+use Rattle.rw_restarts.proofs.CarriedLemmas.{RequestLaws, carries}
 use Rattle.rw_restarts.proofs.AnswerLemmas.{answers-taken, answers-kept}
 use Rattle.rw_restarts.proofs.KeptReceiverLemmas.{opened-again}
 use Rattle.rw_restarts.proofs.RunLemmas.{get_some}
@@ -67,30 +57,6 @@ answer-kept h (Err fault) other = by_busy (nat_lt 0 h.busy) refl
     by_busy : (b : Bool) → nat_lt 0 h.busy ≡ b → (answer_to h (Err fault)).head.store ≡ h.store
     by_busy true e = rw e refl
     by_busy false e = rw e refl
-
--- ---- the body of a request
--- what `requests_are_read` says of the bytes that a sender makes
-abbrev pub RequestsAreRead : Type 0
-RequestsAreRead = (host path body : List ℕ) (intake : Intake) → is_host_name host ≡ true → is_request_path path ≡ true
-    → length body < 2 ^ 63 → length body ≤ intake.limit → IsOneRequest path intake (request_of host path body) body
-
--- two fronts of one length, of one list, of which the first has nothing after it
-whole_front : (whole front left : List ℕ) → front ++ left ≡ whole → length front ≡ length whole → front ≡ whole
-whole_front whole front left e len =
-    sym (append-nil front) ∙ ap (λ (l : List ℕ). front ++ l) (sym (nil_from_length left (let all = ap length e in omega (arith, all, len, length-append front left)))) ∙ e
-
-carries : RequestsAreRead → (c : Setup) → IsSound c → (request body : List ℕ) → ReadsBody c.target.path c.max_body request body
-    → (batch : List Placed) → request ≡ batch_request c.target batch → length (body_of batch) ≤ c.max_body → body ≡ body_of batch
-carries requests c sound request body reads batch is short =
-    let small = sound.limit in
-    let intake : Intake = record { limit = c.max_body; snappy = reads.snappy } in
-    let one = subst (λ (bytes : List ℕ). IsOneRequest c.target.path intake bytes (body_of batch)) (sym is) (requests c.target.host c.target.path (body_of batch) intake sound.host sound.path (omega (arith, short, small)) short) in
-    let same = request_unique request reads.head one.head (reads.sent ++ reads.left) one.body reads.begins.0 one.begins.0 in
-    let found : Body (length reads.sent) reads.closes reads.coding ≡ Body (length one.body) true one.coding = sym reads.finding ∙ ap (finding_of c.target.path intake) same.0 ∙ one.finding in
-    let sent = whole_front one.body reads.sent reads.left same.1 (let len : length reads.sent ≡ length one.body = cc in len) in
-    let coding : reads.coding ≡ one.coding = cc in
-    let told : Ok body ≡ Ok (body_of batch) = sym reads.holds ∙ ap (λ (k : Coding). text_of k reads.sent) coding ∙ ap (text_of one.coding) sent ∙ one.holds in
-    cc
 
 -- ---- a log and a store
 lies-still : (store : Store) (left : Segments) → SaysWhat left store → LiesBetween store store left
@@ -155,11 +121,11 @@ module _ {J : Type 0} (seen : J → Segments) (may_leave : J → Segments → Ty
       let closed = a.closed error fault in
       asked-more n next new error (closed.2 ∙ fault) later ∙ a.refused closed.0
 
-  module _ (requests : RequestsAreRead) (c : Setup) (sound : IsSound c) (request : List ℕ) (old new : Kept J) (status : ℕ) where
+  module _ (laws : RequestLaws) (c : Setup) (sound : IsSound c) (request : List ℕ) (old new : Kept J) (status : ℕ) where
     asked_plain : HasShortBody c request → IsAskedFor seen may_leave moment left_since tears c request old status new → status ≢ 503 → Receives c Plain request old.head status new.head
     asked_plain short asked up batch again is =
         cond-false (nat_lt c.max_body (length (body_of batch))) (record { status = 413; head = old.head }) (answer_to old.head (Ok (message (map labelled batch)))) (le-ltb c.max_body (length (body_of batch)) (short batch again is))
-        ∙ ap (answer_to old.head) (sym (ap read (carries requests c sound request asked.body asked.reads batch is (short batch again is)) ∙ again))
+        ∙ ap (answer_to old.head) (sym (ap read (carries laws c sound request asked.body asked.reads batch is (short batch again is)) ∙ again))
         ∙ let status_is = sym (asked.answered.status_is up) in let head_is = sym (asked.answered.head up) in
         λ i. record { status = status_is i; head = head_is i }
 
@@ -177,7 +143,7 @@ module _ {J : Type 0} (seen : J → Segments) (may_leave : J → Segments → Ty
     after-answer P before next OutOfMemory (is, inl same) = subst P (sym same) before
     after-answer P before next OutOfMemory (is, inr asked) = next asked.body asked.answered
 
-  module _ (requests : RequestsAreRead) (between : (ended : Option Segments) (old new : Store) (segments left : Segments) → SaysWhat segments old → AllByRecursion (IsWholeText page_size) segments → ((l : Labels) → Begins (list_of old l) (list_of new l)) → (x : IsLeft tears ended new segments left) → HasNoChance tears ended new x.base left x.is → LiesBetween old new left)
+  module _ (laws : RequestLaws) (between : (ended : Option Segments) (old new : Store) (segments left : Segments) → SaysWhat segments old → AllByRecursion (IsWholeText page_size) segments → ((l : Labels) → Begins (list_of old l) (list_of new l)) → (x : IsLeft tears ended new segments left) → HasNoChance tears ended new x.base left x.is → LiesBetween old new left)
       (c : Setup) (runs : List RunOfWorkers) (events : List WireEvent) (states : ℕ → KeptState J) (r : IsKeptReceiver seen may_leave moment left_since tears c runs events states) where
     -- ---- what is so after the first t events, whatever crashes left
     record Sound (t : ℕ) : Type 0 where
@@ -257,7 +223,7 @@ module _ {J : Type 0} (seen : J → Segments) (may_leave : J → Segments → Ty
         w = h.w;
         x = h.x;
         is = h.is;
-        received = received requests c r.sound h.x.request (states t).kept (states (suc t)).kept status how (r.runs_are.short p h.w h.x h.is) h.answered;
+        received = received laws c r.sound h.x.request (states t).kept (states (suc t)).kept status how (r.runs_are.short p h.w h.x h.is) h.answered;
         acknowledged = h.acknowledged;
       }
       happens Reopens h = reopens h
@@ -266,7 +232,7 @@ module _ {J : Type 0} (seen : J → Segments) (may_leave : J → Segments → Ty
         x = h.x;
         is = h.is;
         most = most t le h.body h.left h.crash;
-        judged = λ batch again is. most-taken t le h.body h.left h.crash batch again (carries requests c r.sound h.x.request h.body h.reads batch is (r.runs_are.short p h.w h.x h.is batch again is)) h.taken;
+        judged = λ batch again is. most-taken t le h.body h.left h.crash batch again (carries laws c r.sound h.x.request h.body h.reads batch is (r.runs_are.short p h.w h.x h.is batch again is)) h.taken;
         restarted = restarted (states t).kept.head.store (most t le h.body h.left h.crash) (states (suc t)).kept.head.store (states t).acknowledged (states (suc t)).acknowledged h.left h.acknowledged had (left-between t le h.body h.left h.crash)
             (started c.limits h.tries h.left (states (suc t)).kept h.opened).says;
       }
@@ -302,11 +268,11 @@ module _ {J : Type 0} (seen : J → Segments) (may_leave : J → Segments → Ty
       covered = r.covered;
     }
 
-  pub kept-on-wire : RequestsAreRead → ((ended : Option Segments) (old new : Store) (segments left : Segments) → SaysWhat segments old → AllByRecursion (IsWholeText page_size) segments → ((l : Labels) → Begins (list_of old l) (list_of new l)) → (x : IsLeft tears ended new segments left) → HasNoChance tears ended new x.base left x.is → LiesBetween old new left)
+  pub kept-on-wire : RequestLaws → ((ended : Option Segments) (old new : Store) (segments left : Segments) → SaysWhat segments old → AllByRecursion (IsWholeText page_size) segments → ((l : Labels) → Begins (list_of old l) (list_of new l)) → (x : IsLeft tears ended new segments left) → HasNoChance tears ended new x.base left x.is → LiesBetween old new left)
       → (c : Setup) (runs : List RunOfWorkers) (events : List WireEvent) (states : ℕ → KeptState J) → IsWireReceiverKept seen may_leave moment left_since tears c runs events states
-  kept-on-wire requests between c runs events states r = wire_receiver requests between c runs events states r r
+  kept-on-wire laws between c runs events states r = wire_receiver laws between c runs events states r r
 
-  pub kept-holds : RequestsAreRead → ((ended : Option Segments) (old new : Store) (segments left : Segments) → SaysWhat segments old → AllByRecursion (IsWholeText page_size) segments → ((l : Labels) → Begins (list_of old l) (list_of new l)) → (x : IsLeft tears ended new segments left) → HasNoChance tears ended new x.base left x.is → LiesBetween old new left)
+  pub kept-holds : RequestLaws → ((ended : Option Segments) (old new : Store) (segments left : Segments) → SaysWhat segments old → AllByRecursion (IsWholeText page_size) segments → ((l : Labels) → Begins (list_of old l) (list_of new l)) → (x : IsLeft tears ended new segments left) → HasNoChance tears ended new x.base left x.is → LiesBetween old new left)
       → (c : Setup) (runs : List RunOfWorkers) (events : List WireEvent) (states : ℕ → KeptState J) (choice : Choice) (log : List Entry)
       → HoldsLogByWire c runs events (λ (at : ℕ). wire_state (states at)) choice log → HoldsLogKept seen may_leave moment left_since tears c runs events states choice log
-  kept-holds requests between c runs events states choice log holds r over = holds (wire_receiver requests between c runs events states r r) over
+  kept-holds laws between c runs events states choice log holds r over = holds (wire_receiver laws between c runs events states r r) over

@@ -1,6 +1,7 @@
 mod AdditionLemmas
 mod AnswerLemmas
 mod BatchLemmas
+mod CarriedLemmas
 pub mod CheckpointLemmas
 mod ExampleLemmas
 mod KeptExampleLemmas

@@ -9,6 +9,7 @@ use Rattle.rw_types.specs.declared.entry.Entry.{Entry}
 use Rattle.rw_wal_format.specs.Pieces.{page_size}
 use Rattle.rw_relabel.specs.declared.choice.Choice.{Choice}
 use Rattle.rw_retry.specs.Judgements.{judgement_of}
+use Rattle.rw_shard_core.specs.SentRequest.{Carries}
 use Rattle.rw_worker.specs.Transcript.{Exchange}
 use Rattle.rw_head.specs.Head.{answer}
 use Rattle.rw_head.specs.Store.{Store}
@@ -53,6 +54,14 @@ pub record ReadsBody (path : List ℕ) (limit : ℕ) (request body : List ℕ) :
   pub begins : BeginsWithHead request head (sent ++ left)
   pub finding : finding_of path (record { limit = limit; snappy = snappy }) head ≡ Body (length sent) closes coding
   pub holds : text_of coding sent ≡ Ok body
+
+-- The endpoint reads this body in bytes that carry the request. They are the request itself, or
+-- with `send --snappy` those of its body in a block; what carries it may differ from attempt to
+-- attempt.
+pub record ReadsCarried (c : Setup) (request body : List ℕ) : Type 0 where
+  pub bytes : List ℕ
+  pub carries : Carries c.target.host c.target.path request bytes
+  pub reads : ReadsBody c.target.path c.max_body bytes body
 
 -- what the types of the settings say: the target is one to which requests can be made, and a body
 -- that the receiver takes has fewer than 2^63 bytes
@@ -101,7 +110,7 @@ module _ {J : Type 0} (seen : J → Segments) (may_leave : J → Segments → Ty
     pub record IsAskedFor (c : Setup) (request : List ℕ) (old : Kept J) (status : ℕ) (new : Kept J)
         : Type 0 where
       pub body : List ℕ
-      pub reads : ReadsBody c.target.path c.max_body request body
+      pub reads : ReadsCarried c request body
       pub answered : Answers old body status new
 
     -- The request was answered: by the head, or without asking it.
@@ -181,7 +190,7 @@ module _ {J : Type 0} (seen : J → Segments) (may_leave : J → Segments → Ty
       pub x : Exchange
       pub is : IsExchangeAt runs p w x
       pub body : List ℕ
-      pub reads : ReadsBody c.target.path c.max_body x.request body
+      pub reads : ReadsCarried c x.request body
       pub left : Segments
       pub crash : IsCrash states at body left
       pub taken : (answer (states crash.since).kept.head body).status ≡ 204

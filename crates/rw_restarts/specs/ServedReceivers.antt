@@ -12,7 +12,7 @@ use Rattle.rw_kept_log.specs.Journal.{Segments}
 use Rattle.rw_kept_head.specs.Answered.{IsKeptAnswer}
 use Rattle.rw_kept_head.specs.Kept.{Kept}
 use Rattle.rw_restarts.specs.WireReceivers.{RunOfWorkers, ExchangePlace, IsExchangeAt, WireEvent, Comes}
-use Rattle.rw_restarts.specs.KeptWireReceivers.{KeptState, ReadsBody, HappensToKept}
+use Rattle.rw_restarts.specs.KeptWireReceivers.{KeptState, ReadsCarried, HappensToKept}
 
 -- A request that has come: of which exchange, the status that was answered, and what a seat was
 -- asked for it, if one was.
@@ -33,7 +33,7 @@ all_asked (r ∷ later) = asked_for r.question ++ all_asked later
 -- A seat was asked for the body that the endpoint read; or none was, because memory had run out.
 abbrev pub IsServedAs : Setup → List ℕ → ℕ → Option Question → Type 0
 IsServedAs c request status (Some q) =
-    ReadsBody c.target.path c.max_body request q.body × (q.status ≡ status)
+    ReadsCarried c request q.body × (q.status ≡ status)
 IsServedAs c request status None = status ≡ 503
 
 -- each request is one of these runs

@@ -18,7 +18,8 @@ use crate::logs::many_runs_hold_one_log;
 use crate::receivers::an_endpoint_is_such_a_receiver;
 use rw_kept_head::laws::what_is_left_lies_between;
 use rw_kept_log::Journal;
-use rw_roundtrip::requests_are_read;
+use rw_roundtrip::{requests_are_read, snappy_requests_are_read};
+use rw_snappy::laws::limit_only_refuses;
 use rw_worker::Transport;
 
 /// Law: a receiver to which the requests of the workers of many runs come over the wire is one of
@@ -45,7 +46,9 @@ pub fn what_comes_over_the_wire_is_such_a_receiver()
 /// over (`holds`).
 ///
 /// Of the endpoint it is asked that it asks the head for the body that it reads (`ReadsBody`, by
-/// `serve`); by `requests_are_read` this is the body that the request carries. Of the head it is
+/// `serve`) in bytes that carry the request: the request itself, or, as `send --snappy` writes it,
+/// its body in a Snappy block (`Carries`). By `requests_are_read` and `snappy_requests_are_read`
+/// this is the body of the request. Of the head it is
 /// asked what `KeptHead::admit` and `KeptHead::open` ensure. Of the disk it is asked that a folder
 /// which is opened has what the crash left, and that no checksum in this is right by chance.
 pub fn a_kept_receiver_is_such_a_receiver<J: Journal>()
@@ -57,6 +60,8 @@ pub fn a_kept_receiver_is_such_a_receiver<J: Journal>()
         J.may_leave J.moment J.left_since J.tears c runs events states choice log }
 {
     requests_are_read();
+    snappy_requests_are_read();
+    limit_only_refuses();
     what_is_left_lies_between::<J>();
     what_comes_over_the_wire_is_such_a_receiver();
 }

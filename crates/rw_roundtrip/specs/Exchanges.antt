@@ -1,9 +1,15 @@
 -- One request and its reply (RFC 9112, section 9.3): what the endpoint makes of it, and the status
 -- that is read in its reply.
-use Rattle.std.specs.Prelude.{◌≡◌, ℕ, ◌⊎◌, List, IsTrue, Result, Ok, Err}
+use Rattle.std.specs.Prelude.{◌≡◌, ℕ, ◌⊎◌, List, length, true, IsTrue, Result, Ok, Err}
 use Rattle.std.specs.declared.alloc.AllocError.{AllocError}
+use Rattle.httparse.specs.Grammar.{RequestHead}
 use Rattle.rw_endpoint.specs.Alone.{IsOneRequest, IsOneRefusal}
+use Rattle.rw_endpoint.specs.Coding.{text_of}
+use Rattle.rw_endpoint.specs.Judgement.{finding_of}
+use Rattle.rw_endpoint.specs.Reading.{BeginsWithHead}
 use Rattle.rw_endpoint.specs.Replies.{is_verdict}
+use Rattle.rw_endpoint.specs.declared.coding.Coding.{Coding}
+use Rattle.rw_endpoint.specs.declared.finding.Finding.TheVariants.{Body}
 use Rattle.rw_endpoint.specs.declared.intake.Intake.{Intake}
 
 -- one request with its body, or one that its head refuses
@@ -19,3 +25,13 @@ IsExchanged answers body old (Err e) new = new ≡ old
 abbrev pub IsRefusedUnasked : {S : Type 0} → ℕ → S → Result ℕ AllocError → S → Type 0
 IsRefusedUnasked status old (Ok read) new = (read ≡ status) × (new ≡ old)
 IsRefusedUnasked status old (Err e) new = new ≡ old
+
+-- the input is one request whose head refuses nothing, and whose body holds no text: it is refused
+-- with this status
+pub record IsOneBodyRefused (path : List ℕ) (intake : Intake) (input : List ℕ) (status : ℕ) : Type 0 where
+  pub head : RequestHead
+  pub body : List ℕ
+  pub coding : Coding
+  pub begins : BeginsWithHead input head body
+  pub finding : finding_of path intake head ≡ Body (length body) true coding
+  pub holds : text_of coding body ≡ Err status

@@ -6,4 +6,4 @@ mod in_memory;
 mod laws;
 
 pub use in_memory::exchange;
-pub use laws::{replies_are_read, requests_are_read};
+pub use laws::{replies_are_read, requests_are_read, snappy_requests_are_read};

@@ -4,7 +4,8 @@ ghost use Rattle.std.specs.Prelude.{◌≡◌, ◌*◌, [], IfOk};
 
 use rw_metrics::SendCounters;
 use rw_sender::Connect;
-use rw_tcp::{Sleep, TcpTransport};
+use rw_shard_core::Target;
+use rw_tcp::{Sleep, TcpTransport, copy_target};
 use rw_types::Bounded;
 use std::alloc::{AllocError, Global};
 use std::marker::Model;
@@ -21,6 +22,7 @@ pub struct TcpConnect<N> {
     addresses: Vec<SocketAddr>,
     timeout_ms: Bounded<1, 3_600_000>,
     counters: Arc<SendCounters, Global>,
+    snappy_target: Option<Target>,
 }
 
 impl<N> Model for TcpConnect<N> {
@@ -54,11 +56,22 @@ impl<N> TcpConnect<N> {
             addresses,
             timeout_ms,
             counters,
+            snappy_target: None,
         }
     }
 }
 
 impl<N: Net<Stream = TcpStream> + Clock + Copy> TcpConnect<N> {
+    /// Returns the source, whose transports from here on send the bodies of requests to this target
+    /// as Snappy blocks.
+    pub fn with_snappy(self, target: &Target) -> Result<TcpConnect<N>, AllocError>
+        ensures { IfOk result (λ c. c ≡ self) }
+    {
+        let mut connect = self;
+        connect.snappy_target = Some(copy_target(connect.alloc, target)?);
+        Ok(connect)
+    }
+
     /// Returns a transport to the addresses, with the timeout.
     fn to_receiver(&self) -> Result<TcpTransport<N>, AllocError>
         ensures receiver { IfOk result (λ transport. transport.receiver ≡ self.now) }
@@ -66,7 +79,17 @@ impl<N: Net<Stream = TcpStream> + Clock + Copy> TcpConnect<N> {
     {
         let addresses = self.addresses.clone()?;
         let counters = Arc::try_clone(&self.counters)?;
-        Ok(TcpTransport::new(self.alloc, self.net, addresses, self.timeout_ms, counters))
+        let transport = TcpTransport::new(
+            self.alloc,
+            self.net,
+            addresses,
+            self.timeout_ms,
+            counters,
+        );
+        match &self.snappy_target {
+            None => Ok(transport),
+            Some(target) => transport.with_snappy(target),
+        }
     }
 }
 

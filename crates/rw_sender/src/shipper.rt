@@ -116,6 +116,7 @@ fn split_choice(alloc: Global, config: Config) -> (Config, Choice)
         max_backoff_ms,
         timeout_ms,
         names,
+        snappy,
         rules,
     } = config.into_fields();
     let fields = ConfigFields {
@@ -129,6 +130,7 @@ fn split_choice(alloc: Global, config: Config) -> (Config, Choice)
         max_backoff_ms,
         timeout_ms,
         names,
+        snappy,
         rules: Rules::new(Vec::new(alloc)),
     };
     let Some(config) = Config::new(fields) else {

@@ -64,9 +64,15 @@ with_last send limits done last =
     node (codes "receive") (open_table header (receive_nodes limits))
     (node (codes "rule") (open_array done last) (node (codes "send") (open_table header (send_nodes send)) no_nodes))
 
-send_defined : (send : ConfigFields) (es : List Expression) → run (no_nodes, []) (send_expressions send ++ es) ≡ run (node (codes "send") (open_table header (send_nodes send)) no_nodes, codes "send" ∷ []) es
+send_defined_as : (sending : ConfigFields) (snappy : Bool) (es : List Expression)
+    → let send : ConfigFields = record sending { snappy = snappy } in
+    run (no_nodes, []) (send_expressions send ++ es) ≡ run (node (codes "send") (open_table header (send_nodes send)) no_nodes, codes "send" ∷ []) es
 unfolding define along_header along_dots at_key
-send_defined send es = refl
+send_defined_as sending true es = refl
+send_defined_as sending false es = refl
+
+send_defined : (send : ConfigFields) (es : List Expression) → run (no_nodes, []) (send_expressions send ++ es) ≡ run (node (codes "send") (open_table header (send_nodes send)) no_nodes, codes "send" ∷ []) es
+send_defined send es = send_defined_as send send.snappy es
 
 receive_defined_as : (send : ConfigFields) (path : List ℕ) (body labels bytes busy : ℕ) (names : Names) (snappy : Bool) (es : List Expression)
     → let limits : Limits = record { path = path; max_body_bytes = body; max_labels = labels; max_label_bytes = bytes; busy_first = busy; names = names; snappy = snappy } in

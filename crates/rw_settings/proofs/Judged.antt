@@ -13,11 +13,11 @@ use Rattle.rw_shard_core.specs.Configs.{is_ordered}
 use Rattle.rw_shard_core.specs.declared.config.ConfigFields.{ConfigFields}
 use Rattle.rw_head.specs.declared.limits.Limits.{Limits}
 use Rattle.rw_settings.specs.Faults.{lesser, least}
-use Rattle.rw_settings.specs.Receiving.{receive_limits, receive_fault, switch_values, receive_values}
+use Rattle.rw_settings.specs.Receiving.{receive_limits, receive_fault, receive_values}
 use Rattle.rw_settings.specs.Keys.{Row, host, path, shards, min_shards, max_shards, capacity, batch, min_backoff_ms, max_backoff_ms, timeout_ms, max_body_bytes, max_labels, max_label_bytes, busy_first, snappy, send_keys, receive_keys, number_for, number_setting, switch_setting, table_fault}
 use Rattle.rw_settings.specs.RuleTables.{rule_table_fault, rule_fault_of, with_rules_fault, texts_of, rule_config, rules_of}
 use Rattle.rw_settings.specs.Sending.{send_fields, order_fault, send_fault, send_values}
-use Rattle.rw_settings.specs.Values.{Setting, of_number, of_true, of_text, of_texts, names_text, are_texts, labels_fault, source_fault, number_at, text_if, text_setting, names_in, found_or, part_or, list_at}
+use Rattle.rw_settings.specs.Values.{Setting, of_number, of_true, of_text, of_texts, switch_values, names_text, are_texts, labels_fault, source_fault, number_at, text_if, text_setting, names_in, found_or, part_or, list_at}
 use Rattle.rw_settings.specs.declared.fault.SettingsFault.{SettingsFault}
 use Rattle.rw_settings.specs.declared.keys.Kind.{Kind}
 use Rattle.rw_settings.proofs.DocumentLemmas.{lesser_none, least_none}
@@ -88,19 +88,19 @@ in_order : (b : Bool) → cond b None (Some SettingsFault.OutOfRange) ≡ None �
 in_order true h = refl
 in_order false h = absurd cc
 
+switches_suit : (on : Bool) → AllSuit (switch_values on) (snappy ∷ [])
+switches_suit true = (tt, tt)
+switches_suit false = tt
+
 pub send_taken : (ms : Members) (rules : List RuleConfig) → send_fault ms ≡ None → SendTaken (send_fields ms rules)
 unfolding order_fault send_fields
 send_taken ms rules h = record {
-  suits = (text_taken is_host_name (codes "localhost:9090") (get_member host.0 ms) refl, (text_taken is_request_path (codes "/api/v1/write") (get_member path.0 ms) refl, (number_row shards ms refl, (number_row min_shards ms refl, (number_row max_shards ms refl, (number_row capacity ms refl, (number_row batch ms refl, (number_row min_backoff_ms ms refl, (number_row max_backoff_ms ms refl, (number_row timeout_ms ms refl, (refl, tt)))))))))));
+  suits = (text_taken is_host_name (codes "localhost:9090") (get_member host.0 ms) refl, (text_taken is_request_path (codes "/api/v1/write") (get_member path.0 ms) refl, (number_row shards ms refl, (number_row min_shards ms refl, (number_row max_shards ms refl, (number_row capacity ms refl, (number_row batch ms refl, (number_row min_backoff_ms ms refl, (number_row max_backoff_ms ms refl, (number_row timeout_ms ms refl, (refl, switches_suit (switch_setting snappy ms))))))))))));
   ordered = in_order _ (lesser_none (table_fault send_keys ms) (order_fault ms) h).1;
 }
 
 abbrev pub LimitsTaken : Limits → Type 0
 LimitsTaken limits = AllSuit (receive_values limits) receive_keys
-
-switches_suit : (on : Bool) → AllSuit (switch_values on) (snappy ∷ [])
-switches_suit true = (tt, tt)
-switches_suit false = tt
 
 pub limits_taken : (ms : Members) → LimitsTaken (receive_limits ms)
 unfolding receive_limits
@@ -122,17 +122,33 @@ names_read : (names : Names) → names_in (names_text names) ≡ Ok (Some names)
 names_read Legacy = refl
 names_read Utf8 = refl
 
-pub send_same : (send : ConfigFields) → SendTaken send → send_fields (send_members send) send.rules ≡ send
+send_same_as : (sending : ConfigFields) (snappy : Bool)
+    → let send : ConfigFields = record sending { snappy = snappy } in
+    SendTaken send → send_fields (send_members send) send.rules ≡ send
 unfolding send_fields
-send_same send t =
+send_same_as sending true t =
     let (on, (at, (a, (b, (c, (d, (e, (f, (g, (h, more)))))))))) = t.suits in
-    rw (on, at, a.0, b.0, c.0, d.0, e.0, f.0, g.0, h.0, names_read send.names) refl
+    rw (on, at, a.0, b.0, c.0, d.0, e.0, f.0, g.0, h.0, names_read sending.names) refl
+send_same_as sending false t =
+    let (on, (at, (a, (b, (c, (d, (e, (f, (g, (h, more)))))))))) = t.suits in
+    rw (on, at, a.0, b.0, c.0, d.0, e.0, f.0, g.0, h.0, names_read sending.names) refl
+
+pub send_same : (send : ConfigFields) → SendTaken send → send_fields (send_members send) send.rules ≡ send
+send_same send t = send_same_as send send.snappy t
+
+send_judged_as : (sending : ConfigFields) (snappy : Bool)
+    → let send : ConfigFields = record sending { snappy = snappy } in
+    SendTaken send → send_fault (send_members send) ≡ None
+unfolding table_fault order_fault send_fields least
+send_judged_as sending true t =
+    let (on, (at, (a, (b, (c, (d, (e, (f, (g, (h, more)))))))))) = t.suits in
+    rw (on, at, a.0, b.0, c.0, d.0, e.0, f.0, g.0, h.0, names_read sending.names, t.ordered) refl
+send_judged_as sending false t =
+    let (on, (at, (a, (b, (c, (d, (e, (f, (g, (h, more)))))))))) = t.suits in
+    rw (on, at, a.0, b.0, c.0, d.0, e.0, f.0, g.0, h.0, names_read sending.names, t.ordered) refl
 
 pub send_judged : (send : ConfigFields) → SendTaken send → send_fault (send_members send) ≡ None
-unfolding table_fault order_fault send_fields least
-send_judged send t =
-    let (on, (at, (a, (b, (c, (d, (e, (f, (g, (h, more)))))))))) = t.suits in
-    rw (on, at, a.0, b.0, c.0, d.0, e.0, f.0, g.0, h.0, names_read send.names, t.ordered) refl
+send_judged send t = send_judged_as send send.snappy t
 
 limits_same_as : (path : List ℕ) (body labels bytes busy : ℕ) (names : Names) (snappy : Bool)
     → let limits : Limits = record { path = path; max_body_bytes = body; max_labels = labels; max_label_bytes = bytes; busy_first = busy; names = names; snappy = snappy } in

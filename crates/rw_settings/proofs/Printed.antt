@@ -7,7 +7,7 @@ use Rattle.rw_relabel.specs.Rules.{RuleConfig}
 use Rattle.rw_shard_core.specs.declared.config.ConfigFields.{ConfigFields}
 use Rattle.rw_head.specs.declared.limits.Limits.{Limits}
 use Rattle.rw_settings.specs.Keys.{Row, snappy}
-use Rattle.rw_settings.specs.Receiving.{switch_values}
+use Rattle.rw_settings.specs.Values.{switch_values}
 use Rattle.rw_settings.specs.declared.settings.Settings.{Settings}
 use Rattle.rw_settings.proofs.Written.{text_items, pairs_of, send_expressions, receive_expressions, rule_expressions}
 use Rattle.rw_settings.proofs.Defined.{settings_expressions}
@@ -19,12 +19,12 @@ IsScalar = (◌≡◌ {A = List (List ℕ)} [] []) × (0 ≤ 80) × (true ≡ tr
 scalar : IsScalar
 scalar = (refl, omega arith, refl)
 
-send_printed : (send : ConfigFields) → AllPrinted (send_expressions send)
-send_printed send = (omega arith, (scalar, (scalar, (scalar, (scalar, (scalar, (scalar, (scalar, (scalar, (scalar, (scalar, (scalar, tt))))))))))))
-
 switch_printed : (row : Row) (on : Bool) → AllPrinted (pairs_of (row ∷ []) (switch_values on))
 switch_printed row true = (scalar, tt)
 switch_printed row false = tt
+
+send_printed : (send : ConfigFields) → AllPrinted (send_expressions send)
+send_printed send = (omega arith, (scalar, (scalar, (scalar, (scalar, (scalar, (scalar, (scalar, (scalar, (scalar, (scalar, (scalar, switch_printed snappy send.snappy))))))))))))
 
 receive_printed : (limits : Limits) → AllPrinted (receive_expressions limits)
 receive_printed limits = (omega arith, (scalar, (scalar, (scalar, (scalar, (scalar, (scalar, switch_printed snappy limits.snappy)))))))

@@ -57,9 +57,12 @@ timeout_ms = (codes "timeout_ms", Kind.Number 1 3600000 30000)
 abbrev pub names : Row
 names = (codes "names", Kind.Names)
 
+abbrev pub snappy : Row
+snappy = (codes "snappy", Kind.Switch)
+
 abbrev pub send_keys : List Row
 send_keys =
-    host ∷ path ∷ shards ∷ min_shards ∷ max_shards ∷ capacity ∷ batch ∷ min_backoff_ms ∷ max_backoff_ms ∷ timeout_ms ∷ names ∷ []
+    host ∷ path ∷ shards ∷ min_shards ∷ max_shards ∷ capacity ∷ batch ∷ min_backoff_ms ∷ max_backoff_ms ∷ timeout_ms ∷ names ∷ snappy ∷ []
 
 abbrev pub max_body_bytes : Row
 max_body_bytes = (codes "max_body_bytes", Kind.Number 1 67108864 16777216)
@@ -72,9 +75,6 @@ max_label_bytes = (codes "max_label_bytes", Kind.Number 1 16384 16384)
 
 abbrev pub busy_first : Row
 busy_first = (codes "busy_first", Kind.Number 0 1000000 0)
-
-abbrev pub snappy : Row
-snappy = (codes "snappy", Kind.Switch)
 
 abbrev pub receive_keys : List Row
 receive_keys = path ∷ max_body_bytes ∷ max_labels ∷ max_label_bytes ∷ busy_first ∷ names ∷ snappy ∷ []

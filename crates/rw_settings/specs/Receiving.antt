@@ -1,9 +1,9 @@
 -- The table `receive`.
-use Rattle.std.specs.Prelude.{List, [], ◌∷◌, Bool, true, false, Option}
+use Rattle.std.specs.Prelude.{List, ◌∷◌, Option}
 use Rattle.toml.specs.Data.{Members}
 use Rattle.rw_head.specs.declared.limits.Limits.{Limits}
 use Rattle.rw_settings.specs.Keys.{receive_keys, max_body_bytes, max_labels, max_label_bytes, busy_first, snappy, number_setting, switch_setting, path_of, names_setting, table_fault}
-use Rattle.rw_settings.specs.Values.{Setting, of_number, of_true, of_text, names_text}
+use Rattle.rw_settings.specs.Values.{Setting, of_number, of_text, names_text, switch_values}
 use Rattle.rw_settings.specs.declared.fault.SettingsFault.{SettingsFault}
 
 -- what the table sets, with the default of each key that it does not have
@@ -20,11 +20,6 @@ receive_limits table = record {
 
 abbrev pub receive_fault : Members → Option SettingsFault
 receive_fault table = table_fault receive_keys table
-
--- a switch at the end of a table is written if it is on
-abbrev pub switch_values : Bool → List Setting
-switch_values true = of_true ∷ []
-switch_values false = []
 
 -- the values in the order of the keys
 abbrev pub receive_values : Limits → List Setting

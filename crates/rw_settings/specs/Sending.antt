@@ -5,8 +5,8 @@ use Rattle.rw_relabel.specs.Rules.{RuleConfig}
 use Rattle.rw_shard_core.specs.Configs.{is_ordered}
 use Rattle.rw_shard_core.specs.declared.config.ConfigFields.{ConfigFields}
 use Rattle.rw_settings.specs.Faults.{lesser}
-use Rattle.rw_settings.specs.Keys.{send_keys, shards, min_shards, max_shards, capacity, batch, min_backoff_ms, max_backoff_ms, timeout_ms, number_setting, host_of, path_of, names_setting, table_fault}
-use Rattle.rw_settings.specs.Values.{Setting, of_number, of_text, names_text}
+use Rattle.rw_settings.specs.Keys.{send_keys, shards, min_shards, max_shards, capacity, batch, min_backoff_ms, max_backoff_ms, timeout_ms, snappy, number_setting, switch_setting, host_of, path_of, names_setting, table_fault}
+use Rattle.rw_settings.specs.Values.{Setting, of_number, of_text, names_text, switch_values}
 use Rattle.rw_settings.specs.declared.fault.SettingsFault.{SettingsFault}
 use Rattle.rw_settings.specs.declared.fault.SettingsFault.TheVariants.{OutOfRange}
 
@@ -23,6 +23,7 @@ send_fields table rules = record {
   max_backoff_ms = number_setting max_backoff_ms table;
   timeout_ms = number_setting timeout_ms table;
   names = names_setting table;
+  snappy = switch_setting snappy table;
   rules = rules;
 }
 
@@ -37,4 +38,4 @@ send_fault table = lesser (table_fault send_keys table) (order_fault table)
 abbrev pub send_values : ConfigFields → List Setting
 send_values send =
     of_text send.target.host ∷ of_text send.target.path ∷ of_number send.shards ∷ of_number send.min_shards ∷ of_number send.max_shards ∷ of_number send.capacity
-    ∷ of_number send.batch ∷ of_number send.min_backoff_ms ∷ of_number send.max_backoff_ms ∷ of_number send.timeout_ms ∷ of_text (names_text send.names) ∷ []
+    ∷ of_number send.batch ∷ of_number send.min_backoff_ms ∷ of_number send.max_backoff_ms ∷ of_number send.timeout_ms ∷ of_text (names_text send.names) ∷ switch_values send.snappy

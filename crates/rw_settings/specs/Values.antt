@@ -1,5 +1,5 @@
 -- What is at a key: nothing, a value of its type and in its range, or a fault.
-use Rattle.std.specs.Prelude.{ℕ, ℤ, pos, negsuc, List, Bool, true, ◌&&◌, ◌||◌, nat_le, is_some, Option, Some, None, Result, Ok, Err, codes, if◌then◌else◌}
+use Rattle.std.specs.Prelude.{ℕ, ℤ, pos, negsuc, List, [], ◌∷◌, Bool, true, false, ◌&&◌, ◌||◌, nat_le, is_some, Option, Some, None, Result, Ok, Err, codes, if◌then◌else◌}
 use Rattle.std.specs.Str.{bytes_eq}
 use Rattle.toml.specs.Data.{Data, as_integer, as_bool, as_str, as_table, as_array, Members, no_members, Items, no_items, item}
 use Rattle.rw_types.specs.declared.names.Names.{Names}
@@ -115,3 +115,8 @@ pub data Setting : Type 0 where
   of_true : Setting
   of_text : List ℕ → Setting
   of_texts : List (List ℕ) → Setting
+
+-- a switch at the end of a table is written if it is on
+abbrev pub switch_values : Bool → List Setting
+switch_values true = of_true ∷ []
+switch_values false = []

@@ -68,7 +68,11 @@ pub(crate) const TIMEOUT_MS: Key = Key("timeout_ms", Kind::Number(1, 3_600_000, 
 /// Which [names](#names) of labels are sent.
 pub(crate) const SEND_NAMES: Key = Key("names", Kind::Names);
 
-static SEND: [Key; 11] = [
+/// Whether bodies are sent as Snappy blocks, with `Content-Encoding: snappy`.
+/// [`--snappy`](OPERATING.md#how-requests-are-sent) sets it.
+pub(crate) const SEND_SNAPPY: Key = Key("snappy", Kind::Switch);
+
+static SEND: [Key; 12] = [
     HOST,
     SEND_PATH,
     SHARDS,
@@ -80,6 +84,7 @@ static SEND: [Key; 11] = [
     MAX_BACKOFF_MS,
     TIMEOUT_MS,
     SEND_NAMES,
+    SEND_SNAPPY,
 ];
 
 /// The path of the endpoint. Another one is answered with 404.
@@ -105,7 +110,7 @@ pub(crate) const RECEIVE_NAMES: Key = Key("names", Kind::Names);
 
 /// Whether bodies with `Content-Encoding: snappy` are taken, too, as Prometheus sends them.
 /// [`--snappy`](OPERATING.md#running-a-receiver) sets it.
-pub(crate) const SNAPPY: Key = Key("snappy", Kind::Switch);
+pub(crate) const RECEIVE_SNAPPY: Key = Key("snappy", Kind::Switch);
 
 static RECEIVE: [Key; 7] = [
     RECEIVE_PATH,
@@ -114,7 +119,7 @@ static RECEIVE: [Key; 7] = [
     MAX_LABEL_BYTES,
     BUSY_FIRST,
     RECEIVE_NAMES,
-    SNAPPY,
+    RECEIVE_SNAPPY,
 ];
 
 /// What the rule does with the series that it matches.

@@ -4,8 +4,7 @@ ghost use Rattle.std.specs.Prelude.{◌≡◌, [], ◌∷◌, ◌++◌, ◌≤�
 ghost use Rattle.std.specs.List.{concat, join_by};
 ghost use Rattle.toml_writer.specs.Text.{string_text};
 ghost use Rattle.rw_settings.specs.inner.Keys.{row_of};
-ghost use Rattle.rw_settings.specs.Receiving.{switch_values};
-ghost use Rattle.rw_settings.specs.Values.{names_text};
+ghost use Rattle.rw_settings.specs.Values.{names_text, switch_values};
 ghost use Rattle.rw_settings.specs.SettingsText.{pair_line, setting_value_text, lines_of, list_text};
 ghost use Rattle.rw_settings.specs.inner.SettingsText.{setting_of};
 

@@ -5,7 +5,9 @@ ghost use Rattle.toml.specs.View.{table_view};
 ghost use Rattle.rw_settings.specs.Receiving.{receive_limits};
 ghost use Rattle.rw_settings.specs.SettingsText.{receive_text};
 
-use crate::keys::{BUSY_FIRST, MAX_BODY_BYTES, MAX_LABEL_BYTES, MAX_LABELS, SNAPPY, receive_keys};
+use crate::keys::{
+    BUSY_FIRST, MAX_BODY_BYTES, MAX_LABEL_BYTES, MAX_LABELS, RECEIVE_SNAPPY, receive_keys,
+};
 use crate::printed_values::{Shown, names_text, push_lines, push_switch};
 use crate::values::{bounded_of, is_on, names_of, path_of};
 use rw_head::Limits;
@@ -25,7 +27,7 @@ pub(crate) fn receive_limits(alloc: Global, receive: &Table) -> Result<Limits, A
         max_label_bytes: bounded_of(receive, &MAX_LABEL_BYTES),
         busy_first: bounded_of(receive, &BUSY_FIRST),
         names: names_of(receive),
-        snappy: is_on(receive, &SNAPPY),
+        snappy: is_on(receive, &RECEIVE_SNAPPY),
     })
 }
 
@@ -48,6 +50,6 @@ pub(crate) fn push_receive(
         Shown::Text(names_text(limits.names)),
     ];
     push_lines(alloc, out, receive_keys(), &values)?;
-    push_switch(out, &SNAPPY, limits.snappy)?;
+    push_switch(out, &RECEIVE_SNAPPY, limits.snappy)?;
     Ok(())
 }

@@ -7,12 +7,12 @@ ghost use Rattle.rw_settings.specs.SettingsText.{send_text};
 
 use crate::fault::{SettingsFault, lesser};
 use crate::keys::{
-    BATCH, CAPACITY, MAX_BACKOFF_MS, MAX_SHARDS, MIN_BACKOFF_MS, MIN_SHARDS, SHARDS, TIMEOUT_MS,
-    send_keys,
+    BATCH, CAPACITY, MAX_BACKOFF_MS, MAX_SHARDS, MIN_BACKOFF_MS, MIN_SHARDS, SEND_SNAPPY, SHARDS,
+    TIMEOUT_MS, send_keys,
 };
-use crate::printed_values::{Shown, names_text, push_lines};
+use crate::printed_values::{Shown, names_text, push_lines, push_switch};
 use crate::table_faults::table_fault;
-use crate::values::{bounded_of, host_of, names_of, number_of, path_of};
+use crate::values::{bounded_of, host_of, is_on, names_of, number_of, path_of};
 use rw_relabel::Rules;
 use rw_shard_core::{ConfigFields, Target};
 use std::alloc::{AllocError, Global};
@@ -42,6 +42,7 @@ pub(crate) fn send_fields(
         max_backoff_ms: bounded_of(send, &MAX_BACKOFF_MS),
         timeout_ms: bounded_of(send, &TIMEOUT_MS),
         names: names_of(send),
+        snappy: is_on(send, &SEND_SNAPPY),
         rules,
     })
 }
@@ -93,5 +94,6 @@ pub(crate) fn push_send(
         Shown::Text(names_text(send.names)),
     ];
     push_lines(alloc, out, send_keys(), &values)?;
+    push_switch(out, &SEND_SNAPPY, send.snappy)?;
     Ok(())
 }

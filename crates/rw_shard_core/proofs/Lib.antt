@@ -1,3 +1,4 @@
+pub mod BodyLemmas
 pub mod ReplyLemmas
 pub mod RequestLemmas
 pub mod shared

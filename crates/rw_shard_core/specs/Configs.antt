@@ -1,5 +1,5 @@
 -- The configuration of a sender.
-use Rattle.std.specs.Prelude.{Bool, ◌&&◌, nat_le, [], codes}
+use Rattle.std.specs.Prelude.{Bool, false, ◌&&◌, nat_le, [], codes}
 use Rattle.rw_types.specs.declared.names.Names.TheVariants.{Legacy}
 use Rattle.rw_relabel.specs.declared.choice.Choice.{Choice}
 use Rattle.rw_shard_core.specs.declared.config.ConfigFields.{ConfigFields}
@@ -22,6 +22,7 @@ standard = record {
   max_backoff_ms = 5000;
   timeout_ms = 30000;
   names = Legacy;
+  snappy = false;
   rules = [];
 }
 

@@ -54,6 +54,8 @@ pub struct ConfigFields {
     pub timeout_ms: Bounded<1, 3_600_000>,
     /// Which label names are accepted from the log.
     pub names: Names,
+    /// Whether bodies are sent as Snappy blocks.
+    pub snappy: bool,
     /// The rules by which series are kept or dropped.
     pub rules: Rules,
 }
@@ -79,7 +81,7 @@ impl Model for Config {
 
 impl ConfigFields {
     /// Returns the defaults: one shard at first and at most 50, queues of 10,000 items, batches of
-    /// 2,000 samples, legacy names, and no rules.
+    /// 2,000 samples, legacy names, bodies as they are, and no rules.
     pub fn standard(alloc: Global) -> Result<ConfigFields, AllocError>
         ensures { IfOk result (λ c. c ≡ standard) }
     {
@@ -94,6 +96,7 @@ impl ConfigFields {
             max_backoff_ms: Bounded::new(5_000),
             timeout_ms: Bounded::new(30_000),
             names: Names::Legacy,
+            snappy: false,
             rules: Rules::new(Vec::new(alloc)),
         })
     }

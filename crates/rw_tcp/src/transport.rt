@@ -4,15 +4,17 @@ ghost use Rattle.std.specs.Prelude.{◌≡◌, ◌<◌, ◌*◌, [], Ok, IfOk, I
 ghost use Rattle.rw_shard_core.specs.declared.replies.ReplyRead.TheVariants as read;
 ghost use Rattle.rw_retry.specs.declared.judgement.Judgement.TheVariants as judgement;
 
+use crate::packed::{Packer, copy_target};
 use crate::reply::{Heard, NoReply, hear_answer};
 use http::StatusCode;
 use rw_history::History;
 use rw_metrics::{Cause, SendCounters};
 use rw_retry::{Judgement, judge};
+use rw_shard_core::Target;
 use rw_socket::{Deadline, Timely};
 use rw_types::{Bounded, Sink, Source, Std};
 use rw_worker::{Exchanged, Lost, Reply, Transport};
-use std::alloc::Global;
+use std::alloc::{AllocError, Global};
 use std::io;
 use std::marker::Model;
 use std::net::{Net, SocketAddr, TcpStream, ToSocketAddrs};
@@ -50,6 +52,7 @@ pub struct TcpTransport<N> {
     addresses: Vec<SocketAddr>,
     timeout: Duration,
     counters: Arc<SendCounters, Global>,
+    packer: Option<Packer>,
     seen: History<Exchanged>,
 }
 
@@ -86,8 +89,21 @@ impl<N: Net<Stream = TcpStream> + Clock + Copy> TcpTransport<N> {
             addresses,
             timeout: Duration::from_millis(timeout_ms.get()),
             counters,
+            packer: None,
             seen: History::new(),
         }
+    }
+
+    /// Returns the transport, which from here on sends the bodies of requests to this target as
+    /// Snappy blocks. Each request is packed once, at its first attempt; further attempts in a row
+    /// have the same bytes.
+    pub fn with_snappy(self, target: &Target) -> Result<TcpTransport<N>, AllocError>
+        ensures { IfOk result (λ t. t ≡ self) }
+    {
+        let mut transport = self;
+        let target = copy_target(transport.alloc, target)?;
+        transport.packer = Some(Packer::new(transport.alloc, target)?);
+        Ok(transport)
     }
 
     /// Returns a connection to the first address that answers. Those that were not tried yet share
@@ -104,12 +120,24 @@ impl<N: Net<Stream = TcpStream> + Clock + Copy> TcpTransport<N> {
         None
     }
 
-    /// Sends a request over its own connection, and counts the attempt and its outcome.
-    fn attempt(&self, request: &[u8]) -> Result<Reply, Lost> {
+    /// Writes these bytes to a connection of their own, and returns what is answered.
+    fn ask(&self, deadline: Deadline<N>, bytes: &[u8]) -> Result<Heard, Cause> {
+        let stream = self.connect(&deadline);
+        exchange_through(self.alloc, stream, deadline, bytes)
+    }
+
+    /// Sends a request over its own connection, packed by this packer if there is one, and counts
+    /// the attempt and its outcome.
+    fn attempt(&self, packer: &mut Option<Packer>, request: &[u8]) -> Result<Reply, Lost> {
         self.counters.attempt();
         let deadline = Deadline::new(self.net, self.timeout);
-        let stream = self.connect(&deadline);
-        let answer = exchange_through(self.alloc, stream, deadline, request);
+        let answer = match packer {
+            None => self.ask(deadline, request),
+            Some(packer) => match packer.pack(request) {
+                Ok(()) => self.ask(deadline, packer.bytes()),
+                Err(_) => Err(Cause::Memory),
+            },
+        };
         counted(&self.counters, &deadline, request, answer)
     }
 }
@@ -197,7 +225,9 @@ impl<N: Net<Stream = TcpStream> + Clock + Copy> Transport for TcpTransport<N> {
     ghost seen = { λ transport. transport.seen };
 
     fn exchange(&mut self, request: &[u8]) -> Result<Reply, Lost> {
-        let answer = self.attempt(request);
+        let mut packer = self.packer.take();
+        let answer = self.attempt(&mut packer, request);
+        self.packer = packer;
         self.seen.push(&Exchanged::of(request, &answer));
         answer
     }

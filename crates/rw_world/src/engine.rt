@@ -103,6 +103,7 @@ impl Engine {
             max_backoff_ms: _,
             timeout_ms: _,
             names,
+            snappy: _,
             rules,
         } = config.into_fields();
         let host = copy_of(alloc, &target.host)?;

@@ -20,7 +20,7 @@ use rw_send::{FollowFault, RunFault, SendOptions, StopFlag, TcpConnect, run_foll
 use rw_settings::Settings;
 use rw_tcp::look_up;
 use rw_text::{Address, ToolFault};
-use rw_types::{Bounded, Std, write_all};
+use rw_types::{Std, write_all};
 use std::alloc::{AllocError, Global};
 use std::io::{Error, ErrorKind, IsTerminal};
 use std::net::SocketAddr;
@@ -183,21 +183,38 @@ impl<R: Threads + Wait + Clock + Copy + Send + 'static> Sender<'_, R> {
         }
     }
 
+    /// Returns a source of connections to these addresses, which send Snappy blocks if the option
+    /// or the settings say so.
+    fn connect_to(
+        &self,
+        addresses: Vec<SocketAddr>,
+        settings: &Settings,
+        counters: Arc<SendCounters, Global>,
+    ) -> Result<TcpConnect<HostRuntime>, AllocError> {
+        let (rt, fields) = (self.rt, settings.config.fields());
+        let connect = TcpConnect::new(rt.alloc(), *rt, addresses, fields.timeout_ms, counters);
+        if self.sending.sends_snappy || fields.snappy {
+            connect.with_snappy(&fields.target)
+        } else {
+            Ok(connect)
+        }
+    }
+
     /// Returns what shipping to a receiver at these addresses needs.
     fn shipment(
         &self,
         addresses: Vec<SocketAddr>,
-        timeout_ms: Bounded<1, 3_600_000>,
+        settings: &Settings,
         counters: &Arc<SendCounters, Global>,
     ) -> Result<Shipment, FolderFault> {
-        let (rt, alloc) = (self.rt, self.rt.alloc());
-        let stop = StopFlag::new(alloc)?;
+        let stop = StopFlag::new(self.rt.alloc())?;
         let theirs = Arc::try_clone(counters)?;
         let counters = Arc::try_clone(counters)?;
+        let connect = self.connect_to(addresses, settings, theirs)?;
         let log = self.log(&stop, &counters)?;
         Ok(Shipment {
             log,
-            connect: TcpConnect::new(alloc, *rt, addresses, timeout_ms, theirs),
+            connect,
             stop,
             counters,
         })
@@ -208,10 +225,10 @@ impl<R: Threads + Wait + Clock + Copy + Send + 'static> Sender<'_, R> {
     fn prepare(
         &mut self,
         addresses: Vec<SocketAddr>,
-        timeout_ms: Bounded<1, 3_600_000>,
+        settings: &Settings,
     ) -> Result<Shipment, FollowFault> {
         let counters = self.begin_counting()?;
-        match self.shipment(addresses, timeout_ms, &counters) {
+        match self.shipment(addresses, settings, &counters) {
             Ok(shipment) => Ok(shipment),
             Err(fault) => {
                 if !matches!(fault, FolderFault::OutOfMemory) {
@@ -240,13 +257,13 @@ impl<R: Threads + Wait + Clock + Copy + Send + 'static> Sender<'_, R> {
 
     /// Looks the receiver up and prepares to ship. If that fails, it reports why, and returns the
     /// exit status.
-    fn start(&mut self, timeout_ms: Bounded<1, 3_600_000>) -> Result<Shipment, ExitCode> {
+    fn start(&mut self, settings: &Settings) -> Result<Shipment, ExitCode> {
         let (rt, to, dir) = (self.rt, self.sending.to, self.sending.dir);
         if self.wants_notes() {
             note_checkpoint(rt, dir);
         }
         match look_up(rt, rt.alloc(), to.name(), to.port) {
-            Ok(addresses) => match self.prepare(addresses, timeout_ms) {
+            Ok(addresses) => match self.prepare(addresses, settings) {
                 Ok(shipment) => Ok(shipment),
                 Err(fault) => {
                     let fault = LogFault::from(fault);
@@ -381,7 +398,7 @@ impl<R: Threads + Wait + Clock + Copy + Send + 'static> Sender<'_, R> {
 
     /// Ships the log, and returns the exit status.
     fn send(&mut self, settings: Settings) -> ExitCode {
-        match self.start(settings.config.fields().timeout_ms) {
+        match self.start(&settings) {
             Ok(shipment) => self.ship(settings, shipment),
             Err(status) => status,
         }

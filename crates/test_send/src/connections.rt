@@ -24,13 +24,13 @@ const TAKEN_TWICE: &[u8] =
     b"HTTP/1.1 204 No Content\r\nConnection: close\r\n\r\nHTTP/1.1 204 No Content\r\nConnection: close\r\n\r\n";
 
 /// The message of the sample 1 at 1000 of `{__name__="up"}`.
-const UP_BODY: [u8; 32] = [
+pub(crate) const UP_BODY: [u8; 32] = [
     0x0a, 0x1e, 0x0a, 0x0e, 0x0a, 0x08, 0x5f, 0x5f, 0x6e, 0x61, 0x6d, 0x65, 0x5f, 0x5f, 0x12, 0x02,
     0x75, 0x70, 0x12, 0x0c, 0x09, 0, 0, 0, 0, 0, 0, 0xf0, 0x3f, 0x10, 0xe8, 0x07,
 ];
 
 /// Returns the request of a message.
-fn request_of(alloc: Global, body: &[u8]) -> Result<Vec<u8>, AllocError> {
+pub(crate) fn request_of(alloc: Global, body: &[u8]) -> Result<Vec<u8>, AllocError> {
     request_bytes(alloc, &Target::standard(alloc)?, body)
 }
 
@@ -141,7 +141,7 @@ fn deserted<N: Net<Stream = TcpStream, Listener = TcpListener>>(net: &N) -> io::
 }
 
 /// Returns the statuses of `count` requests with the same bytes, each after a space.
-fn statuses<N: Net<Stream = TcpStream> + Clock + Copy>(
+pub(crate) fn statuses<N: Net<Stream = TcpStream> + Clock + Copy>(
     alloc: Global,
     transport: &mut TcpTransport<N>,
     count: u64,
@@ -391,7 +391,7 @@ const MANY: u16 = 6_250;
 
 /// Returns a message of `MANY` samples 1 of `{__name__="up"}`, one each millisecond from 1000 on,
 /// each in a series field of its own.
-fn long_body(alloc: Global) -> Result<Vec<u8>, AllocError> {
+pub(crate) fn long_body(alloc: Global) -> Result<Vec<u8>, AllocError> {
     let (front, _) = UP_BODY.split_at(30);
     let mut body = Vec::new(alloc);
     for t in 1_000..1_000 + MANY {
@@ -472,7 +472,7 @@ fn a_failed_accept_is_a_device_fault(rt: HostRuntime) -> Result<(), Fail> {
 }
 
 /// Returns a transport to one address, with a timeout in milliseconds.
-fn transport_to<N: Net<Stream = TcpStream> + Clock + Copy>(
+pub(crate) fn transport_to<N: Net<Stream = TcpStream> + Clock + Copy>(
     net: &N,
     alloc: Global,
     address: SocketAddr,

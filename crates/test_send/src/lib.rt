@@ -6,6 +6,8 @@
 #[cfg(test)]
 mod asks;
 #[cfg(test)]
+mod blocks;
+#[cfg(test)]
 mod clients;
 #[cfg(test)]
 mod connections;

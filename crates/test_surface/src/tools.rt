@@ -7,7 +7,9 @@ use rw_tool::{
 use rw_types::Source;
 use std::alloc::{AllocGlobal, Global};
 use std::fs::File;
+use std::net::{Net, TcpStream};
 use std::rt::Files;
+use std::time::Clock;
 
 /// The calls of settings, faults and stop signals.
 pub fn of_settings() {
@@ -43,7 +45,7 @@ pub fn of_folders<R: Files<File = File> + AllocGlobal + Copy>() {
 }
 
 /// The calls of what the engines are given.
-pub fn of_given<O: Open, S: Segments, W: Watch, N>() {
+pub fn of_given<O: Open, S: Segments, W: Watch, N: Net<Stream = TcpStream> + Clock + Copy>() {
     let _ = (O::open, Opened::<O>::place, S::advance);
     let _ = (
         W::stop_request,
@@ -52,6 +54,7 @@ pub fn of_given<O: Open, S: Segments, W: Watch, N>() {
         W::is_reshard_due,
     );
     let _ = TcpConnect::<N>::new;
+    let _ = TcpConnect::<N>::with_snappy;
 }
 
 /// The counters of a receiver.

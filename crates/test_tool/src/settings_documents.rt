@@ -17,7 +17,7 @@ pub(crate) fn fault(alloc: Global, text: &[u8]) -> u8 {
 
 /// Texts with no fault or with one, and then with two at once, and the number that is returned, or
 /// 9.
-static FAULTS: [(&str, u8); 72] = [
+static FAULTS: [(&str, u8); 75] = [
     ("", 9),
     ("# nothing\n\n", 9),
     ("rule = []\n[send]\n[receive]\n", 9),
@@ -98,7 +98,10 @@ static FAULTS: [(&str, u8); 72] = [
     ("[receive]\nsnappy = false", 9),
     ("[receive]\nsnappy = 1", 3),
     ("[receive]\nsnappy = 'true'", 3),
-    ("[send]\nsnappy = true", 2),
+    ("[send]\nsnappy = true", 9),
+    ("[send]\nsnappy = false", 9),
+    ("[send]\nsnappy = [true]", 3),
+    ("snappy = true", 2),
     // two at once, in either order
     ("[send]\nshards = 0\n[receive]\nlabels = 1", 2),
     ("[receive]\nlabels = 1\n[send]\nshards = 0", 2),
@@ -141,7 +144,7 @@ fn faults(rt: HostRuntime) {
     holds(&rt, fault(rt.alloc(), b"# \xff") == 1);
 }
 
-fn sending(s: &Settings) -> [u64; 8] {
+fn sending(s: &Settings) -> [u64; 9] {
     let send = s.config.fields();
     [
         send.shards.get(),
@@ -152,6 +155,7 @@ fn sending(s: &Settings) -> [u64; 8] {
         send.min_backoff_ms.get(),
         send.max_backoff_ms.get(),
         send.timeout_ms.get(),
+        u64::from(send.snappy),
     ]
 }
 
@@ -181,7 +185,7 @@ fn names(s: &Settings) -> [Names; 2] {
 }
 
 /// What a text sets.
-type Read = ([u64; 8], [u64; 5], [&'static str; 3], [Names; 2]);
+type Read = ([u64; 9], [u64; 5], [&'static str; 3], [Names; 2]);
 
 fn sets(s: &Settings, want: &Read) -> bool {
     sending(s) == want.0 && receiving(s) == want.1 && texts(s) == want.2 && names(s) == want.3
@@ -189,7 +193,7 @@ fn sets(s: &Settings, want: &Read) -> bool {
 
 const EVERY_KEY: &[u8] =
     b"[send]\nhost = 'a'\npath = '/b'\nshards = 2\nmin_shards = 1\nmax_shards = 3\ncapacity = 4\nbatch = 5\n
-          min_backoff_ms = 6\nmax_backoff_ms = 7\ntimeout_ms = 8\nnames = 'utf8'\n
+          min_backoff_ms = 6\nmax_backoff_ms = 7\ntimeout_ms = 8\nnames = 'utf8'\nsnappy = true\n
           [receive]\npath = '/c'\nmax_body_bytes = 9\nmax_labels = 10\nmax_label_bytes = 11\nbusy_first = 12\nnames = 'utf8'\nsnappy = true";
 
 /// The example of docs/SETTINGS.md.
@@ -244,7 +248,7 @@ static READ: [Reading; 3] = [
         "nothing",
         b"",
         (
-            [1, 1, 50, 10_000, 2_000, 30, 5_000, 30_000],
+            [1, 1, 50, 10_000, 2_000, 30, 5_000, 30_000, 0],
             [16_777_216, 64, 16_384, 0, 0],
             ["localhost:9090", "/api/v1/write", "/api/v1/write"],
             [Names::Legacy, Names::Legacy],
@@ -255,7 +259,7 @@ static READ: [Reading; 3] = [
         "every key",
         EVERY_KEY,
         (
-            [2, 1, 3, 4, 5, 6, 7, 8],
+            [2, 1, 3, 4, 5, 6, 7, 8, 1],
             [9, 10, 11, 12, 1],
             ["a", "/b", "/c"],
             [Names::Utf8, Names::Utf8],
@@ -266,7 +270,7 @@ static READ: [Reading; 3] = [
         "the example",
         EXAMPLE,
         (
-            [2, 1, 8, 10_000, 500, 100, 10_000, 30_000],
+            [2, 1, 8, 10_000, 500, 100, 10_000, 30_000, 0],
             [1_048_576, 64, 16_384, 0, 0],
             ["metrics.example:9090", "/api/v1/write", "/api/v1/write"],
             [Names::Legacy, Names::Legacy],

@@ -114,6 +114,31 @@ names = \"legacy\"
 snappy = true
 ";
 
+/// What is printed if blocks of Snappy are sent.
+const SENT_IN_BLOCKS: &str = "\
+[send]
+host = \"localhost:9090\"
+path = \"/api/v1/write\"
+shards = 1
+min_shards = 1
+max_shards = 50
+capacity = 10000
+batch = 2000
+min_backoff_ms = 30
+max_backoff_ms = 5000
+timeout_ms = 30000
+names = \"legacy\"
+snappy = true
+
+[receive]
+path = \"/api/v1/write\"
+max_body_bytes = 16777216
+max_labels = 64
+max_label_bytes = 16384
+busy_first = 0
+names = \"legacy\"
+";
+
 /// What a row says.
 enum Row {
     /// Settings, and how they are printed.
@@ -124,7 +149,7 @@ enum Row {
     Noted(&'static str, &'static str),
 }
 
-static ROWS: [Row; 35] = [
+static ROWS: [Row; 38] = [
     // settings in another spelling
     Printed("", DEFAULTS),
     Printed(DEFAULTS, DEFAULTS),
@@ -154,6 +179,9 @@ static ROWS: [Row; 35] = [
     Printed("[receive]\nsnappy = false", DEFAULTS),
     Printed("receive = { snappy = true }", SNAPPY),
     Printed(SNAPPY, SNAPPY),
+    Printed("send.snappy = false", DEFAULTS),
+    Printed("send.snappy = true", SENT_IN_BLOCKS),
+    Printed(SENT_IN_BLOCKS, SENT_IN_BLOCKS),
     Pattern("'it is'", "\nregex = \"it is\"\n"),
     Pattern("\"it's\"", "\nregex = \"it's\"\n"),
     Pattern("'a\"b'", "\nregex = 'a\"b'\n"),
@@ -189,8 +217,8 @@ receive.names: has type integer; it takes 'legacy' or 'utf8'
 ",
     ),
     Noted(
-        "[receive]\nsnappy = 'yes'\n[send]\nsnappy = true",
-        "send.snappy: is not a known key
+        "[receive]\nsnappy = 'yes'\n[send]\nsnappy = 1",
+        "send.snappy: has type integer; it takes true or false
 receive.snappy: has type string; it takes true or false
 ",
     ),

@@ -2,8 +2,9 @@ use Rattle.std.proofs.Common.{◌≡◌, [], ◌∷◌, ◌++◌, false, codes, 
 use Rattle.std.proofs.lemmas.List.Folds.{concat-append}
 use Rattle.std.specs.List.{concat}
 use Rattle.rw_settings.specs.Keys.{receive_keys, snappy}
-use Rattle.rw_settings.specs.Receiving.{receive_values, switch_values}
+use Rattle.rw_settings.specs.Receiving.{receive_values}
 use Rattle.rw_settings.specs.SettingsText.{lines_of, receive_text}
+use Rattle.rw_settings.specs.Values.{switch_values}
 use Rattle.rw_settings.proofs.receive_table.push_receive.Goals as goal
 
 pub push_lines-requires : goal.push_lines-requires

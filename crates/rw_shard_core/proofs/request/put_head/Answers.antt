@@ -11,4 +11,5 @@ returns c =
       c.in_ok-append-3.ensures,
       c.in_ok-append-2.ensures,
       c.in_ok-append.ensures,
-    ) (parts_of_head c.args.bytes.now.items c.args.host.now c.args.path.now c.args.digits.now)
+      c.fields_in.ensures,
+    ) (parts_of_head c.args.snappy c.args.bytes.now.items c.args.host.now c.args.path.now c.args.digits.now)
