@@ -1,6 +1,6 @@
 //! The values of options, and of options that several commands share.
 
-use crate::{LogDir, Reporting, SettingsFile};
+use crate::{LogDir, Reporting, SendTo, SettingsFile};
 use clap::ArgMatches;
 use rw_text::{Address, read_address};
 use rw_types::Bounded;
@@ -16,6 +16,20 @@ pub(crate) fn number_of<const LOW: u64, const HIGH: u64>(
 /// Returns the address that an option gives, or `None` if the value is not a valid HOST:PORT.
 pub(crate) fn address_of<'a>(options: &ArgMatches<'a>, name: &str) -> Option<Address<'a>> {
     read_address(options.get_str(name)?)
+}
+
+/// Returns whether a text is meant as a URL.
+pub(crate) fn is_url(text: &str) -> bool {
+    text.contains("://")
+}
+
+/// Returns the receiver that `--to` gives, or `None` if it is neither a URL nor a valid HOST:PORT.
+pub(crate) fn receiver_of<'a>(options: &ArgMatches<'a>) -> Option<SendTo<'a>> {
+    let value = options.get_str("to")?;
+    if is_url(value) {
+        return Some(SendTo::Url(value));
+    }
+    Some(SendTo::Address(read_address(value)?))
 }
 
 /// Returns the folder with a log that an option gives.

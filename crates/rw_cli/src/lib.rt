@@ -5,13 +5,15 @@ mod answers;
 mod commands;
 mod help;
 mod receive;
+mod receiver_url;
 mod send;
 mod table;
 
-use answers::{dir_of, number_of, settings_of};
+use answers::{dir_of, is_url, number_of, settings_of};
 use clap::ArgMatches;
 pub use commands::command_line;
 use receive::receive_task;
+pub use receiver_url::{ReceiverUrl, UrlFault, read_receiver_url};
 use rw_text::{Address, read_address};
 use rw_types::Bounded;
 use send::send_task;
@@ -76,12 +78,21 @@ pub struct Reporting<'a> {
     pub metrics: Option<Address<'a>>,
 }
 
+/// Where `send` sends to.
+#[derive(Clone, Copy)]
+pub enum SendTo<'a> {
+    /// To this address; the settings say what requests name.
+    Address(Address<'a>),
+    /// To the receiver with this URL, which `read_receiver_url` reads.
+    Url(&'a str),
+}
+
 /// What `send` is to do.
 #[derive(Clone, Copy)]
 pub struct Sending<'a> {
     /// The segments of this folder are shipped.
     pub dir: LogDir<'a>,
-    pub to: Address<'a>,
+    pub to: SendTo<'a>,
     pub reading: Reading<'a>,
     pub reporting: Reporting<'a>,
     /// Whether dropped samples in a complete report are a fault.
@@ -187,7 +198,7 @@ pub enum Task<'a> {
 /// Returns the value of an option that has to be a HOST:PORT and is not a valid one.
 fn bad_value<'a>(options: &ArgMatches<'a>, option: &str) -> Option<&'a str> {
     let value = options.get_str(option)?;
-    if read_address(value).is_some() {
+    if read_address(value).is_some() || option == "to" && is_url(value) {
         return None;
     }
     Some(value)

@@ -1,6 +1,6 @@
 //! The arguments of the command `send`.
 
-use crate::answers::{address_of, dir_of, number_of, reporting_of};
+use crate::answers::{dir_of, number_of, receiver_of, reporting_of};
 use crate::{Following, Reading, Sending, SettingsFile, Task};
 use clap::ArgMatches;
 
@@ -23,7 +23,7 @@ pub(crate) fn send_task<'a>(
     options: &ArgMatches<'a>,
 ) -> Option<Task<'a>> {
     let dir = dir_of(options)?;
-    let to = address_of(options, "to")?;
+    let to = receiver_of(options)?;
     let Some(reading) = reading_of(options) else {
         return None;
     };

@@ -247,7 +247,7 @@ static SEND: Words = Words {
             name: "to",
             takes: Takes::Text("HOST:PORT"),
             bonds: &[Bond::Required],
-            help: "Send to this receiver",
+            help: "Send to this receiver: its address, or its URL,\nhttp://HOST:PORT/PATH",
         },
         Opt {
             name: "follow",

@@ -1,6 +1,7 @@
 //! The program `rwship`.
 #![tactic(auto)]
 
+mod destination;
 mod engines;
 mod explanations;
 mod input;

@@ -8,7 +8,7 @@ ghost use Rattle.rwship.specs.Statuses.{follow_status, unset_status};
 use crate::settings::Unset;
 use clap::ArgMatches;
 use clap::error::ErrorKind;
-use rw_cli::bad_address;
+use rw_cli::{UrlFault, bad_address};
 use rw_send::FollowFault;
 use rw_settings::SettingsNote;
 use rw_text::ToolFault;
@@ -227,5 +227,36 @@ pub fn report_bad_address(rt: &HostRuntime, words: &ArgMatches<'_>) -> ExitCode 
             "error: invalid value '{value}' for '--{option} <HOST:PORT>': expected a host, a colon and a port from 1 to 65535\n"
         );
     }
+    report_bad_arguments(rt, "For more information, try '--help'.")
+}
+
+/// Returns what a URL should be that has this fault.
+fn url_advice(fault: UrlFault) -> &'static str {
+    match fault {
+        UrlFault::NotUrl | UrlFault::OutOfMemory => "expected http://HOST:PORT/PATH",
+        UrlFault::NeedsTls => {
+            "only plain HTTP is spoken; dist/tls.md shows a proxy that speaks TLS, and send to that"
+        }
+        UrlFault::OtherScheme => "expected a URL that begins with http://",
+        UrlFault::HasUser => "expected no user name and no password before the host",
+        UrlFault::BadPort => "expected a port from 1 to 65535",
+        UrlFault::BadPath => {
+            "expected a path and query of 1 to 255 bytes; write a byte that they do not have as % and two hexadecimal digits, and + as %2B or %20"
+        }
+    }
+}
+
+/// Reports what is wrong with the URL of a receiver, in the form of the command-line parser, and
+/// returns the exit status. A URL with a user is not printed, since it may have a password.
+pub fn report_bad_url(rt: &HostRuntime, url: &str, fault: UrlFault) -> ExitCode
+    ensures { process.exit_status result ≡ 2 }
+{
+    let shown = if fault == UrlFault::HasUser {
+        "http://..@.."
+    } else {
+        url
+    };
+    let advice = url_advice(fault);
+    let _ = eprintln!(rt; "error: invalid value '{shown}' for '--to <HOST:PORT>': {advice}\n");
     report_bad_arguments(rt, "For more information, try '--help'.")
 }

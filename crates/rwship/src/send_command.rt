@@ -1,5 +1,6 @@
 //! The command `send`.
 
+use crate::destination::destination_of;
 use crate::live_report::{begin_reporting, end_reporting};
 use crate::log_fault::{LogFault, Spot, log_fault, report_run_fault};
 use crate::log_files::{
@@ -64,6 +65,8 @@ struct Sender<'a, R> {
     /// The same runtime, as one that has threads: a `HostRuntime` has them in `main` alone.
     threads: &'a R,
     sending: &'a Sending<'a>,
+    /// Where connections go.
+    to: Address<'a>,
     is_explained: bool,
     output: Std<Stdout>,
 }
@@ -104,7 +107,7 @@ impl<R: Threads + Wait + Clock + Copy + Send + 'static> Sender<'_, R> {
             return Ok(());
         }
         let (rt, alloc) = (self.rt, self.rt.alloc());
-        let Address { host, port } = self.sending.to;
+        let Address { host, port } = self.to;
         let receiver = format!(in alloc; "{host}:{port}")?;
         let theirs = Arc::try_clone(counters)?;
         show_stalls(self.threads, *rt, rt.stderr(), alloc, receiver, theirs)
@@ -248,7 +251,7 @@ impl<R: Threads + Wait + Clock + Copy + Send + 'static> Sender<'_, R> {
         }
         let status = report_result(self.rt, Err(ToolFault::Device));
         if self.is_explained {
-            print_device_error(self.rt, "look up", self.sending.to.name(), error);
+            print_device_error(self.rt, "look up", self.to.name(), error);
         } else {
             point_to_explain(self.rt);
         }
@@ -258,7 +261,7 @@ impl<R: Threads + Wait + Clock + Copy + Send + 'static> Sender<'_, R> {
     /// Looks the receiver up and prepares to ship. If that fails, it reports why, and returns the
     /// exit status.
     fn start(&mut self, settings: &Settings) -> Result<Shipment, ExitCode> {
-        let (rt, to, dir) = (self.rt, self.sending.to, self.sending.dir);
+        let (rt, to, dir) = (self.rt, self.to, self.sending.dir);
         if self.wants_notes() {
             note_checkpoint(rt, dir);
         }
@@ -419,12 +422,18 @@ pub fn send<R: Threads + Wait + Clock + Copy + Send + 'static>(
             }
         }
     }
+    let mut destination = match destination_of(rt, sending.to) {
+        Ok(destination) => destination,
+        Err(status) => return status,
+    };
     match settings_in(rt, file) {
         Ok(settings) => {
+            let settings = destination.settings_for(settings);
             let mut sender = Sender {
                 rt,
                 threads,
                 sending,
+                to: destination.address(),
                 is_explained: file.is_explained,
                 output: Std::new(rt.stdout()),
             };
