@@ -42,10 +42,10 @@ pub(crate) fn dir_of<'a>(options: &ArgMatches<'a>) -> Option<LogDir<'a>> {
 }
 
 /// Returns which settings are asked for.
-pub(crate) fn settings_of<'a>(options: &ArgMatches<'a>) -> SettingsFile<'a> {
+pub(crate) fn settings_of<'a>(options: &ArgMatches<'a>, is_explained: bool) -> SettingsFile<'a> {
     SettingsFile {
         path: options.get_str("settings"),
-        is_explained: options.get_flag("explain"),
+        is_explained,
     }
 }
 

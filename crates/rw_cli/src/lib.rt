@@ -221,9 +221,8 @@ pub fn bad_address<'a>(words: &ArgMatches<'a>) -> Option<(&'static str, &'a str)
 }
 
 /// Returns what the options of `inspect` ask for.
-fn inspect_task<'a>(options: &ArgMatches<'a>) -> Task<'a> {
+fn inspect_task<'a>(options: &ArgMatches<'a>, is_explained: bool) -> Task<'a> {
     let dir = dir_of(options);
-    let is_explained = options.get_flag("explain");
     match dir {
         Some(dir) if options.get_str("at").is_some() => Task::Find { dir, is_explained },
         _ => Task::Inspect {
@@ -250,31 +249,31 @@ pub fn positions_of(alloc: Global, words: &ArgMatches<'_>) -> Result<Vec<u64>, A
 }
 
 /// Returns what the options of `log` ask for.
-fn log_task<'a>(options: &ArgMatches<'a>) -> Option<Task<'a>> {
+fn log_task<'a>(options: &ArgMatches<'a>, is_explained: bool) -> Option<Task<'a>> {
     Some(Task::Log {
         hex: options.get_flag("hex"),
         pages: number_of(options, "pages")?,
         dir: options.get_str("dir"),
-        is_explained: options.get_flag("explain"),
+        is_explained,
     })
 }
 
 /// Returns what the options of `body` ask for.
-fn body_task<'a>(options: &ArgMatches<'a>) -> Task<'a> {
+fn body_task<'a>(options: &ArgMatches<'a>, is_explained: bool) -> Task<'a> {
     Task::Body {
         hex: options.get_flag("hex"),
-        is_explained: options.get_flag("explain"),
+        is_explained,
     }
 }
 
 /// Returns what the options of a command ask for that has no `--settings`.
-fn plain_task<'a>(name: &str, options: &ArgMatches<'a>) -> Option<Task<'a>> {
+fn plain_task<'a>(name: &str, options: &ArgMatches<'a>, is_explained: bool) -> Option<Task<'a>> {
     if name == "body" {
-        Some(body_task(options))
+        Some(body_task(options, is_explained))
     } else if name == "log" {
-        log_task(options)
+        log_task(options, is_explained)
     } else if name == "inspect" {
-        Some(inspect_task(options))
+        Some(inspect_task(options, is_explained))
     } else {
         None
     }
@@ -290,8 +289,8 @@ fn plan_task<'a>(settings: SettingsFile<'a>, options: &ArgMatches<'a>) -> Task<'
 }
 
 /// Returns what the options of a command ask for.
-fn task_named<'a>(name: &str, options: &ArgMatches<'a>) -> Option<Task<'a>> {
-    let settings = settings_of(options);
+fn task_named<'a>(name: &str, options: &ArgMatches<'a>, is_explained: bool) -> Option<Task<'a>> {
+    let settings = settings_of(options, is_explained);
     if name == "plan" {
         Some(plan_task(settings, options))
     } else if name == "replay" {
@@ -303,13 +302,14 @@ fn task_named<'a>(name: &str, options: &ArgMatches<'a>) -> Option<Task<'a>> {
     } else if name == "receive" {
         receive_task(settings, options)
     } else {
-        plain_task(name, options)
+        plain_task(name, options, is_explained)
     }
 }
 
 /// Returns what the arguments ask for, or `None` if a value is not a valid HOST:PORT, which
-/// `bad_address` returns.
-pub fn task_of<'a>(words: &ArgMatches<'a>) -> Option<Task<'a>> {
+/// `bad_address` returns. On a terminal, what fails is explained without `--explain`.
+pub fn task_of<'a>(words: &ArgMatches<'a>, on_terminal: bool) -> Option<Task<'a>> {
     let (name, options) = words.subcommand()?;
-    task_named(name, options)
+    let is_explained = on_terminal || options.get_flag("explain");
+    task_named(name, options, is_explained)
 }

@@ -2,7 +2,7 @@
 
 use crate::input::{Form, Input, Reader};
 use crate::inspect_command::{inspect_segment, print_damage};
-use crate::program_end::{point_to_explain, print_device_error, print_output_error, report_result};
+use crate::program_end::{print_device_error, print_output_error, report_result};
 use rw_replay::{log_line_note, numbered_line, script_line_note, shown_line};
 use rw_text::ToolFault;
 use std::alloc::AllocError;
@@ -113,8 +113,7 @@ pub fn report_input_result(
                 (Some(text), _) => {
                     let _ = print_input_fault(rt, input.form, text, fault);
                 }
-                (None, ToolFault::OutOfMemory) => {}
-                (None, _) => point_to_explain(rt),
+                (None, _) => {}
             }
             status
         }

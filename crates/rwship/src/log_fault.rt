@@ -1,9 +1,7 @@
 //! Why the log in a folder could not be read to its end, and what is printed about that.
 
 use crate::log_files::files_of;
-use crate::program_end::{
-    point_to_explain, print_device_error, report_follow_fault, report_output_fault,
-};
+use crate::program_end::{print_device_error, report_follow_fault, report_output_fault};
 use rw_cli::LogDir;
 use rw_inspect::fault_lines;
 use rw_log_folder::{FolderFault, Opened, SegmentFile};
@@ -197,7 +195,6 @@ pub fn log_fault(
     let status = report_follow_fault(rt, fault.fault);
     match fault.fault {
         FollowFault::Tool(_) if is_explained => explain(rt, dir, fault),
-        FollowFault::Tool(ToolFault::Log(_) | ToolFault::Device) => point_to_explain(rt),
         FollowFault::Missing(_) => print_gap(rt, dir),
         _ => {}
     }

@@ -2,6 +2,7 @@
 #![tactic(auto)]
 
 mod destination;
+mod drops;
 mod engines;
 mod explanations;
 mod input;
@@ -30,7 +31,7 @@ use rw_types::{Std, write_all};
 use send_command::send;
 use settings::settings_text;
 use std::env;
-use std::io::ErrorKind;
+use std::io::{ErrorKind, IsTerminal};
 use std::process::ExitCode;
 use std::rt::Stdout;
 use std::sync::Wait;
@@ -63,7 +64,7 @@ fn perform<R: Threads + Wait + Clock + Copy + Send + Sync + 'static>(
     threads: &R,
     words: &ArgMatches<'_>,
 ) -> ExitCode {
-    let Some(task) = task_of(words) else {
+    let Some(task) = task_of(words, rt.stderr().is_terminal()) else {
         return report_bad_address(rt, words);
     };
     match task {

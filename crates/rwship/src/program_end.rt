@@ -12,7 +12,7 @@ use rw_cli::{UrlFault, bad_address};
 use rw_send::FollowFault;
 use rw_settings::SettingsNote;
 use rw_text::ToolFault;
-use std::io::{Error, IsTerminal};
+use std::io::Error;
 use std::process::ExitCode;
 
 /// The exit status for arguments and settings that are not valid.
@@ -105,13 +105,6 @@ pub fn report_missing(rt: &HostRuntime, count: u64) -> ExitCode
     ExitCode::from(NOT_THERE)
 }
 
-/// On a terminal, writes that `--explain` says more.
-pub fn point_to_explain(rt: &HostRuntime) {
-    if rt.stderr().is_terminal() {
-        let _ = eprintln!(rt; "  run again with --explain for details");
-    }
-}
-
 /// Says that standard output could not be written, and what to do.
 pub fn print_output_error(rt: &HostRuntime) {
     let _ = eprintln!(rt;
@@ -127,8 +120,6 @@ pub fn report_output_fault(rt: &HostRuntime, is_explained: bool) -> ExitCode
     let status = report_result(rt, Err(ToolFault::Device));
     if is_explained {
         print_output_error(rt);
-    } else {
-        point_to_explain(rt);
     }
     status
 }
@@ -170,17 +161,12 @@ pub fn report_settings_fault(rt: &HostRuntime, fault: Unset) -> ExitCode
         Unset::Settings(fault, notes) => {
             let number = fault.number();
             let _ = eprintln!(rt; "rwship: settings fault {number}");
-            if notes.is_empty() {
-                point_to_explain(rt);
-            }
             print_notes(rt, notes.as_slice());
             ExitCode::from(BAD_ARGUMENTS)
         }
         Unset::Unreadable(said) => {
             let status = report_result(rt, Err(ToolFault::Device));
-            if said.is_empty() {
-                point_to_explain(rt);
-            } else {
+            if !said.is_empty() {
                 let _ = eprintln!(rt; "  {said}");
             }
             status

@@ -6,7 +6,7 @@ use crate::kept_receiver::{
 use crate::live_report::{OutputAfterReport, begin_reporting, end_reporting, print_listen_error};
 use crate::log_fault::has_output_failed;
 use crate::program_end::{
-    point_to_explain, report_misplaced, report_output_fault, report_result, report_settings_fault,
+    report_misplaced, report_output_fault, report_result, report_settings_fault,
 };
 use crate::settings::settings_in;
 use crate::stop::{is_misplaced, report_write_error, stop_signal};
@@ -226,8 +226,6 @@ impl<R: Threads + Wait + Clock + Sync> Receiver<'_, R> {
                 let status = report_result(self.rt, Err(ToolFault::Device));
                 if self.is_explained {
                     print_listen_error(self.rt, listen, &error);
-                } else {
-                    point_to_explain(self.rt);
                 }
                 status
             }

@@ -1,6 +1,7 @@
 //! The command `send`.
 
 use crate::destination::destination_of;
+use crate::drops::explain_drops;
 use crate::live_report::{begin_reporting, end_reporting};
 use crate::log_fault::{LogFault, Spot, log_fault, report_run_fault};
 use crate::log_files::{
@@ -8,8 +9,8 @@ use crate::log_files::{
     passes_checkpoint_over,
 };
 use crate::program_end::{
-    empty_status, gap_status, point_to_explain, print_device_error, report_dropped,
-    report_misplaced, report_result, report_settings_fault, report_skipped,
+    empty_status, gap_status, print_device_error, report_dropped, report_misplaced, report_result,
+    report_settings_fault, report_skipped,
 };
 use crate::settings::settings_in;
 use crate::stop::{is_misplaced, stop_signal};
@@ -252,8 +253,6 @@ impl<R: Threads + Wait + Clock + Copy + Send + 'static> Sender<'_, R> {
         let status = report_result(self.rt, Err(ToolFault::Device));
         if self.is_explained {
             print_device_error(self.rt, "look up", self.to.name(), error);
-        } else {
-            point_to_explain(self.rt);
         }
         status
     }
@@ -334,8 +333,8 @@ impl<R: Threads + Wait + Clock + Copy + Send + 'static> Sender<'_, R> {
         }
     }
 
-    /// Explains which samples are missing because they have no series, if a skipped checkpoint may
-    /// have them, or because they are not read.
+    /// Explains which samples are missing because they were dropped, if a skipped checkpoint may have
+    /// their series, or because they are not read.
     fn explain_missing(&self, counters: &SendCounters) {
         let rt = self.rt;
         if let Ok(numbers) = counters.numbers(rt.alloc()) {
@@ -345,6 +344,7 @@ impl<R: Threads + Wait + Clock + Copy + Send + 'static> Sender<'_, R> {
                     "  samples without a series: {count}; give --checkpoint to read the series of the newest checkpoint"
                 );
             }
+            explain_drops(rt, &numbers.drops);
         }
         let count = counters.skipped().lost();
         if count > 0 {
@@ -364,7 +364,7 @@ impl<R: Threads + Wait + Clock + Copy + Send + 'static> Sender<'_, R> {
     ) -> ExitCode {
         let (rt, sending) = (self.rt, self.sending);
         let (dropped, skipped) = (counters.dropped(), counters.skipped().lost());
-        if self.is_explained {
+        if self.wants_notes() {
             self.explain_missing(&counters);
         }
         end_reporting(rt, &sending.reporting, &Counters::Send(counters));
