@@ -333,8 +333,7 @@ impl<R: Threads + Wait + Clock + Copy + Send + 'static> Sender<'_, R> {
         }
     }
 
-    /// Explains which samples are missing because they were dropped, if a skipped checkpoint may have
-    /// their series, or because they are not read.
+    /// Explains which samples are missing because they were dropped, or because they are not read.
     fn explain_missing(&self, counters: &SendCounters) {
         let rt = self.rt;
         if let Ok(numbers) = counters.numbers(rt.alloc()) {
