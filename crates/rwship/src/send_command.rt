@@ -120,7 +120,8 @@ impl<R: Threads + Wait + Clock + Copy + Send + 'static> Sender<'_, R> {
         if !reporting.has_progress && reporting.metrics.is_none() {
             return Ok(());
         }
-        let path = String::from_str(self.rt.alloc(), self.sending.dir.path)?;
+        let dir = self.sending.dir;
+        let path = String::from_str(self.rt.alloc(), dir.path)?;
         let theirs = Arc::try_clone(counters)?;
         let host = *self.rt;
         let watcher = thread::spawn(self.threads, move || {
@@ -408,11 +409,11 @@ impl<R: Threads + Wait + Clock + Copy + Send + 'static> Sender<'_, R> {
 }
 
 /// Ships a folder by the settings in a file.
-pub fn send<R: Threads + Wait + Clock + Copy + Send + 'static>(
-    rt: &HostRuntime,
-    threads: &R,
+pub fn send<'a, R: Threads + Wait + Clock + Copy + Send + 'static>(
+    rt: &'a HostRuntime,
+    threads: &'a R,
     file: SettingsFile<'_>,
-    sending: &Sending<'_>,
+    sending: &'a Sending<'a>,
 ) -> ExitCode {
     if let Reading::Follow(following) = &sending.reading {
         if let Some(path) = following.stop_file {
