@@ -68,14 +68,8 @@ fn both_attempts<
 /// Returns whether these are the digits of a length, the end of a head, and a block of that length
 /// and at most `most` bytes, which decodes to the body.
 fn is_block_of(alloc: Global, text: &[u8], body: &[u8], most: usize) -> Result<bool, AllocError> {
-    let mut at = 0;
-    for b in text {
-        if !b.is_ascii_digit() {
-            break;
-        }
-        at += 1;
-    }
-    let (digits, rest) = text.split_at(at.min(text.len()));
+    let end = text.iter().position(|b| !b.is_ascii_digit());
+    let (digits, rest) = text.split_at(end.unwrap_or(text.len()));
     let Some(block) = rest.strip_prefix(b"\r\n\r\n".as_slice()) else {
         return Ok(false);
     };
