@@ -6,6 +6,10 @@ pub record Meal : Type 0 where
   pub whole : List (List ℕ)
   pub begun : List ℕ
 
+-- nothing yet
+abbrev pub no_meal : Meal
+no_meal = record { whole = []; begun = [] }
+
 -- with these bytes more
 abbrev pub with_piece : Meal → List ℕ → Meal
 with_piece meal bytes = record { whole = meal.whole; begun = meal.begun ++ bytes }

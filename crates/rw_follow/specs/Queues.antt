@@ -1,5 +1,5 @@
 -- A log that is there whole, as a list of readers, and what was read of it.
-use Rattle.std.specs.Prelude.{◌≡◌, ℕ, ◌≤◌, Bool, true, List, [], ◌∷◌, length, ⊤, Option, None, Some}
+use Rattle.std.specs.Prelude.{◌≡◌, ℕ, ◌≤◌, Bool, true, false, List, [], ◌∷◌, length, ⊤, Option, None, Some}
 use Rattle.std.specs.Io.KnownBytes.{Consumes, IsAtEnd}
 use Rattle.rw_follow.specs.Meals.{Meal}
 use Rattle.rw_types.specs.declared.transfer.ReadFault.{ReadFault}
@@ -33,6 +33,15 @@ pub record AreAllRead (lefts : List (Option (List ℕ))) (meal : Meal) : Type 0 
   pub at_end : IsFirstAtEnd now
   pub last : length now ≤ 1
 
+-- the current one has failed, or not
+abbrev pub HasFirstFailed : List Bool → Type 0
+HasFirstFailed [] = ⊥
+HasFirstFailed (failed ∷ more) = failed ≡ true
+
+abbrev pub IsFirstSound : List Bool → Type 0
+IsFirstSound [] = ⊤
+IsFirstSound (failed ∷ more) = failed ≡ false
+
 -- no read of these readers can fail
 abbrev pub AreSure : List Bool → Type 0
 AreSure [] = ⊤
@@ -42,3 +51,8 @@ AreSure (sure ∷ sures) = (sure ≡ true) × AreSure sures
 abbrev pub MayFail : List Bool → ReadFault → Type 0
 MayFail sures fault.OutOfMemory = ⊥
 MayFail sures fault.Failed = AreSure sures → ⊥
+
+-- a single reader may fail if it is not sure; of memory nothing is said
+abbrev pub MayFailAlone : Bool → ReadFault → Type 0
+MayFailAlone sure fault.OutOfMemory = ⊤
+MayFailAlone sure fault.Failed = sure ≡ true → ⊥

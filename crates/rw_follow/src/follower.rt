@@ -12,6 +12,7 @@ use crate::segments::{Ahead, Segments};
 use crate::signal::StopRequest;
 use crate::watch::Watch;
 use rw_types::ReadFault;
+use std::alloc::AllocError;
 use std::marker::Model;
 
 /// How a following goes on.
@@ -48,6 +49,18 @@ impl From<ReadFault> for SegmentError {
 
     fn from(fault: ReadFault) -> SegmentError {
         SegmentError::Unreadable(fault)
+    }
+}
+
+impl From<AllocError> for SegmentError {
+    ghost use Rattle.std.specs.Prelude.{◌≡◌};
+    ghost use Rattle.rw_follow.specs.declared.follower.SegmentError.TheVariants.{Unreadable};
+    ghost use Rattle.rw_types.specs.declared.transfer.ReadFault.TheVariants.{OutOfMemory};
+
+    ghost from_gives = { λ _ e. e ≡ Unreadable OutOfMemory };
+
+    fn from(_e: AllocError) -> SegmentError {
+        SegmentError::Unreadable(ReadFault::OutOfMemory)
     }
 }
 

@@ -7,6 +7,7 @@ mod memory;
 mod queue;
 mod segments;
 mod signal;
+mod single;
 mod stop_sources;
 mod timed;
 mod to_the_end;

@@ -168,6 +168,10 @@ impl Segments for Listed {
 
     ghost may_fail = { λ _ _. ⊤ };
 
+    ghost has_failed = { λ _. ⊤ };
+
+    ghost is_sound = { λ _. ⊤ };
+
     fn read(&mut self, buf: &mut [u8]) -> Result<usize, ReadFault> {
         self.play()?;
         self.give(buf)

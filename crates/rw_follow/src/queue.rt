@@ -1,6 +1,6 @@
 //! A log that is there whole, as a list of readers.
 
-ghost use Rattle.std.specs.Prelude.{◌≡◌, [], map};
+ghost use Rattle.std.specs.Prelude.{◌≡◌, ◌∷◌, [], List, map, MatchOption};
 ghost use Rattle.rw_follow.specs.Queues.{AreRead};
 
 use crate::segments::{Ahead, Segments};
@@ -35,11 +35,19 @@ impl<S: Source + Drop> Queue<S> {
         let current = later.pop_front();
         Queue { current, later }
     }
+
+    /// Returns the current reader: after a failure the one that has failed.
+    pub fn current(&self) -> Option<&S>
+        ensures { MatchOption result (self.now ≡ [])
+            (λ reader. (later : List S) × (self.now ≡ reader.now ∷ later)) }
+    {
+        self.current.as_ref()
+    }
 }
 
 impl<S: Source + Drop> Segments for Queue<S> {
     ghost use Rattle.std.specs.Prelude.{List, Option, ℕ, ◌<◌, ◌≤◌, length, map};
-    ghost use Rattle.rw_follow.specs.Queues.{AreAllRead, IsFirstAtEnd, MayFail};
+    ghost use Rattle.rw_follow.specs.Queues.{AreAllRead, HasFirstFailed, IsFirstAtEnd, IsFirstSound, MayFail};
 
     ghost Start = { List (Option (List ℕ)) };
 
@@ -56,6 +64,10 @@ impl<S: Source + Drop> Segments for Queue<S> {
     ghost lacks = { λ _ _. ⊥ };
 
     ghost may_fail = { λ q f. MayFail (map S.is_sure q) f };
+
+    ghost has_failed = { λ q. HasFirstFailed (map S.has_failed q) };
+
+    ghost is_sound = { λ q. IsFirstSound (map S.has_failed q) };
 
     fn read(&mut self, buf: &mut [u8]) -> Result<usize, ReadFault> {
         let Some(current) = &mut self.current else {

@@ -5,6 +5,7 @@ ghost use Rattle.std.specs.Io.{ReadsAtMost};
 ghost use Rattle.rw_follow.specs.Meals.{Meal, read_by, with_next};
 ghost use Rattle.rw_follow.specs.declared.segments.Ahead.TheVariants as Ahead;
 ghost use Rattle.rw_types.specs.declared.transfer.ReadFault.{ReadFault};
+ghost use Rattle.rw_types.specs.declared.transfer.ReadFault.TheVariants.{Failed};
 
 use rw_types::ReadFault;
 
@@ -46,6 +47,12 @@ pub trait Segments {
     /// Whether a call from here on may fail so.
     ghost may_fail: { Self → ReadFault → Type 0 };
 
+    /// Whether the device of the current segment has failed.
+    ghost has_failed: { Self → Type 0 };
+
+    /// Whether it has not.
+    ghost is_sound: { Self → Type 0 };
+
     /// Reads some bytes of the current segment into the front of the buffer, and returns how many.
     /// `Ok(0)` into a buffer that is not empty means that nothing is left of it now.
     fn read(&mut self, buf: &mut [u8]) -> Result<usize, ReadFault>
@@ -54,6 +61,8 @@ pub trait Segments {
             → gave self.new start (read_by result buf.new meal) }
         ensures end { result ≡ Ok 0 → 0 < length buf.new → is_read self.new }
         ensures followed { is_followed self.old → is_followed self.new }
+        ensures sound { OnOk result (is_sound self.new) }
+        ensures failed { result ≡ Err Failed → has_failed self.new }
         ensures fails { (f : ReadFault) → result ≡ Err f → may_fail self.old f }
         ensures later { (f : ReadFault) → may_fail self.new f → may_fail self.old f };
 
@@ -66,6 +75,8 @@ pub trait Segments {
             (meal : Meal) → gave self.old start meal → had_all self.new start meal }
         ensures followed { result ≡ Ok Ahead.Segment → is_followed self.new }
         ensures missing { (n : ℕ) → result ≡ Ok (Ahead.Missing n) → lacks self.new n }
+        ensures sound { is_sound self.old → OnOk result (is_sound self.new) }
+        ensures failed { result ≡ Err Failed → has_failed self.new }
         ensures fails { (f : ReadFault) → result ≡ Err f → may_fail self.old f }
         ensures later { (f : ReadFault) → may_fail self.new f → may_fail self.old f };
 
@@ -78,6 +89,7 @@ pub trait Segments {
         ensures stays { OnErr result ((start : Self.Start) (meal : Meal)
             → gave self.old start meal → gave self.new start meal) }
         ensures followed { OnErr result (is_followed self.new) }
+        ensures failed { result ≡ Err Failed → has_failed self.new }
         ensures fails { (f : ReadFault) → result ≡ Err f → may_fail self.old f }
         ensures later { (f : ReadFault) → may_fail self.new f → may_fail self.old f };
 }

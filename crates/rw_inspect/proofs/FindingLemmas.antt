@@ -20,8 +20,7 @@ use Rattle.rw_series_cache.proofs.shared.KnownLemmas.{definitions_of-definition,
 use Rattle.rw_types.proofs.shared.GatherLemmas.{gather-push}
 use Rattle.rw_inspect.specs.Finding.{Finds, any_names, entry_text, label_fault_text, labels_or, sample_text, set_text, is_missing, finding_line, name_at, not_there_text, there_text, position_text, entry_text_at, text_from}
 use Rattle.rw_inspect.specs.inner.Finding.{IsFinder, is_asked, note_if, note_of, noted_at, notes_in, told}
-use Rattle.rw_log_read.proofs.shared.LogLemmas.{reads_first}
-use Rattle.rw_log_read.specs.Logs.{ReadsFirst, ReadsInto, fault_in}
+use Rattle.rw_log_read.specs.Logs.{ReadsFirst, ReadsNamed, fault_in}
 use Rattle.rw_inspect.specs.declared.found.Found.{Found}
 use Rattle.rw_log_read.specs.declared.log_read.Segment.{Segment}
 use Rattle.rw_types.specs.Gathering.{gather_from, gather}
@@ -131,17 +130,17 @@ pub defined_sample : (cache : Taken) (e : Entry) (reference : ℕ) (t : ℤ) (wo
 defined_sample cache e reference t word is before h = rw is (definitions_of-sample before reference t word ∙ h)
 
 -- what was found
-pub finds : (lefts before after : List (Option (List ℕ))) (positions asked : List ℕ) (taken : List Entry) (rows segments : List Segment) (r : Found) → before ≡ lefts → ReadsInto true before after taken rows (fault_in r.damage) → asked ≡ positions → segments ≡ rows
+pub finds : (lefts : List (Option (List ℕ))) (positions asked : List ℕ) (taken : List Entry) (rows segments : List Segment) (r : Found) → ReadsNamed lefts taken rows (fault_in r.damage) → asked ≡ positions → segments ≡ rows
     → r.text.items ≡ flat_map (position_text segments taken) asked → r.missing ≡ count_by (is_missing taken) asked → Finds lefts positions r
-finds lefts before after positions asked taken rows segments r left h same seen text missing = record {
+finds lefts positions asked taken rows segments r h same seen text missing = record {
   texts = h.texts;
-  read = subst (ReadsFirst lefts h.texts) h.fault_is (subst (λ ls. ReadsFirst ls h.texts (fault_in r.damage)) left (reads_first _ _ _ _ h.read));
+  read = subst (ReadsFirst lefts h.texts) h.are.fault_is h.read;
   segments = rows;
-  segments_are = h.rows_are;
+  segments_are = h.are.rows_are;
   text_is =
-      text ∙ ap (λ ss. flat_map (position_text ss taken) asked) seen ∙ ap (λ ps. flat_map (position_text rows taken) ps) same ∙ ap (λ es. flat_map (position_text rows es) positions) h.all;
-  missing_is = missing ∙ ap (λ ps. count_by (is_missing taken) ps) same ∙ ap (λ es. count_by (is_missing es) positions) h.all;
-  fault_is = h.fault_is;
+      text ∙ ap (λ ss. flat_map (position_text ss taken) asked) seen ∙ ap (λ ps. flat_map (position_text rows taken) ps) same ∙ ap (λ es. flat_map (position_text rows es) positions) h.are.all;
+  missing_is = missing ∙ ap (λ ps. count_by (is_missing taken) ps) same ∙ ap (λ es. count_by (is_missing es) positions) h.are.all;
+  fault_is = h.are.fault_is;
 }
 
 -- each position that is asked for is one of these

@@ -1,15 +1,10 @@
 -- What is reported of the segments of a log.
-use Rattle.std.specs.Prelude.{◌≡◌, ℕ, List, [], ◌∷◌, take, Bool, true, Option, ⊤}
+use Rattle.std.specs.Prelude.{◌≡◌, ℕ, List, [], take, Option}
 use Rattle.rw_wal_format.specs.Pieces.{entries, fault}
 use Rattle.rw_log_read.specs.Logs.{AreRows, ReadsFirst, fault_in, log_of}
 use Rattle.rw_inspect.specs.Counting.{log_counts}
 use Rattle.rw_inspect.specs.Troubles.{not_rising, troubles_of}
 use Rattle.rw_inspect.specs.declared.report.Report.{Report}
-
--- no read of these sources fails
-abbrev pub AllSure : List Bool → Type 0
-AllSure [] = ⊤
-AllSure (sure ∷ more) = (sure ≡ true) × AllSure more
 
 -- the report of a log with these segments
 pub record IsInspectionOf (texts : List (List ℕ)) (r : Report) : Type 0 where

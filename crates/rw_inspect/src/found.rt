@@ -7,15 +7,16 @@ ghost use Rattle.rw_series_cache.specs.Known.{definitions_of};
 ghost use Rattle.rw_series_cache.specs.Found.{standing_in};
 ghost use Rattle.rw_inspect.specs.Finding.{Finds, any_names, entry_text, label_fault_text, is_missing, name_at, not_there_text, position_text, sample_text, series_text, set_text, standing_text, there_text};
 ghost use Rattle.rw_inspect.specs.inner.Finding.{is_asked, note_of, noted_at, notes_in, told};
-ghost use Rattle.rw_inspect.specs.Inspecting.{AllSure};
-ghost use Rattle.rw_log_read.specs.Left.{source_of};
+ghost use Rattle.rw_follow.specs.Queues.{AreSure};
+ghost use Rattle.rw_log_read.specs.Logs.{source_of};
+ghost use Rattle.rw_log_read.specs.declared.named.Unread.{Unread};
 
 use rw_history::History;
-use rw_log_read::{Damage, LogRead, Named, Segment, SegmentList, one_more, read_into};
+use rw_log_read::{Damage, LogRead, Named, Segment, Unread, one_more, read_named};
 use rw_relabel::{Choice, Rules};
 use rw_series_cache::{Cache, Known};
 use rw_text::{push_integer, push_labels, push_number, push_value};
-use rw_types::{Entry, LabelFault, LabelSet, Names, RawLabels, ReadFault, Source, Word};
+use rw_types::{Entry, LabelFault, LabelSet, Names, RawLabels, Source, Word};
 use rw_wal_tail::Taker;
 use std::alloc::{AllocError, Global};
 use std::marker::Model;
@@ -330,13 +331,13 @@ pub fn find_entries<S: Source + Drop>(
     alloc: Global,
     segments: Vec<Named<S>>,
     positions: Vec<u64>,
-) -> Result<Found, ReadFault>
+) -> Result<Found, Unread>
     ensures ok { IfOk result (Finds (map (source_of S.remaining) segments.items) positions.items) }
-    ensures sure { AllSure (map (source_of S.is_sure) segments.items) → result ≡ Err Failed → ⊥ }
+    ensures sure { AreSure (map (source_of S.is_sure) segments.items)
+        → (u : Unread) → result ≡ Err u → u.error ≡ Failed → ⊥ }
 {
     let finder = Finder::new(alloc, positions);
-    let mut log = SegmentList::new(segments);
-    let (read, finder) = read_into(alloc, &mut log, true, finder)?;
+    let (read, finder) = read_named(alloc, segments, finder)?;
     let LogRead {
         segments,
         damage,

@@ -2,14 +2,16 @@
 
 ghost use Rattle.std.specs.Prelude.{◌≡◌, map, Err, IfOk};
 ghost use Rattle.rw_types.specs.declared.transfer.ReadFault.TheVariants.{Failed};
-ghost use Rattle.rw_log_read.specs.Left.{source_of};
-ghost use Rattle.rw_inspect.specs.Inspecting.{AllSure, IsReportOfFirst};
+ghost use Rattle.rw_follow.specs.Queues.{AreSure};
+ghost use Rattle.rw_log_read.specs.Logs.{source_of};
+ghost use Rattle.rw_log_read.specs.declared.named.Unread.{Unread};
+ghost use Rattle.rw_inspect.specs.Inspecting.{IsReportOfFirst};
 ghost use Rattle.rw_inspect.specs.inner.Inspecting.{Reports};
 
 use crate::counter::Counter;
 use crate::report::Report;
-use rw_log_read::{LogRead, Named, SegmentList, read_into};
-use rw_types::{ReadFault, Source};
+use rw_log_read::{LogRead, Named, Unread, read_named};
+use rw_types::Source;
 use std::alloc::{AllocError, Global};
 
 /// Returns the report of what was read and counted.
@@ -33,15 +35,13 @@ fn report_of(alloc: Global, counts: &Counter, read: LogRead) -> Result<Report, A
 }
 
 /// Reads the segments of a log in order, to the end of the last one or of the first one with a
-/// fault, and reports what is in them.
-pub fn inspect<S: Source + Drop>(
-    alloc: Global,
-    segments: Vec<Named<S>>,
-) -> Result<Report, ReadFault>
+/// fault, and reports what is in them. An `Err` has the name of the segment whose device failed, if
+/// one did.
+pub fn inspect<S: Source + Drop>(alloc: Global, segments: Vec<Named<S>>) -> Result<Report, Unread>
     ensures ok { IfOk result (IsReportOfFirst (map (source_of S.remaining) segments.items)) }
-    ensures sure { AllSure (map (source_of S.is_sure) segments.items) → result ≡ Err Failed → ⊥ }
+    ensures sure { AreSure (map (source_of S.is_sure) segments.items)
+        → (u : Unread) → result ≡ Err u → u.error ≡ Failed → ⊥ }
 {
-    let mut log = SegmentList::new(segments);
-    let (read, counts) = read_into(alloc, &mut log, true, Counter::new(alloc))?;
+    let (read, counts) = read_named(alloc, segments, Counter::new(alloc))?;
     Ok(report_of(alloc, &counts, read)?)
 }

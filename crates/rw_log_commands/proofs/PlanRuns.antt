@@ -1,8 +1,12 @@
 -- Runs of the command `plan`.
-use Rattle.std.proofs.Common.{◌≡◌, ℕ, ◌≤◌, List, [], ◌∷◌, length, take, ◌++◌, true, false, Option, None, Some, Result, Ok, Err, refl, sym, ◌∙◌, ap, subst, append-nil}
+use Rattle.std.proofs.Common.{◌≡◌, ◌⊎◌, inl, inr, ℕ, ◌≤◌, List, [], ◌∷◌, length, take, ◌++◌, Bool, true, false, Option, None, Some, Result, Ok, Err, refl, sym, ◌∙◌, ap, subst, append-nil}
 use Rattle.std.specs.Result.{OnOk}
 use Rattle.std.specs.Io.KnownBytes.{Appends, Consumes, IsAtEnd}
+use Rattle.std.proofs.KnownBytes.{Consumes-nil}
+use Rattle.rw_follow.specs.Meals.{Meal, no_meal}
+use Rattle.rw_follow.specs.Queues.{MayFailAlone}
 use Rattle.rw_types.specs.declared.entry.Entry.{Entry}
+use Rattle.rw_types.specs.declared.transfer.ReadFault.TheVariants.{Failed}
 use Rattle.rw_wal_format.specs.Pieces.{bytes, entries, fault}
 use Rattle.rw_wal_format.specs.declared.tail_fault.TailFault.{TailFault}
 use Rattle.rw_text.specs.HexText.{read_text}
@@ -10,8 +14,8 @@ use Rattle.rw_relabel.specs.declared.choice.Choice.{Choice}
 use Rattle.rw_log_commands.specs.Plan.{plan_text}
 use Rattle.rw_log_commands.specs.Planning.{PlansLog, PlansLogPart, WritesPlan, WritesPlanPart}
 use Rattle.rw_log_commands.specs.Running.{ReadsFault, ReadsInput}
-use Rattle.rw_log_commands.specs.Taking.{ReadsWhole}
-use Rattle.rw_log_commands.specs.inner.Taking.{ReadsSegment}
+use Rattle.rw_log_commands.specs.Taking.{CannotRead, ReadsWhole}
+use Rattle.rw_log_commands.specs.inner.Taking.{ReadsSegment, all_of_one, of_one}
 use Rattle.rw_log_commands.proofs.TakingLemmas.{whole_segment}
 
 -- bytes that are read are an input that stands for itself
@@ -25,28 +29,39 @@ bytes_read left_before left_after segment h = record {
 }
 
 -- what was made of a log was written, or a prefix of it
-pub plan_written : (choice now : Choice) (left_before left_after : List (Option (List ℕ))) (before after : Option (List ℕ)) (taken : List Entry) (plan written : List ℕ)
-    → ReadsWhole left_before left_after taken → now ≡ choice → plan ≡ plan_text now taken → written ≡ plan → Appends before after written → PlansLog choice left_before left_after before after
-plan_written choice now left_before left_after before after taken plan written h same is out a =
+pub plan_written : (choice now : Choice) (gave had_all : Meal → Type 0) (before after : Option (List ℕ)) (taken : List Entry) (plan written : List ℕ)
+    → ReadsWhole gave had_all taken → now ≡ choice → plan ≡ plan_text now taken → written ≡ plan → Appends before after written → PlansLog choice gave had_all before after
+plan_written choice now gave had_all before after taken plan written h same is out a =
     record { entries = taken; read = h; written = subst (Appends before after) (out ∙ is ∙ ap (λ c. plan_text c taken) same) a }
 
-pub plan_cut : (choice now : Choice) (left_before left_after : List (Option (List ℕ))) (before after : Option (List ℕ)) (taken : List Entry) (plan written : List ℕ)
-    → ReadsWhole left_before left_after taken → now ≡ choice → plan ≡ plan_text now taken → written ≡ plan → (n : ℕ) × (n ≤ length written) × Appends before after (take n written) → PlansLogPart choice left_before left_after before after
-plan_cut choice now left_before left_after before after taken plan written h same is out a =
+pub plan_cut : (choice now : Choice) (gave had_all : Meal → Type 0) (before after : Option (List ℕ)) (taken : List Entry) (plan written : List ℕ)
+    → ReadsWhole gave had_all taken → now ≡ choice → plan ≡ plan_text now taken → written ≡ plan → (n : ℕ) × (n ≤ length written) × Appends before after (take n written) → PlansLogPart choice gave had_all before after
+plan_cut choice now gave had_all before after taken plan written h same is out a =
     let made = out ∙ is ∙ ap (λ c. plan_text c taken) same in
     record { entries = taken; read = h; count = a.0; within = subst (λ p. a.0 ≤ length p) made a.1; written = subst (λ p. Appends before after (take a.0 p)) made a.2 }
 
--- the same of a log of one segment
-pub plans_segment : (choice : Choice) (a b before after : Option (List ℕ)) → PlansLog choice (a ∷ []) (b ∷ []) before after → WritesPlan choice false a b before after
+-- the same of a log of one segment, of which nothing was read before
+pub begins_one : (a : Option (List ℕ)) → of_one a a no_meal
+begins_one a = (Consumes-nil a, refl)
+
+pub plans_segment : (choice : Choice) (a b before after : Option (List ℕ)) → PlansLog choice (of_one a b) (all_of_one a b) before after → WritesPlan choice false a b before after
 plans_segment choice a b before after h =
     let s = whole_segment a b h.entries h.read in
     (s.0, bytes_read a b s.0 s.1, subst (Appends before after) (ap (plan_text choice) s.2) h.written)
 
-pub plans_segment_part : (choice : Choice) (a b before after : Option (List ℕ)) → PlansLogPart choice (a ∷ []) (b ∷ []) before after → WritesPlanPart choice false a b before after
+plans_segment_part : (choice : Choice) (a b before after : Option (List ℕ)) → PlansLogPart choice (of_one a b) (all_of_one a b) before after → WritesPlanPart choice false a b before after
 plans_segment_part choice a b before after h =
     let s = whole_segment a b h.entries h.read in
     let made = ap (plan_text choice) s.2 in
     (s.0, bytes_read a b s.0 s.1, (h.count, subst (λ p. h.count ≤ length p) made h.within, subst (λ p. Appends before after (take h.count p)) made h.written))
+
+-- a device failed
+pub plan_failed : (choice : Choice) (a b before after : Option (List ℕ)) (sure failed : Bool) (same cut : Type 0)
+    → (CannotRead (MayFailAlone sure Failed) (failed ≡ true) (λ _. ⊥) × same) ⊎ (cut × ((start : Option (List ℕ)) → of_one start a no_meal → PlansLogPart choice (of_one start b) (all_of_one start b) before after))
+    → ((sure ≡ true → ⊥) × (failed ≡ true) × same) ⊎ (cut × WritesPlanPart choice false a b before after)
+plan_failed choice a b before after sure failed same cut (inl (inl may, still)) = inl (may.0, may.1, still)
+plan_failed choice a b before after sure failed same cut (inl (inr lacks, still)) = absurd lacks.1
+plan_failed choice a b before after sure failed same cut (inr h) = inr (h.0, plans_segment_part choice a b before after (h.1 a (begins_one a)))
 
 -- bytes in memory that are read to their end
 whole_bytes : (held segment : List ℕ) (after : Option (List ℕ)) → Consumes (Some held) after segment → IsAtEnd after → segment ≡ held

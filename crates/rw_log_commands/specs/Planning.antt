@@ -3,20 +3,21 @@ use Rattle.std.specs.Prelude.{ℕ, ◌≤◌, List, length, take, Bool, Option, 
 use Rattle.std.specs.Io.KnownBytes.{Appends}
 use Rattle.rw_relabel.specs.declared.choice.Choice.{Choice}
 use Rattle.rw_types.specs.declared.entry.Entry.{Entry}
+use Rattle.rw_follow.specs.Meals.{Meal}
 use Rattle.rw_log_commands.specs.Plan.{plan_of, plan_text}
 use Rattle.rw_log_commands.specs.Running.{ReadsInput}
 use Rattle.rw_log_commands.specs.Taking.{ReadsWhole}
 
 -- a log without a fault was read to its end, and its plan was written
-pub record PlansLog (choice : Choice) (left_before left_after : List (Option (List ℕ))) (before after : Option (List ℕ)) : Type 0 where
+pub record PlansLog (choice : Choice) (gave had_all : Meal → Type 0) (before after : Option (List ℕ)) : Type 0 where
   pub entries : List Entry
-  pub read : ReadsWhole left_before left_after entries
+  pub read : ReadsWhole gave had_all entries
   pub written : Appends before after (plan_text choice entries)
 
 -- the same, and a prefix of its plan was written
-pub record PlansLogPart (choice : Choice) (left_before left_after : List (Option (List ℕ))) (before after : Option (List ℕ)) : Type 0 where
+pub record PlansLogPart (choice : Choice) (gave had_all : Meal → Type 0) (before after : Option (List ℕ)) : Type 0 where
   pub entries : List Entry
-  pub read : ReadsWhole left_before left_after entries
+  pub read : ReadsWhole gave had_all entries
   pub count : ℕ
   pub within : count ≤ length (plan_text choice entries)
   pub written : Appends before after (take count (plan_text choice entries))

@@ -1,18 +1,21 @@
 //! The command `plan`, over any log and writer.
 
-ghost use Rattle.std.specs.Prelude.{◌≡◌, ◌≢◌, ◌⊎◌, ◌<◌, ℕ, length, true, false, Ok, Err, None, Some, OnOk, IfErr};
+ghost use Rattle.std.specs.Prelude.{◌≡◌, ◌≢◌, ◌⊎◌, ℕ, true, false, Ok, Err, None, Some, OnOk, IfErr};
 ghost use Rattle.rw_wal_format.specs.declared.tail_fault.TailFault.{TailFault};
 ghost use Rattle.rw_wal_format.specs.declared.tail_fault.TailFault.TheVariants as tail;
 ghost use Rattle.rw_wal_tail.specs.declared.place.Damage.{Damage};
 ghost use Rattle.rw_shard_core.specs.Configs.{choice_of};
 ghost use Rattle.rw_log_commands.specs.Planning.{PlansLog, PlansLogPart, WritesPlan, WritesPlanPart};
 ghost use Rattle.rw_log_commands.specs.Running.{ReadsFault, ReadsLine};
-ghost use Rattle.rw_log_commands.specs.Taking.{ReadsLogToFault};
+ghost use Rattle.rw_log_commands.specs.Taking.{CannotRead, ReadsLogToFault};
+ghost use Rattle.rw_follow.specs.Meals.{no_meal};
+ghost use Rattle.rw_types.specs.declared.transfer.ReadFault.TheVariants.{Failed};
 ghost use Rattle.rw_text.specs.declared.tool_fault.ToolFault.TheVariants.{Log, Line, SegmentFull, Device};
 
+use crate::log_read::read_log;
 use crate::planner::Planner;
 use crate::run::read_input;
-use rw_log_read::{SegmentReader, read_into};
+use rw_follow::Segments;
 use rw_relabel::Choice;
 use rw_settings::Settings;
 use rw_text::ToolFault;
@@ -38,39 +41,40 @@ impl Taker for Planner {
 /// log order `REF kept NUMBER LABELS`, `REF filtered LABELS` or `REF bad FAULT`, and then `samples
 /// kept A filtered B bad C noseries D`, each line ended by LF. Nothing is written before the whole
 /// plan is made. If the log has a fault, the fault is returned with its place, and nothing is
-/// written.
-pub fn plan_log<L: SegmentReader, W: Sink>(
+/// written. A log that lacks a segment cannot be read, as one whose device fails.
+pub fn plan_log<L: Segments, W: Sink>(
     alloc: Global,
     log: &mut L,
     writer: &mut W,
     choice: Choice,
 ) -> Result<Option<Damage>, ToolFault>
-    ensures ok { result ≡ Ok None
-        → PlansLog choice (L.left log.old) (L.left log.new) (W.contents writer.old)
+    ensures ok { result ≡ Ok None → (start : L.Start) → L.gave log.old start no_meal
+        → PlansLog choice (L.gave log.new start) (L.had_all log.new start) (W.contents writer.old)
         (W.contents writer.new) }
-    ensures log_sound { 0 < length (L.left log.old) → result ≡ Ok None
-        → L.has_failed log.new ≡ false }
+    ensures log_sound { result ≡ Ok None → L.is_sound log.new }
     ensures writer_sound { OnOk result
         (W.has_failed writer.old ≡ false → W.has_failed writer.new ≡ false) }
 
     // A fault of the log is the one that it has. Then nothing is written, nor if memory ran out.
     ensures damaged { (d : Damage) → result ≡ Ok (Some d) → writer.new ≡ writer.old }
     ensures log { (d : Damage) → result ≡ Ok (Some d) → d.fault ≢ tail.OutOfMemory
-        → ReadsLogToFault d.fault (L.left log.old) (L.left log.new) }
+        → (start : L.Start) → L.gave log.old start no_meal
+        → ReadsLogToFault d.fault (L.gave log.new start) }
     ensures no_log { (f : TailFault) → result ≡ Err (Log f) → ⊥ }
     ensures no_line { (n : ℕ) → result ≡ Err (Line n) → ⊥ }
     ensures no_full { result ≡ Err SegmentFull → ⊥ }
     ensures untouched { IfErr result (λ e. e ≢ Device → writer.new ≡ writer.old) }
 
-    // If a device fails, the writer holds a prefix of the plan.
+    // If the writer fails, it holds a prefix of the plan.
     ensures device { result ≡ Err Device
-        → ((L.is_sure log.old ≡ true → ⊥) × (L.has_failed log.new ≡ true)
+        → (CannotRead (L.may_fail log.old Failed) (L.has_failed log.new) (L.lacks log.new)
         × (writer.new ≡ writer.old))
         ⊎ ((W.has_failed writer.new ≡ true)
-        × PlansLogPart choice (L.left log.old) (L.left log.new) (W.contents writer.old)
-        (W.contents writer.new)) }
+        × ((start : L.Start) → L.gave log.old start no_meal
+        → PlansLogPart choice (L.gave log.new start) (L.had_all log.new start)
+        (W.contents writer.old) (W.contents writer.new))) }
 {
-    let (read, planner) = read_into(alloc, log, false, Planner::new(alloc, choice))?;
+    let (read, planner) = read_log(alloc, log, Planner::new(alloc, choice))?;
     if read.damage.is_some() {
         return Ok(read.damage);
     }

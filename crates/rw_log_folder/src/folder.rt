@@ -41,6 +41,10 @@ pub struct Folder<R> {
     opened: Vec<Current>,
     /// The segment of this number is missing after the checkpoint.
     gap: Option<u64>,
+    /// Whether the current file could not be read.
+    has_failed: bool,
+    /// The file that could not be opened.
+    closed: Option<String>,
     counters: Arc<SendCounters, Global>,
 }
 
@@ -81,6 +85,8 @@ impl<R: Files<File = File> + AllocGlobal + Copy> Folder<R> {
             from_checkpoint: false,
             opened,
             gap: None,
+            has_failed: false,
+            closed: None,
             counters,
         }
     }
@@ -101,6 +107,8 @@ impl<R: Files<File = File> + AllocGlobal + Copy> Folder<R> {
             from_checkpoint: true,
             opened,
             gap: None,
+            has_failed: false,
+            closed: None,
             counters,
         }
     }
@@ -140,6 +148,20 @@ impl<R: Files<File = File> + AllocGlobal + Copy> Folder<R> {
         Some(name.name.as_str())
     }
 
+    /// Returns the name of the file that could not be read or opened, if a call failed at one.
+    pub fn into_unread(self) -> Option<String> {
+        let Folder {
+            current,
+            has_failed,
+            closed,
+            ..
+        } = self;
+        match current {
+            Some(current) if has_failed => Some(current.segment.name),
+            _ => closed,
+        }
+    }
+
     /// Opens the file that is read first, if it is there.
     fn begin(&mut self) -> Result<(), ReadFault> {
         if !self.from_checkpoint {
@@ -160,7 +182,11 @@ impl<R: Files<File = File> + AllocGlobal + Copy> Folder<R> {
                 Ok(())
             }
             Err(FolderFault::OutOfMemory) => Err(ReadFault::OutOfMemory),
-            Err(_) => Err(ReadFault::Failed),
+            Err(FolderFault::Closed(name)) => {
+                self.closed = Some(name);
+                Err(ReadFault::Failed)
+            }
+            Err(FolderFault::Unreadable) => Err(ReadFault::Failed),
         }
     }
 
@@ -182,7 +208,10 @@ impl<R: Files<File = File> + AllocGlobal + Copy> Folder<R> {
                 self.go_to(Current { segment, file });
                 Ok(())
             }
-            Err(_) => Err(ReadFault::Failed),
+            Err(_) => {
+                self.closed = Some(segment.name);
+                Err(ReadFault::Failed)
+            }
         }
     }
 
@@ -221,16 +250,22 @@ impl<R: Files<File = File> + AllocGlobal + Copy> Segments for Folder<R> {
 
     ghost may_fail = { λ _ _. ⊤ };
 
+    ghost has_failed = { λ _. ⊤ };
+
+    ghost is_sound = { λ _. ⊤ };
+
     fn read(&mut self, buf: &mut [u8]) -> Result<usize, ReadFault> {
         if self.current.is_none() {
             self.begin()?;
         }
-        match &mut self.current {
-            Some(current) => match current.file.read(buf) {
-                Ok(count) => Ok(count),
-                Err(_) => Err(ReadFault::Failed),
-            },
-            None => Ok(0),
+        let outcome = match &mut self.current {
+            Some(current) => Source::read(&mut current.file, buf),
+            None => return Ok(0),
+        };
+        self.has_failed = outcome.is_err();
+        match outcome {
+            Ok(count) => Ok(count),
+            Err(_) => Err(ReadFault::Failed),
         }
     }
 

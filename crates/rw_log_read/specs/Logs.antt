@@ -1,44 +1,33 @@
 -- How the segments of a log are read, and what is found in each.
-use Rattle.std.specs.Prelude.{◌≡◌, ℕ, ◌+◌, ◌<◌, List, [], ◌∷◌, ◌++◌, length, flat_map, Bool, Option, None, Some, ⊤}
-use Rattle.std.specs.Io.KnownBytes.{Consumes, IsAtEnd}
+use Rattle.std.specs.Prelude.{◌≡◌, ℕ, ◌+◌, List, [], ◌∷◌, ◌++◌, length, flat_map, Bool, true, Option, None, Some, IsSome, ⊤}
+use Rattle.rw_follow.specs.Meals.{Meal}
+use Rattle.rw_follow.specs.Queues.{IsAllOf}
 use Rattle.rw_types.specs.declared.entry.Entry.{Entry}
 use Rattle.rw_wal_format.specs.Pieces.{Piece, bytes, next_segment, entries, fault, skipped}
 use Rattle.rw_wal_format.specs.declared.tail_fault.TailFault.{TailFault}
-use Rattle.rw_log_read.specs.Left.{current}
-use Rattle.rw_log_read.specs.Reading.{IsReadToEnd}
 use Rattle.rw_log_read.specs.Sums.{sums_of}
 use Rattle.rw_wal_tail.specs.declared.place.Damage.{Damage}
 use Rattle.rw_log_read.specs.declared.log_read.Segment.{Segment}
+use Rattle.rw_log_read.specs.declared.named.Named.{Named}
 
--- a source that has this left is read to its end, and returns this text
-abbrev pub IsRead : Option (List ℕ) → List ℕ → Type 0
-IsRead left text = (after : Option (List ℕ)) × Consumes left after text × IsAtEnd after
+-- what the source of a named segment has left
+abbrev pub source_of : {S : Type 0} {X : Type 0} → (S → X) → Named S → X
+source_of f n = f n.source
 
--- these texts are those of the first sources
+-- the texts of the segments of which this was read, the last one as far as it was read
+abbrev pub texts_of : Meal → List (List ℕ)
+texts_of fed = fed.whole ++ fed.begun ∷ []
+
+-- these texts are all that the first sources had left
 abbrev pub AreRead : List (Option (List ℕ)) → List (List ℕ) → Type 0
 AreRead lefts [] = ⊤
 AreRead [] (text ∷ texts) = ⊥
-AreRead (left ∷ lefts) (text ∷ texts) = IsRead left text × AreRead lefts texts
+AreRead (left ∷ lefts) (text ∷ texts) = IsAllOf left text × AreRead lefts texts
 
 -- the same, and if no fault was found they are those of all
 pub record ReadsFirst (lefts : List (Option (List ℕ))) (texts : List (List ℕ)) (found : Option TailFault) : Type 0 where
   pub read : AreRead lefts texts
   pub whole : found ≡ None → length texts ≡ length lefts
-
--- These texts were read one after the other, each to its end but for the last one. After them this
--- is left of the last one and of those that follow it.
-abbrev pub ReadsTo : List (Option (List ℕ)) → List (List ℕ) → List (Option (List ℕ)) → Type 0
-ReadsTo lefts [] after = after ≡ lefts
-ReadsTo [] (text ∷ texts) after = ⊥
-ReadsTo (left ∷ lefts) (text ∷ []) after = Consumes left (current after) text × (after ≡ current after ∷ lefts)
-ReadsTo (left ∷ lefts) (text ∷ (next ∷ texts)) after = IsRead left text × ReadsTo lefts (next ∷ texts) after
-
--- a log was read to its end, or to this fault or the end of the segment that has it
-pub record ReadsLog (past_fault : Bool) (before after : List (Option (List ℕ))) (texts : List (List ℕ)) (found : Option TailFault) : Type 0 where
-  pub read : ReadsTo before texts after
-  pub some : 0 < length before → 0 < length texts
-  pub ended : IsReadToEnd past_fault found → IsAtEnd (current after)
-  pub whole : found ≡ None → length texts ≡ length before
 
 -- the pieces of a log with these segments
 abbrev pub next_pieces : List ℕ → List Piece
@@ -68,11 +57,25 @@ abbrev pub fault_in : Option Damage → Option TailFault
 fault_in None = None
 fault_in (Some damage) = Some damage.fault
 
--- A log was read: what was taken are its entries, each row is what was found in a segment, and the
--- fault is that of the log.
-pub record ReadsInto (past_fault : Bool) (before after : List (Option (List ℕ))) (taken : List Entry) (rows : List Segment) (found : Option TailFault) : Type 0 where
-  pub texts : List (List ℕ)
-  pub read : ReadsLog past_fault before after texts found
+-- What was taken are the entries of these segments, each row is what was found in one of them, and
+-- the fault is theirs.
+pub record AreFound (texts : List (List ℕ)) (taken : List Entry) (rows : List Segment) (found : Option TailFault) : Type 0 where
   pub rows_are : AreRows [] texts rows
   pub all : taken ≡ entries (log_of texts)
   pub fault_is : found ≡ fault (log_of texts)
+
+-- A log was read, and this was found: all that it had, if there is no fault; and if there is one,
+-- what comes before it, or the whole segment that has it if reading goes past it.
+pub record ReadsInto (past_fault : Bool) (gave had_all : Meal → Type 0) (is_read : Type 0) (taken : List Entry) (rows : List Segment) (found : Option TailFault) : Type 0 where
+  pub fed : Meal
+  pub gives : gave fed
+  pub whole : found ≡ None → had_all fed
+  pub ended : past_fault ≡ true → IsSome found → is_read
+  pub are : AreFound (texts_of fed) taken rows found
+
+-- The first of these sources were read to their ends, up to one with a fault, or all if there is
+-- none, and this was found.
+pub record ReadsNamed (lefts : List (Option (List ℕ))) (taken : List Entry) (rows : List Segment) (found : Option TailFault) : Type 0 where
+  pub texts : List (List ℕ)
+  pub read : ReadsFirst lefts texts found
+  pub are : AreFound texts taken rows found

@@ -5,16 +5,14 @@
 mod counting;
 mod log;
 mod log_read;
-mod segment_list;
-mod segment_reader;
+mod named;
 mod segment_text;
 mod skipped;
 mod sums;
 
-pub use log::read_into;
+pub use log::{read_into, read_named};
 pub use log_read::{LogRead, Segment};
+pub use named::{Named, Unread};
 pub use rw_wal_tail::Damage;
-pub use segment_list::{Named, SegmentList};
-pub use segment_reader::SegmentReader;
 pub use skipped::SkippedRecords;
 pub use sums::{Sums, one_more};

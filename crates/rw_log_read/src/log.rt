@@ -1,19 +1,23 @@
 //! The segments of a log, read one after the other.
 
-ghost use Rattle.std.specs.Prelude.{◌≡◌, ◌<◌, ◌∷◌, ◌++◌, [], ℕ, List, length, true, false, Err, None, IfOk, OnOk, vec_len};
+ghost use Rattle.std.specs.Prelude.{◌≡◌, ◌<◌, ◌∷◌, ◌++◌, [], ℕ, List, map, length, Err, None, IfOk, OnOk, vec_len};
 ghost use Rattle.rw_types.specs.declared.transfer.ReadFault.TheVariants.{Failed};
 ghost use Rattle.rw_types.specs.declared.entry.Entry.{Entry};
+ghost use Rattle.rw_follow.specs.Meals.{no_meal};
+ghost use Rattle.rw_follow.specs.Queues.{AreSure};
+ghost use Rattle.rw_follow.specs.declared.follower.SegmentError.TheVariants.{Unreadable, Missing};
 ghost use Rattle.rw_wal_tail.specs.Taking.{HasTaken, HasTakenAll};
-ghost use Rattle.rw_log_read.specs.Left.{current, later};
-ghost use Rattle.rw_log_read.specs.Logs.{ReadsInto, ReadsLog, fault_in};
-ghost use Rattle.rw_log_read.specs.inner.Logs.{AreTaken, ReadsSegment, begun};
+ghost use Rattle.rw_log_read.specs.Logs.{ReadsInto, ReadsNamed, fault_in, source_of};
+ghost use Rattle.rw_log_read.specs.inner.Logs.{AreTaken, ReadsLog, ReadsSegment, begun};
+ghost use Rattle.rw_log_read.specs.declared.named.Unread.{Unread};
 
 use crate::counting::Counting;
 use crate::log_read::{LogRead, Segment};
-use crate::segment_reader::SegmentReader;
-use crate::segment_text::read_text;
+use crate::named::{Named, Unread, names_of, unread_of};
+use crate::segment_text::{TextRead, read_text};
 use crate::skipped::skipped_records;
-use rw_types::ReadFault;
+use rw_follow::{Queue, SegmentError, Segments};
+use rw_types::Source;
 use rw_wal_tail::{Damage, Tail, TailFault, Taker};
 use std::alloc::{AllocError, Global};
 
@@ -46,80 +50,85 @@ fn add_row(rows: &mut Vec<Segment>, row: Segment) -> Result<(), AllocError>
     }
 }
 
-/// Reads the current segment, and returns what was found in it, and its fault.
-fn read_segment<L: SegmentReader, T: Taker>(
-    alloc: Global,
+/// Returns the name at an index, or the empty text if there is none.
+fn name_at(alloc: Global, names: &[String], at: usize) -> Result<String, AllocError> {
+    match names.get(at) {
+        Some(name) => name.clone(),
+        None => Ok(String::new(alloc)),
+    }
+}
+
+/// Reads the current segment, and returns its row and how far it was read.
+fn read_segment<L: Segments, T: Taker>(
+    name: String,
     log: &mut L,
     past_fault: bool,
     is_first: bool,
     chunk: &mut [u8],
     tail: &mut Tail,
     taker: &mut Counting<T>,
-) -> Result<(Segment, Option<TailFault>), ReadFault>
+) -> Result<(Segment, TextRead), SegmentError>
     requires room { 0 < length chunk.old }
-    requires some { 0 < length (L.left log.old) }
     requires sound { HasTakenAll tail.old (T.taken taker.old.taker) None }
-    ensures ok { IfOk result
-        (ReadsSegment past_fault is_first (current (L.left log.old)) (current (L.left log.new))
-        tail.old tail.new (T.taken taker.old.taker) (T.taken taker.new.taker)) }
-    ensures left { OnOk result
-        (L.left log.new ≡ current (L.left log.new) ∷ later (L.left log.old)) }
+    ensures ok { IfOk result (ReadsSegment past_fault is_first (L.gave log.old) (L.gave log.new)
+        (L.had_all log.new) (L.is_read log.new) (L.is_followed log.new) tail.old tail.new
+        (T.taken taker.old.taker) (T.taken taker.new.taker)) }
     ensures fixed { OnOk result (T.fixed taker.new.taker ≡ T.fixed taker.old.taker) }
-    ensures sound { IfOk result (λ found. found.1 ≡ None → L.has_failed log.new ≡ false) }
-    ensures failed { result ≡ Err Failed → L.has_failed log.new ≡ true }
-    ensures sure { L.is_sure log.old ≡ true → result ≡ Err Failed → ⊥ }
-    ensures sure_stays { L.is_sure log.old ≡ true → OnOk result (L.is_sure log.new ≡ true) }
+    ensures missing { (n : ℕ) → result ≡ Err (Missing n) → L.lacks log.new n }
+    ensures sound { IfOk result (λ found. found.1.fault ≡ None → L.is_sound log.new) }
+    ensures failed { result ≡ Err (Unreadable Failed) → L.has_failed log.new }
+    ensures fails { result ≡ Err (Unreadable Failed) → L.may_fail log.old Failed }
+    ensures later { OnOk result (L.may_fail log.new Failed → L.may_fail log.old Failed) }
 {
-    let name = String::from_str(alloc, log.name())?;
     let before = tail.skipped();
     begin_segment(is_first, tail);
     taker.begin();
-    let (bytes, fault) = read_text(log, past_fault, chunk, tail, taker)?;
-    let found = Segment {
+    let read = read_text(log, past_fault, chunk, tail, taker)?;
+    let row = Segment {
         name,
-        bytes,
+        bytes: read.bytes,
         passed: tail.skipped() - before,
         sums: taker.sums(),
     };
-    Ok((found, fault))
+    Ok((row, read))
 }
 
 /// Reads the segments of a log to the end of the last one or to the first fault, and returns the
-/// fault.
-fn read_all<L: SegmentReader, T: Taker>(
+/// fault. Their rows have these names, in order.
+fn read_all<L: Segments, T: Taker>(
     alloc: Global,
     log: &mut L,
     past_fault: bool,
+    names: &[String],
     tail: &mut Tail,
     taker: &mut Counting<T>,
     rows: &mut Vec<Segment>,
-) -> Result<Option<TailFault>, ReadFault>
+) -> Result<Option<TailFault>, SegmentError>
     requires { AreTaken [] tail.old (T.taken taker.old.taker) rows.old.items None }
-    ensures ok { IfOk result (λ fault. (texts : List (List ℕ))
-        × ReadsLog past_fault (L.left log.old) (L.left log.new) texts fault
-        × AreTaken texts tail.new (T.taken taker.new.taker) rows.new.items fault) }
+    ensures ok { IfOk result (ReadsLog past_fault (L.gave log.old) (L.gave log.new)
+        (L.had_all log.new) (L.is_read log.new) tail.new (T.taken taker.new.taker)
+        rows.new.items) }
     ensures fixed { OnOk result (T.fixed taker.new.taker ≡ T.fixed taker.old.taker) }
-    ensures sound { IfOk result
-        (λ fault. fault ≡ None → 0 < length (L.left log.old) → L.has_failed log.new ≡ false) }
-    ensures failed { result ≡ Err Failed → L.has_failed log.new ≡ true }
-    ensures sure { L.is_sure log.old ≡ true → result ≡ Err Failed → ⊥ }
+    ensures missing { (n : ℕ) → result ≡ Err (Missing n) → L.lacks log.new n }
+    ensures sound { IfOk result (λ fault. fault ≡ None → L.is_sound log.new) }
+    ensures failed { result ≡ Err (Unreadable Failed) → L.has_failed log.new }
+    ensures fails { result ≡ Err (Unreadable Failed) → L.may_fail log.old Failed }
 {
     let mut chunk = zeros(alloc, CHUNK)?;
-    if log.is_empty() {
-        return Ok(None);
-    }
     for _ in 0..u64::MAX {
         let is_first = rows.is_empty();
-        let (row, fault) = read_segment(alloc, log, past_fault, is_first, &mut chunk, tail, taker)?;
+        let name = name_at(alloc, names, rows.len())?;
+        let (row, read) = read_segment(name, log, past_fault, is_first, &mut chunk, tail, taker)?;
         add_row(rows, row)?;
-        if fault.is_some() {
-            return Ok(fault);
+        if read.fault.is_some() {
+            return Ok(read.fault);
         }
-        if !log.advance() {
-            return Ok(fault);
+        if !read.is_followed {
+            return Ok(read.fault);
         }
+        log.advance()?;
     }
-    Err(ReadFault::OutOfMemory)
+    Err(SegmentError::from(AllocError))
 }
 
 /// Returns the damage of a log with this fault, if it has one.
@@ -135,29 +144,36 @@ fn damage_of(tail: &Tail, fault: Option<TailFault>) -> Option<Damage>
     }
 }
 
-/// Reads the segments of a log in order, to the end of the last one or to the first fault, and lets
-/// a taker take their entries. Returns what was found, and the taker. If `past_fault` is set, a
-/// segment with a fault is read to its end, so that its row has the number of all its bytes.
-pub fn read_into<L: SegmentReader, T: Taker + Drop>(
+/// Reads a log as `read_into` does. Its rows have these names, in order.
+fn read_rows<L: Segments, T: Taker + Drop>(
     alloc: Global,
     log: &mut L,
     past_fault: bool,
+    names: &[String],
     taker: T,
-) -> Result<(LogRead, T), ReadFault>
+) -> Result<(LogRead, T), SegmentError>
     requires { T.taken taker ≡ [] }
-    ensures ok { IfOk result
-        (λ read. ReadsInto past_fault (L.left log.old) (L.left log.new) (T.taken read.1)
-        read.0.segments.items (fault_in read.0.damage)) }
+    ensures ok { IfOk result (λ read. (start : L.Start) → L.gave log.old start no_meal
+        → ReadsInto past_fault (L.gave log.new start) (L.had_all log.new start)
+        (L.is_read log.new) (T.taken read.1) read.0.segments.items (fault_in read.0.damage)) }
     ensures fixed { IfOk result (λ read. T.fixed read.1 ≡ T.fixed taker) }
-    ensures sound { IfOk result (λ read. fault_in read.0.damage ≡ None
-        → 0 < length (L.left log.old) → L.has_failed log.new ≡ false) }
-    ensures failed { result ≡ Err Failed → L.has_failed log.new ≡ true }
-    ensures sure { L.is_sure log.old ≡ true → result ≡ Err Failed → ⊥ }
+    ensures missing { (n : ℕ) → result ≡ Err (Missing n) → L.lacks log.new n }
+    ensures sound { IfOk result (λ read. fault_in read.0.damage ≡ None → L.is_sound log.new) }
+    ensures failed { result ≡ Err (Unreadable Failed) → L.has_failed log.new }
+    ensures fails { result ≡ Err (Unreadable Failed) → L.may_fail log.old Failed }
 {
     let mut tail = Tail::new(alloc);
     let mut rows = Vec::new(alloc);
     let mut counting = Counting::new(taker);
-    let fault = read_all(alloc, log, past_fault, &mut tail, &mut counting, &mut rows)?;
+    let fault = read_all(
+        alloc,
+        log,
+        past_fault,
+        names,
+        &mut tail,
+        &mut counting,
+        &mut rows,
+    )?;
     let skipped = skipped_records(alloc, &tail)?;
     let read = LogRead {
         segments: rows,
@@ -165,4 +181,67 @@ pub fn read_into<L: SegmentReader, T: Taker + Drop>(
         skipped,
     };
     Ok((read, counting.into_taker()))
+}
+
+/// Reads the segments of a log in order, to the present end of the last one or to the first fault,
+/// and lets a taker take their entries. Returns what was found, and the taker. If `past_fault` is
+/// set, a segment with a fault is read to its end, so that its row has the number of all its bytes.
+/// The rows have no names.
+pub fn read_into<L: Segments, T: Taker + Drop>(
+    alloc: Global,
+    log: &mut L,
+    past_fault: bool,
+    taker: T,
+) -> Result<(LogRead, T), SegmentError>
+    requires { T.taken taker ≡ [] }
+    ensures ok { IfOk result (λ read. (start : L.Start) → L.gave log.old start no_meal
+        → ReadsInto past_fault (L.gave log.new start) (L.had_all log.new start)
+        (L.is_read log.new) (T.taken read.1) read.0.segments.items (fault_in read.0.damage)) }
+    ensures fixed { IfOk result (λ read. T.fixed read.1 ≡ T.fixed taker) }
+    ensures missing { (n : ℕ) → result ≡ Err (Missing n) → L.lacks log.new n }
+    ensures sound { IfOk result (λ read. fault_in read.0.damage ≡ None → L.is_sound log.new) }
+    ensures failed { result ≡ Err (Unreadable Failed) → L.has_failed log.new }
+    ensures fails { result ≡ Err (Unreadable Failed) → L.may_fail log.old Failed }
+{
+    read_rows(alloc, log, past_fault, &[], taker)
+}
+
+/// Returns what is found in a log without a segment.
+fn nothing_read(alloc: Global) -> LogRead
+    ensures rows { result.segments.items ≡ [] }
+    ensures damage { result.damage ≡ None }
+{
+    LogRead {
+        segments: Vec::new(alloc),
+        damage: None,
+        skipped: Vec::new(alloc),
+    }
+}
+
+/// Reads named segments in order, to the end of the last one or of the first one with a fault, and
+/// lets a taker take their entries. Returns what was found, each row with the name of its segment,
+/// and the taker. An `Err` has the name of the segment whose device failed, if one did.
+pub fn read_named<S: Source + Drop, T: Taker + Drop>(
+    alloc: Global,
+    segments: Vec<Named<S>>,
+    taker: T,
+) -> Result<(LogRead, T), Unread>
+    requires { T.taken taker ≡ [] }
+    ensures ok { IfOk result (λ read. ReadsNamed (map (source_of S.remaining) segments.items)
+        (T.taken read.1) read.0.segments.items (fault_in read.0.damage)) }
+    ensures fixed { IfOk result (λ read. T.fixed read.1 ≡ T.fixed taker) }
+    ensures sure { AreSure (map (source_of S.is_sure) segments.items)
+        → (u : Unread) → result ≡ Err u → u.error ≡ Failed → ⊥ }
+{
+    if segments.is_empty() {
+        return Ok((nothing_read(alloc), taker));
+    }
+    let names = names_of(alloc, &segments)?;
+    let mut log = Queue::new(segments);
+    match read_rows(alloc, &mut log, true, &names, taker) {
+        Ok(read) => Ok(read),
+        Err(SegmentError::Unreadable(error)) => Err(unread_of(&log, error)),
+        // Readers lack no segment.
+        Err(SegmentError::Missing(_)) => unreachable!(),
+    }
 }

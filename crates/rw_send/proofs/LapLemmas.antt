@@ -3,12 +3,12 @@ use Rattle.std.proofs.Common.{◌≡◌, ◌<◌, ◌⊎◌, inl, inr, ℕ, zero
 use Rattle.std.proofs.lemmas.List.{length-take-le}
 use Rattle.rw_types.proofs.shared.BeginningLemmas.{begins_twice}
 use Rattle.rw_wal_format.specs.Pieces.{next_segment}
-use Rattle.rw_follow.specs.Meals.{Meal, with_next}
+use Rattle.rw_follow.specs.Meals.{Meal, no_meal, with_next}
 use Rattle.rw_follow.specs.Turns.{FitsBuffer, given_by}
 use Rattle.rw_follow.specs.declared.follower.Turn.{Turn}
 use Rattle.rw_follow.specs.declared.follower.Turn.TheVariants as turn
 use Rattle.rw_sender.specs.Shipping.{Shipping}
-use Rattle.rw_send.specs.Segments.{meal_of, no_meal}
+use Rattle.rw_send.specs.Segments.{meal_of}
 use Rattle.rw_send.specs.Steps.{HasComeTo, HasLapped, IsLap, StaysOpen}
 use Rattle.rw_send.specs.inner.Turns.{IsDone, IsUndone}
 use Rattle.rw_send.proofs.StepLemmas.{stays_on}

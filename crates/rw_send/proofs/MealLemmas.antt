@@ -3,12 +3,12 @@ use Rattle.std.proofs.Common.{◌≡◌, ◌⊎◌, inl, inr, List, ℕ, [], ◌
 use Rattle.rw_types.specs.Beginnings.{Begins}
 use Rattle.rw_types.proofs.shared.BeginningLemmas.{begins_itself}
 use Rattle.rw_wal_format.specs.Pieces.{Piece, bytes, next_segment}
-use Rattle.rw_follow.specs.Meals.{Meal, with_next, with_piece}
+use Rattle.rw_follow.specs.Meals.{Meal, no_meal, with_next, with_piece}
 use Rattle.rw_sender.specs.Feeders.{Sorting}
 use Rattle.rw_sender.specs.Shipping.{Joins}
 use Rattle.rw_sender.specs.declared.shipper.FeedFault.{FeedFault}
 use Rattle.rw_sender.specs.declared.shipper.FeedFault.TheVariants as feed
-use Rattle.rw_send.specs.Segments.{meal_after, meal_of, no_meal}
+use Rattle.rw_send.specs.Segments.{meal_after, meal_of}
 
 -- a refused piece has joined or not
 pub joins_or_not : (old new : Sorting) (p : Piece) (e : FeedFault) → Joins old new p (Err e) → (new.pieces ≡ old.pieces) ⊎ (new.pieces ≡ old.pieces ++ p ∷ [])

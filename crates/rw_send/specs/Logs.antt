@@ -1,9 +1,8 @@
 -- What is known of a log that was shipped.
 use Rattle.std.specs.Prelude.{◌≡◌, ◌⊎◌, ℕ, ◌<◌, Bool, List, length, Option}
-use Rattle.rw_follow.specs.Meals.{Meal, with_next, with_piece}
+use Rattle.rw_follow.specs.Meals.{Meal, no_meal, with_next, with_piece}
 use Rattle.rw_follow.specs.Queues.{AreAllRead, AreRead, MayFail}
 use Rattle.rw_types.specs.declared.transfer.ReadFault.{ReadFault}
-use Rattle.rw_send.specs.Segments.{no_meal}
 
 -- What was read of it, whether that was all when it was last looked at, which segments are missing,
 -- and how its calls may fail.

@@ -1,16 +1,13 @@
 -- The pieces of a log that is in several segments.
 use Rattle.std.specs.Prelude.{◌≡◌, ◌≤◌, ◌-◌, List, [], ◌∷◌, length, take, None, ⊤}
 use Rattle.rw_wal_format.specs.Pieces.{Piece, bytes, next_segment, fault}
-use Rattle.rw_follow.specs.Meals.{Meal, with_next, with_piece}
+use Rattle.rw_follow.specs.Meals.{Meal, no_meal, with_next, with_piece}
 
 -- what these pieces make: the bytes between two ends of segments, joined; here after some
 abbrev pub meal_after : Meal → List Piece → Meal
 meal_after meal [] = meal
 meal_after meal (bytes b ∷ pieces) = meal_after (with_piece meal b) pieces
 meal_after meal (next_segment ∷ pieces) = meal_after (with_next meal) pieces
-
-abbrev pub no_meal : Meal
-no_meal = record { whole = []; begun = [] }
 
 abbrev pub meal_of : List Piece → Meal
 meal_of pieces = meal_after no_meal pieces

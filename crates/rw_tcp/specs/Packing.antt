@@ -3,8 +3,8 @@ use Rattle.std.specs.Prelude.{◌≡◌, ◌≢◌, ◌⊎◌, ℕ, List}
 use Rattle.rw_shard_core.specs.SentRequest.{request_of, CarriesInBlock}
 use Rattle.rw_shard_core.specs.declared.config.Target.{Target}
 
--- They are those of its body in a block that decodes to it; a request that is none to this target
--- is written as it is.
+-- They are those of its body in a block that decodes to it. Bytes that are not a request to this
+-- target are written as they are.
 abbrev pub IsPacked : Target → List ℕ → List ℕ → Type 0
 IsPacked target request bytes =
     CarriesInBlock target.host target.path request bytes

@@ -40,8 +40,8 @@ impl<'a> InputCommand<'a> {
         }
     }
 
-    /// Reports how the command ended that wrote to a folder or, if there is none, to standard
-    /// output. Returns the exit status.
+    /// Reports how a command ended that wrote to a folder or, without one, to standard output.
+    /// Returns the exit status.
     fn end(&self, dir: Option<&str>, outcome: Result<(), ToolFault>) -> ExitCode {
         report_input_result(self.rt, &self.input, dir, outcome)
     }

@@ -3,13 +3,14 @@
 
 use crate::input::Reader;
 use crate::log_fault::{LogFault, has_output_failed, print_lines, report_run_fault};
-use crate::log_files::{fault_of_folder, files_of, names_of, note_checkpoint, note_empty};
+use crate::log_files::{files_of, names_of, note_checkpoint, note_empty};
 use crate::program_end::{report_missing, report_output_fault, report_unread_input};
 use rw_cli::LogDir;
+use rw_follow::Queue;
 use rw_inspect::{Report, fault_lines, find_entries, inspect, json_of, table_of};
 use rw_log_commands::plan_log;
 use rw_log_folder::{Opened, SegmentFile};
-use rw_log_read::{Named, SegmentList, SkippedRecords};
+use rw_log_read::{Named, SkippedRecords};
 use rw_settings::Settings;
 use rw_text::ToolFault;
 use rw_types::{Std, write_all};
@@ -88,10 +89,7 @@ impl<'a> LogCommand<'a> {
     /// Returns the files of the log. That there is none is reported as `note_empty` does.
     fn files(&self) -> Result<LogFiles, LogFault> {
         let alloc = self.rt.alloc();
-        let sources = match files_of(self.rt, self.dir, None) {
-            Ok(sources) => sources,
-            Err(fault) => return Err(LogFault::from(fault_of_folder(fault))),
-        };
+        let sources = files_of(self.rt, self.dir, None)?;
         if sources.is_empty() {
             note_empty(self.rt, self.dir, self.is_explained);
         }
@@ -109,10 +107,7 @@ impl<'a> LogCommand<'a> {
     /// Prints what the segments hold. A fault of the log is printed at the end, and returned.
     fn print_inspected(&mut self, json: bool) -> Result<(), LogFault> {
         let LogFiles { files, names } = self.files()?;
-        let report = match inspect(self.rt.alloc(), files) {
-            Ok(report) => report,
-            Err(fault) => return Err(LogFault::from(ToolFault::from(fault))),
-        };
+        let report = inspect(self.rt.alloc(), files)?;
         print_report(self.rt, &report, json, &mut self.output)?;
         match report.damage {
             Some(damage) => Err(LogFault::of_damage(names, damage)),
@@ -124,10 +119,7 @@ impl<'a> LogCommand<'a> {
     /// printed at the end, and returned.
     fn print_found(&mut self, positions: Vec<u64>) -> Result<u64, LogFault> {
         let LogFiles { files, names } = self.files()?;
-        let found = match find_entries(self.rt.alloc(), files, positions) {
-            Ok(found) => found,
-            Err(fault) => return Err(LogFault::from(ToolFault::from(fault))),
-        };
+        let found = find_entries(self.rt.alloc(), files, positions)?;
         print_text(&mut self.output, &found.text)?;
         match found.damage {
             Some(damage) => Err(LogFault::of_damage(names, damage)),
@@ -138,11 +130,18 @@ impl<'a> LogCommand<'a> {
     /// Prints the plan of the segments.
     fn print_plan(&mut self, settings: Settings) -> Result<(), LogFault> {
         let LogFiles { files, names } = self.files()?;
-        let mut log = SegmentList::new(files);
+        let mut log = Queue::new(files);
         let choice = settings.config.into_fields().into_choice();
-        match plan_log(self.rt.alloc(), &mut log, &mut self.output, choice)? {
-            Some(damage) => Err(LogFault::of_damage(names, damage)),
-            None => Ok(()),
+        match plan_log(self.rt.alloc(), &mut log, &mut self.output, choice) {
+            Ok(Some(damage)) => Err(LogFault::of_damage(names, damage)),
+            Ok(None) => Ok(()),
+            Err(fault) => {
+                let file = match log.current() {
+                    Some(segment) => Some(segment.name.clone()?),
+                    None => None,
+                };
+                Err(LogFault::at_file(fault, file))
+            }
         }
     }
 
@@ -190,7 +189,10 @@ pub fn inspect_segment(rt: &HostRuntime, source: Reader<'_>) -> Result<Report, T
     let name = String::from_str(rt.alloc(), "-")?;
     let mut one = Vec::with_capacity(rt.alloc(), 1)?;
     one.push_reserved(Named { name, source });
-    Ok(inspect(rt.alloc(), one)?)
+    match inspect(rt.alloc(), one) {
+        Ok(report) => Ok(report),
+        Err(unread) => Err(ToolFault::from(unread.error)),
+    }
 }
 
 /// Prints where the log of a report has a fault, and what to do, if it has one.

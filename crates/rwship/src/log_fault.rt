@@ -1,41 +1,38 @@
 //! Why the log in a folder could not be read to its end, and what is printed about that.
 
-use crate::log_files::files_of;
 use crate::program_end::{print_device_error, report_follow_fault, report_output_fault};
 use rw_cli::LogDir;
 use rw_inspect::fault_lines;
-use rw_log_folder::{FolderFault, Opened, SegmentFile};
-use rw_send::{FollowFault, RunFault};
+use rw_log_folder::FolderFault;
+use rw_log_read::Unread;
+use rw_send::FollowFault;
 use rw_text::ToolFault;
 use rw_types::{Sink, Std};
 use rw_wal_tail::{Damage, FaultPlace, TailFault};
-use std::alloc::{AllocError, Global};
+use std::alloc::AllocError;
 use std::fs;
 use std::io::{Error, Read};
 use std::path::Path;
 use std::process::ExitCode;
 use std::rt::Stdout;
 
-/// Where a log has a fault.
-#[derive(Debug, Drop)]
-pub struct Spot {
-    /// The file, by its path in the folder.
-    pub file: String,
-    /// The offset in it, in bytes.
-    pub offset: u64,
-}
-
 /// Why the log in a folder was not read to its end.
 #[derive(Debug, Drop)]
 pub struct LogFault {
     pub fault: FollowFault,
-    /// Where it is, if it is a fault of the log.
-    pub spot: Option<Spot>,
+    /// The file that has a fault of the log, or that could not be read, by its path in the folder.
+    pub file: Option<String>,
+    /// The offset of a fault of the log in its file, in bytes.
+    pub offset: u64,
 }
 
 impl From<FollowFault> for LogFault {
     fn from(fault: FollowFault) -> LogFault {
-        LogFault { fault, spot: None }
+        LogFault {
+            fault,
+            file: None,
+            offset: 0,
+        }
     }
 }
 
@@ -51,35 +48,57 @@ impl From<AllocError> for LogFault {
     }
 }
 
-/// Returns the spot at a place of a log whose segments have these names.
-fn spot_in(names: Vec<String>, place: Option<FaultPlace>) -> Option<Spot> {
-    let Some(place) = place else {
-        return None;
-    };
+impl From<Unread> for LogFault {
+    fn from(unread: Unread) -> LogFault {
+        LogFault::at_file(ToolFault::from(unread.error), unread.file)
+    }
+}
+
+impl From<FolderFault> for LogFault {
+    fn from(fault: FolderFault) -> LogFault {
+        match fault {
+            FolderFault::OutOfMemory => LogFault::from(ToolFault::OutOfMemory),
+            FolderFault::Missing(number) => LogFault::from(FollowFault::Missing(number)),
+            FolderFault::Unreadable => LogFault::from(ToolFault::Device),
+            FolderFault::Closed(name) => LogFault::at_file(ToolFault::Device, Some(name)),
+        }
+    }
+}
+
+/// Returns the name at an index.
+fn name_at(names: Vec<String>, at: u64) -> Option<String> {
     let mut names = names;
-    if place.segment >= names.len() as u64 {
+    if at >= names.len() as u64 {
         return None;
     }
-    Some(Spot {
-        file: names.swap_remove(place.segment as usize),
-        offset: place.offset,
-    })
+    Some(names.swap_remove(at as usize))
 }
 
 impl LogFault {
-    /// Returns the fault of a log with this damage, whose segments have these names.
-    pub fn of_damage(names: Vec<String>, damage: Damage) -> LogFault {
+    /// Returns a fault of a file.
+    pub fn at_file(fault: ToolFault, file: Option<String>) -> LogFault {
         LogFault {
-            fault: FollowFault::Tool(ToolFault::Log(damage.fault)),
-            spot: spot_in(names, damage.place),
+            fault: FollowFault::Tool(fault),
+            file,
+            offset: 0,
         }
     }
 
-    /// Returns the fault of a run over a log whose segments have these names.
-    pub fn of_run(names: Vec<String>, ended: RunFault) -> LogFault {
+    /// Returns a fault at a place of a log whose segments have these names.
+    pub fn at_place(names: Vec<String>, fault: FollowFault, place: FaultPlace) -> LogFault {
         LogFault {
-            fault: ended.fault,
-            spot: spot_in(names, ended.place),
+            fault,
+            file: name_at(names, place.segment),
+            offset: place.offset,
+        }
+    }
+
+    /// Returns the fault of a log with this damage, whose segments have these names.
+    pub fn of_damage(names: Vec<String>, damage: Damage) -> LogFault {
+        let fault = FollowFault::Tool(ToolFault::Log(damage.fault));
+        match damage.place {
+            Some(place) => LogFault::at_place(names, fault, place),
+            None => LogFault::from(fault),
         }
     }
 }
@@ -93,23 +112,23 @@ pub fn print_lines(rt: &HostRuntime, text: &[u8]) {
     }
 }
 
-/// Returns the lines about a fault of the log in a folder.
+/// Returns the lines about a fault of the log in a folder, which is in this file at this offset.
 fn spot_lines(
     rt: &HostRuntime,
     dir: LogDir<'_>,
     fault: TailFault,
-    spot: &Spot,
+    file: &str,
+    offset: u64,
 ) -> Result<Vec<u8>, AllocError> {
-    let file = spot.file.as_str();
     let path = Path::new(dir.path).join(rt.alloc(), file)?;
     let bytes = match fs::metadata(rt, path.as_path()) {
         Ok(metadata) => metadata.len(),
-        Err(_) => spot.offset,
+        Err(_) => offset,
     };
-    fault_lines(rt.alloc(), fault, file, bytes, spot.offset)
+    fault_lines(rt.alloc(), fault, file, bytes, offset)
 }
 
-/// Returns why a file cannot be opened, or its first byte not be read, if that is so.
+/// Returns what the system says of a file that could not be read.
 fn read_error(rt: &HostRuntime, path: &str) -> Option<Error> {
     match fs::open(rt, path) {
         Ok(file) => {
@@ -120,58 +139,36 @@ fn read_error(rt: &HostRuntime, path: &str) -> Option<Error> {
     }
 }
 
-/// Prints why a file of a folder cannot be read, and returns whether that is so.
-fn print_closed(rt: &HostRuntime, dir: LogDir<'_>, name: &str) -> Result<bool, AllocError> {
+/// Prints which file of a folder could not be read and, if it says so now, what the system says.
+fn print_unread(rt: &HostRuntime, dir: LogDir<'_>, name: &str) -> Result<(), AllocError> {
     let path = Path::new(dir.path).join(rt.alloc(), name)?;
-    match read_error(rt, path.as_path().as_str()) {
-        None => Ok(false),
-        Some(error) => {
-            print_device_error(rt, "read", path.as_path().as_str(), &error);
-            Ok(true)
-        }
-    }
-}
-
-/// Prints the first of the files of a folder that cannot be read.
-fn print_first_closed(
-    rt: &HostRuntime,
-    dir: LogDir<'_>,
-    files: Vec<Opened<SegmentFile<HostRuntime>>>,
-) -> Result<(), AllocError> {
-    for file in files {
-        if print_closed(rt, dir, file.place().name())? {
-            return Ok(());
+    let path = path.as_path().as_str();
+    match read_error(rt, path) {
+        Some(error) => print_device_error(rt, "read", path, &error),
+        None => {
+            let _ = eprintln!(rt; "  cannot read {path}");
         }
     }
     Ok(())
 }
 
-/// Prints what in a folder cannot be read; this is found by a second try.
-fn print_unreadable(rt: &HostRuntime, dir: LogDir<'_>) {
-    match files_of(rt, dir, None) {
-        Ok(files) => {
-            let _ = print_first_closed(rt, dir, files);
+/// Prints what is wrong with the log in a folder that could not be read because of this fault. A
+/// device that failed at no file is the folder.
+fn explain(rt: &HostRuntime, dir: LogDir<'_>, fault: &LogFault) {
+    match (fault.fault, &fault.file) {
+        (FollowFault::Tool(ToolFault::Log(found)), Some(file)) => {
+            if let Ok(lines) = spot_lines(rt, dir, found, file.as_str(), fault.offset) {
+                print_lines(rt, &lines);
+            }
         }
-        Err(FolderFault::Closed(name)) => {
-            let _ = print_closed(rt, dir, name.as_str());
+        (FollowFault::Tool(ToolFault::Device), Some(file)) => {
+            let _ = print_unread(rt, dir, file.as_str());
         }
-        Err(_) => {
+        (FollowFault::Tool(ToolFault::Device), None) => {
             if let Err(error) = fs::read_dir(rt, dir.path) {
                 print_device_error(rt, "read", dir.path, &error);
             }
         }
-    }
-}
-
-/// Prints what is wrong with the log in a folder that could not be read because of this fault.
-fn explain(rt: &HostRuntime, dir: LogDir<'_>, fault: &LogFault) {
-    match (fault.fault, &fault.spot) {
-        (FollowFault::Tool(ToolFault::Log(fault)), Some(spot)) => {
-            if let Ok(lines) = spot_lines(rt, dir, fault, spot) {
-                print_lines(rt, &lines);
-            }
-        }
-        (FollowFault::Tool(ToolFault::Device), _) => print_unreadable(rt, dir),
         _ => {}
     }
 }

@@ -5,8 +5,6 @@ use rw_log_folder::{
     FolderFault, Gap, Opened, SegmentFile, has_checkpoint, log_files, segment_files,
 };
 use rw_metrics::SendCounters;
-use rw_send::FollowFault;
-use rw_text::ToolFault;
 use std::alloc::{AllocError, Global};
 use std::io::IsTerminal;
 use std::sync::Arc;
@@ -21,15 +19,6 @@ pub fn files_of(
         log_files(rt, dir.path, counters)
     } else {
         segment_files(rt, dir.path, counters)
-    }
-}
-
-/// Returns the fault of a log whose files cannot be listed or opened.
-pub fn fault_of_folder(fault: FolderFault) -> FollowFault {
-    match fault {
-        FolderFault::OutOfMemory => FollowFault::Tool(ToolFault::OutOfMemory),
-        FolderFault::Missing(number) => FollowFault::Missing(number),
-        FolderFault::Unreadable | FolderFault::Closed(_) => FollowFault::Tool(ToolFault::Device),
     }
 }
 

@@ -3,10 +3,9 @@
 use crate::destination::destination_of;
 use crate::drops::explain_drops;
 use crate::live_report::{begin_reporting, end_reporting};
-use crate::log_fault::{LogFault, Spot, log_fault, report_run_fault};
+use crate::log_fault::{LogFault, log_fault, report_run_fault};
 use crate::log_files::{
-    fault_of_folder, files_of, names_of, note_checkpoint, note_empty, note_gaps,
-    passes_checkpoint_over,
+    files_of, names_of, note_checkpoint, note_empty, note_gaps, passes_checkpoint_over,
 };
 use crate::program_end::{
     empty_status, gap_status, print_device_error, report_dropped, report_misplaced, report_result,
@@ -18,7 +17,7 @@ use rw_cli::{Following, Reading, Sending, SettingsFile};
 use rw_follow::{Queue, Timed, ToTheEnd};
 use rw_log_folder::{Folder, FolderFault, Opened, SegmentFile, check_folder, watch_newest_segment};
 use rw_metrics::{Counters, SendCounters, show_stalls};
-use rw_send::{FollowFault, RunFault, SendOptions, StopFlag, TcpConnect, run_follow};
+use rw_send::{RunFault, SendOptions, StopFlag, TcpConnect, run_follow};
 use rw_settings::Settings;
 use rw_tcp::look_up;
 use rw_text::{Address, ToolFault};
@@ -78,19 +77,38 @@ fn new_counters(rt: &HostRuntime) -> Result<Arc<SendCounters, Global>, AllocErro
     Ok(Arc::new(rt.alloc(), counters)?)
 }
 
+/// Returns why a run over the files of a folder, which have these names, ended, with the file of a
+/// fault.
+fn fault_of(
+    alloc: Global,
+    files: &Queue<Opened<SegmentFile<HostRuntime>>>,
+    names: Vec<String>,
+    ended: RunFault,
+) -> Result<LogFault, AllocError> {
+    let mut fault = match ended.place {
+        Some(place) => return Ok(LogFault::at_place(names, ended.fault, place)),
+        None => LogFault::from(ended.fault),
+    };
+    if let Some(file) = files.current() {
+        fault.file = Some(String::from_str(alloc, file.place().name())?);
+    }
+    Ok(fault)
+}
+
 /// Returns why a run over a growing folder ended, with the file of a fault.
 fn fault_in(
-    rt: &HostRuntime,
-    folder: &Folder<HostRuntime>,
+    alloc: Global,
+    folder: Folder<HostRuntime>,
     ended: RunFault,
 ) -> Result<LogFault, AllocError> {
     let mut fault = LogFault::from(ended.fault);
-    if let Some(place) = ended.place {
-        if let Some(name) = folder.name_of(place.segment) {
-            let file = String::from_str(rt.alloc(), name)?;
-            let offset = place.offset;
-            fault.spot = Some(Spot { file, offset });
-        }
+    let Some(place) = ended.place else {
+        fault.file = folder.into_unread();
+        return Ok(fault);
+    };
+    if let Some(name) = folder.name_of(place.segment) {
+        fault.file = Some(String::from_str(alloc, name)?);
+        fault.offset = place.offset;
     }
     Ok(fault)
 }
@@ -231,7 +249,7 @@ impl<R: Threads + Wait + Clock + Copy + Send + 'static> Sender<'_, R> {
         &mut self,
         addresses: Vec<SocketAddr>,
         settings: &Settings,
-    ) -> Result<Shipment, FollowFault> {
+    ) -> Result<Shipment, LogFault> {
         let counters = self.begin_counting()?;
         match self.shipment(addresses, settings, &counters) {
             Ok(shipment) => Ok(shipment),
@@ -240,7 +258,7 @@ impl<R: Threads + Wait + Clock + Copy + Send + 'static> Sender<'_, R> {
                     let _ = write_all(&mut self.output, NOTHING_READ);
                 }
                 end_reporting(self.rt, &self.sending.reporting, &Counters::Send(counters));
-                Err(fault_of_folder(fault))
+                Err(LogFault::from(fault))
             }
         }
     }
@@ -268,10 +286,7 @@ impl<R: Threads + Wait + Clock + Copy + Send + 'static> Sender<'_, R> {
         match look_up(rt, rt.alloc(), to.name(), to.port) {
             Ok(addresses) => match self.prepare(addresses, settings) {
                 Ok(shipment) => Ok(shipment),
-                Err(fault) => {
-                    let fault = LogFault::from(fault);
-                    Err(log_fault(rt, dir, &fault, self.is_explained))
-                }
+                Err(fault) => Err(log_fault(rt, dir, &fault, self.is_explained)),
             },
             Err(error) => Err(self.report_lookup_error(&error)),
         }
@@ -314,7 +329,7 @@ impl<R: Threads + Wait + Clock + Copy + Send + 'static> Sender<'_, R> {
                     threads, alloc, settings, &mut files, options, &mut end, output,
                 ) {
                     Ok(()) => Ok(()),
-                    Err(ended) => Err(LogFault::of_run(names, ended)),
+                    Err(ended) => Err(fault_of(alloc, &files, names, ended)?),
                 }
             }
             Log::Growing(mut folder, mut watch) => {
@@ -328,7 +343,7 @@ impl<R: Threads + Wait + Clock + Copy + Send + 'static> Sender<'_, R> {
                     output,
                 ) {
                     Ok(()) => Ok(()),
-                    Err(ended) => Err(fault_in(self.rt, &folder, ended)?),
+                    Err(ended) => Err(fault_in(alloc, folder, ended)?),
                 }
             }
         }

@@ -252,19 +252,25 @@ fn is_fault(rt: &HostRuntime, dir: &str, closed: Option<&str>) -> bool {
     }
 }
 
-/// Returns whether following the log in a folder fails.
-fn is_unreadable(rt: &HostRuntime, dir: &str) -> Result<bool, AllocError> {
+/// Returns whether following the log in a folder fails, at the file of this name if one is given.
+fn is_unreadable(rt: &HostRuntime, dir: &str, unread: Option<&str>) -> Result<bool, AllocError> {
     let alloc = rt.alloc();
     let mut text = Vec::new(alloc);
     let counters = Arc::new(alloc, SendCounters::new(alloc)?)?;
     let mut folder = Folder::from_checkpoint(*rt, String::from_str(alloc, dir)?, counters);
-    Ok(follow(&mut folder, &mut text).is_err())
+    let is_err = follow(&mut folder, &mut text).is_err();
+    Ok(match (folder.into_unread(), unread) {
+        (Some(name), Some(unread)) => is_err && name.as_str() == unread,
+        (None, None) => is_err,
+        _ => false,
+    })
 }
 
 #[test]
 fn what_cannot_be_read_is_no_empty_log(rt: HostRuntime) -> Result<(), Fail> {
     let dir = make_folder(&rt, "rwship-a-checkpoint-that-is-no-folder", &NO_FOLDER)?;
-    let is_so = is_unreadable(&rt, dir.as_str())? && is_unreadable(&rt, "/no such folder")?;
+    let is_so = is_unreadable(&rt, dir.as_str(), None)?
+        && is_unreadable(&rt, "/no such folder", None)?;
     let is_reported = is_fault(&rt, dir.as_str(), None) && is_fault(&rt, "/no such folder", None);
     fs::remove_dir_all(&rt, dir.as_path())?;
     assert!(rt; is_so && is_reported);
@@ -287,10 +293,29 @@ fn a_checkpoint_that_goes_before_it_is_opened_is_a_fault(rt: HostRuntime) -> Res
         .as_path()
         .join(rt.alloc(), "checkpoint.00000003/00000000")?;
     symlink(&rt, "nowhere", file.as_path())?;
-    let is_so = is_unreadable(&rt, dir.as_str())?;
-    let is_reported = is_fault(&rt, dir.as_str(), Some("checkpoint.00000003/00000000"));
+    let unread = Some("checkpoint.00000003/00000000");
+    let is_so = is_unreadable(&rt, dir.as_str(), unread)?;
+    let is_reported = is_fault(&rt, dir.as_str(), unread);
     fs::remove_dir_all(&rt, dir.as_path())?;
     assert!(rt; is_so && is_reported);
+    Ok(())
+}
+
+/// A folder can be opened as a file is, and its first read fails.
+static NO_FILE: Row = Row {
+    name: "a segment that is a folder",
+    folders: &["00000004"],
+    files: &[],
+    text: "",
+    missing: None,
+};
+
+#[test]
+fn a_segment_that_is_a_folder_is_named(rt: HostRuntime) -> Result<(), Fail> {
+    let dir = make_folder(&rt, "rwship-a-segment-that-is-a-folder", &NO_FILE)?;
+    let is_so = is_unreadable(&rt, dir.as_str(), Some("00000004"))?;
+    fs::remove_dir_all(&rt, dir.as_path())?;
+    assert!(rt; is_so);
     Ok(())
 }
 

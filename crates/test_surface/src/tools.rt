@@ -38,6 +38,7 @@ pub fn of_folders<R: Files<File = File> + AllocGlobal + Copy>() {
     let _ = (
         Folder::<R>::new,
         Folder::<R>::name_of,
+        Folder::<R>::into_unread,
         Folder::<R>::from_checkpoint,
         segment_files::<R>,
     );

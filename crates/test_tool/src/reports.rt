@@ -1,13 +1,14 @@
 //! Reports of two segments, and of one that is damaged.
 
 use crate::rows::{holds, none_is_wrong};
+use rw_follow::Queue;
 use rw_inspect::{Report, find_entries, inspect, json_of, table_of};
 use rw_log_commands::plan_log;
-use rw_log_read::{Named, SegmentList};
+use rw_log_read::{Named, Unread};
 use rw_relabel::Choice;
 use rw_test_parts::raw_labels;
 use rw_text::ToolFault;
-use rw_types::{ReadFault, Room, Word};
+use rw_types::{Room, Word};
 use rw_wal_tail::{Damage, FaultPlace, TailFault};
 use rw_wal_write::{SegmentWriter, sample_record, series_record};
 use std::alloc::{AllocError, Global};
@@ -60,7 +61,7 @@ fn both<'a>(
 }
 
 /// Returns the report of two segments.
-fn report_of(alloc: Global, first: &[u8], second: &[u8]) -> Result<Report, ReadFault> {
+fn report_of(alloc: Global, first: &[u8], second: &[u8]) -> Result<Report, Unread> {
     inspect(alloc, both(alloc, first, second)?)
 }
 
@@ -105,7 +106,7 @@ const DAMAGED: &str = "\
 ";
 
 /// Returns the reports of both segments, and of the first with its last byte changed.
-fn texts(alloc: Global) -> Result<(Vec<u8>, Vec<u8>, Vec<u8>), ReadFault> {
+fn texts(alloc: Global) -> Result<(Vec<u8>, Vec<u8>, Vec<u8>), Unread> {
     let mut first = segment_of(alloc, &FIRST)?;
     let second = segment_of(alloc, &SECOND)?;
     let report = report_of(alloc, &first, &second)?;
@@ -143,7 +144,7 @@ fn plan_of(
     second: &[u8],
 ) -> Result<(Vec<u8>, Result<Option<Damage>, ToolFault>), AllocError> {
     let mut writer = Room::new(alloc, 4096)?;
-    let mut log = SegmentList::new(both(alloc, first, second)?);
+    let mut log = Queue::new(both(alloc, first, second)?);
     let outcome = plan_log(alloc, &mut log, &mut writer, Choice::legacy(alloc));
     Ok((writer.into_bytes(), outcome))
 }
@@ -188,7 +189,7 @@ const FOUND: &str = "4 \"1 series 3 {\"9\"=\"a\"}
 ";
 
 /// Returns what is found at the positions, how many do not exist, and whether the log is damaged.
-fn found_in(alloc: Global) -> Result<(Vec<u8>, u64, bool), ReadFault> {
+fn found_in(alloc: Global) -> Result<(Vec<u8>, u64, bool), Unread> {
     let first = segment_of(alloc, &FIRST)?;
     let second = segment_of(alloc, &SECOND)?;
     let segments = both(alloc, &first, &second)?;
@@ -238,7 +239,7 @@ fn alone(alloc: Global, text: &[u8]) -> Result<Vec<Named<&[u8]>>, AllocError> {
 }
 
 /// Returns the report of a segment.
-fn report_of_one(alloc: Global, text: &[u8]) -> Result<Report, ReadFault> {
+fn report_of_one(alloc: Global, text: &[u8]) -> Result<Report, Unread> {
     inspect(alloc, alone(alloc, text)?)
 }
 

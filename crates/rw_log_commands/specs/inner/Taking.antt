@@ -2,19 +2,28 @@
 -- proofs use them.
 use Rattle.std.specs.Prelude.{◌≡◌, ℕ, List, [], ◌∷◌, Bool, true, Option}
 use Rattle.std.specs.Io.KnownBytes.{Consumes, IsAtEnd}
+use Rattle.rw_follow.specs.Meals.{Meal}
+use Rattle.rw_follow.specs.Queues.{AreRead}
 use Rattle.rw_wal_format.specs.Pieces.{bytes, fault}
 use Rattle.rw_wal_format.specs.declared.tail_fault.TailFault.{TailFault}
 use Rattle.rw_text.specs.declared.tool_fault.ToolFault.{ToolFault}
 use Rattle.rw_text.specs.declared.tool_fault.ToolFault.TheVariants.{OutOfMemory, Log, Line, SegmentFull, Device}
 use Rattle.rw_log_commands.specs.Taking.{ReadsLogToFault, ReadsToFault}
 
--- why a log is not read to its end, by devices that may fail or not, and then have failed or not
-abbrev pub StopsLog : List (Option (List ℕ)) → List (Option (List ℕ)) → Bool → Bool → ToolFault → Type 0
-StopsLog before after is_sure failed OutOfMemory = Unit {0}
-StopsLog before after is_sure failed (Log f) = ReadsLogToFault f before after
-StopsLog before after is_sure failed (Line line) = ⊥
-StopsLog before after is_sure failed SegmentFull = ⊥
-StopsLog before after is_sure failed Device = (is_sure ≡ true → ⊥) × (failed ≡ true)
+-- what a command says of a log of which this was read and that has this fault
+abbrev pub SaysFault : (Meal → Type 0) → ToolFault → Type 0
+SaysFault gave OutOfMemory = Unit {0}
+SaysFault gave (Log f) = ReadsLogToFault f gave
+SaysFault gave (Line line) = ⊥
+SaysFault gave SegmentFull = ⊥
+SaysFault gave Device = ⊥
+
+-- what is read of a log of one segment, which had this left and has that left now, and what all is
+abbrev pub of_one : Option (List ℕ) → Option (List ℕ) → Meal → Type 0
+of_one before after meal = AreRead (before ∷ []) meal.whole meal.begun (after ∷ [])
+
+abbrev pub all_of_one : Option (List ℕ) → Option (List ℕ) → Meal → Type 0
+all_of_one before after meal = of_one before after meal × IsAtEnd after
 
 -- a segment was read to the end, and it has a fault, or none
 pub record ReadsSegment (has : Option TailFault) (left_before left_after : Option (List ℕ)) (segment : List ℕ) : Type 0 where

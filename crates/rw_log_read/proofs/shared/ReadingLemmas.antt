@@ -1,9 +1,7 @@
 -- A segment, piece by piece.
-use Rattle.std.proofs.Common.{◌≡◌, ℕ, ◌+◌, ◌<◌, List, [], ◌∷◌, ◌++◌, length, false, Bool, true, Option, Some, None, Result, Ok, Err, refl, sym, ap, ◌∙◌, subst, append_assoc, append-nil, length-append, arith}
-use Rattle.std.specs.Prelude.{is_some}
-use Rattle.std.specs.Result.{IsErrAnd}
-use Rattle.std.specs.Io.KnownBytes.{Consumes, IsAtEnd}
-use Rattle.std.proofs.KnownBytes.{Consumes-trans, Consumes-nil}
+use Rattle.std.proofs.Common.{◌≡◌, ℕ, ◌+◌, List, [], ◌∷◌, ◌++◌, length, false, Bool, true, Option, Some, None, refl, sym, ap, ◌∙◌, subst, append_assoc, append-nil, length-append, arith}
+use Rattle.std.specs.Prelude.{IsSome, is_some, take}
+use Rattle.rw_follow.specs.Meals.{Meal, with_piece}
 use Rattle.rw_types.specs.Beginnings.{Begins}
 use Rattle.rw_types.specs.declared.entry.Entry.{Entry}
 use Rattle.rw_wal_format.specs.Pieces.{Piece, bytes, next_segment, page_size, reading, reading_after, then_next}
@@ -11,9 +9,8 @@ use Rattle.rw_wal_format.specs.Segments.{segment}
 use Rattle.rw_wal_format.specs.declared.tail_fault.TailFault.{TailFault}
 use Rattle.rw_wal_tail.specs.Fed.{Fed}
 use Rattle.rw_wal_tail.specs.Taking.{HasTaken, HasTakenAll, TakesAll}
-use Rattle.rw_log_read.specs.Left.{current, later}
-use Rattle.rw_log_read.specs.Reading.{IsReadToEnd}
-use Rattle.rw_log_read.specs.inner.Reading.{AreFed, FeedsMore, HasFed, ReadsText}
+use Rattle.rw_log_read.specs.declared.segment_text.TextRead.{TextRead}
+use Rattle.rw_log_read.specs.inner.Reading.{AreFed, FeedsMore, GivesMore, HasFed, ReadsText}
 use Rattle.rw_wal_format.proofs.shared.Growing.{cuts_after}
 
 -- what was taken grows
@@ -30,6 +27,25 @@ takes_grow at now mid after found all = (all.more, all.grows)
 pub all_taken : (at now : Fed) (mid after : List Entry) (found : Option TailFault) → TakesAll at now mid after found → HasTaken at mid → HasTakenAll now after found
 all_taken at now mid after found all h = subst (λ (es : List Entry). HasTakenAll now es found) (sym all.grows) (all.all mid h)
 
+-- ---- what was read of a log
+
+pub gives_none : {Start : Type 0} (old new : Start → Meal → Type 0) → ((start : Start) (meal : Meal) → old start meal → new start meal) → GivesMore old new []
+gives_none {Start} old new stays start meal h =
+    subst (λ (bs : List ℕ). new start (record { whole = meal.whole; begun = bs })) (sym (append-nil meal.begun)) (stays start meal h)
+
+pub gives_more : {Start : Type 0} (a b c : Start → Meal → Type 0) (x y : List ℕ) → GivesMore a b x → GivesMore b c y → GivesMore a c (x ++ y)
+gives_more {Start} a b c x y g h start meal is =
+    subst (λ (bs : List ℕ). c start (record { whole = meal.whole; begun = bs })) (append_assoc meal.begun x y) (h start (with_piece meal x) (g start meal is))
+
+pub gives_still : {Start : Type 0} (a b c : Start → Meal → Type 0) (x : List ℕ) → GivesMore a b x → ((start : Start) (meal : Meal) → b start meal → c start meal) → GivesMore a c x
+gives_still {Start} a b c x g h start meal is = h start (with_piece meal x) (g start meal is)
+
+-- a read that gives nothing
+pub gives_end : {Start : Type 0} (old new : Start → Meal → Type 0) (buf : List ℕ) (n : ℕ) → n ≡ 0 → ((start : Start) (meal : Meal) → old start meal → new start (with_piece meal (take n buf))) → GivesMore old new []
+gives_end {Start} old new buf n none gives start meal h = subst (λ (k : ℕ). new start (with_piece meal (take k buf))) none (gives start meal h)
+
+-- ---- pieces
+
 empty_piece : (page : ℕ) (text : List ℕ) (old later : List Piece) → reading_after page text (old ++ later) ≡ reading_after page text (old ++ bytes [] ∷ later)
 empty_piece page text [] later = ap (λ x. reading_after page x later) (sym (append-nil text))
 empty_piece page text (bytes c ∷ old) later = empty_piece page (text ++ c) old later
@@ -44,72 +60,122 @@ unfolding reading
 fed-more old new text b h later = rw (append_assoc new (bytes b ∷ []) later) (h (bytes b ∷ later) ∙ cuts_after page_size [] old text b later)
 
 -- before the first piece
-pub has_fed-none : (left : Option (List ℕ)) (t : Fed) (taken : List Entry) → HasTaken t taken → HasFed left left t t taken taken 0
-has_fed-none left t taken h = record { text = []; read = Consumes-nil left; counted = refl; same = fed-none t.pieces; taken = h; begins = begins_none taken }
+pub has_fed-none : {Start : Type 0} (gave : Start → Meal → Type 0) (t : Fed) (taken : List Entry) → HasTaken t taken → HasFed gave gave t t taken taken 0
+has_fed-none {Start} gave t taken h = record {
+  text = [];
+  read = gives_none gave gave (λ start meal is. is);
+  counted = refl;
+  same = fed-none t.pieces;
+  taken = h;
+  begins = begins_none taken;
+}
 
 -- one more piece
-pub has_fed-more : (a b c : Option (List ℕ)) (t at now new : Fed) (before mid after : List Entry) (found : Option TailFault) (n more sum : ℕ) → HasFed a b t at before mid n → TakesAll at now mid after found
+pub has_fed-more : {Start : Type 0} (a b c : Start → Meal → Type 0) (t at now new : Fed) (before mid after : List Entry) (found : Option TailFault) (n more sum : ℕ) → HasFed a b t at before mid n → TakesAll at now mid after found
     → now.pieces ≡ at.pieces → FeedsMore b c now new more → sum ≡ n + more → HasFed a c t new before after sum
-has_fed-more a b c t at now new before mid after found n more sum h all still fed up =
+has_fed-more {Start} a b c t at now new before mid after found n more sum h all still fed up =
     let pieces : new.pieces ≡ at.pieces ++ bytes fed.text ∷ [] = ap (λ (x : Fed). x.pieces) fed.fed ∙ ap (λ ps. ps ++ bytes fed.text ∷ []) still in
     let len = length-append h.text fed.text in
     record {
       text = h.text ++ fed.text;
-      read = Consumes-trans a b c h.text fed.text h.read fed.read;
+      read = gives_more a b c h.text fed.text h.read fed.read;
       counted = omega (arith, up, h.counted, fed.counted, len);
       same = subst (AreFed t.pieces (h.text ++ fed.text)) (sym pieces) (fed-more t.pieces at.pieces h.text fed.text h.same);
       taken = fed.still after (all_taken at now mid after found all h.taken).taken_all;
       begins = begins_begins before mid after h.begins (takes_grow at now mid after found all);
     }
 
--- at the end
-pub reads_text : (past_fault : Bool) (a b c : Option (List ℕ)) (t at now new : Fed) (before mid after : List Entry) (found : Option TailFault) (n : ℕ) → HasFed a b t at before mid n → TakesAll at now mid after found → now.pieces ≡ at.pieces
-    → Consumes b c [] → IsAtEnd c → new ≡ now → ReadsText past_fault a c t new before after (n, found)
-reads_text past_fault a b c t at now new before mid after found n h all same none ended still = rw still record {
+-- nothing is left for now
+pub has_fed-end : {Start : Type 0} (a b c : Start → Meal → Type 0) (t at now new : Fed) (before mid after : List Entry) (found : Option TailFault) (n : ℕ) → HasFed a b t at before mid n → TakesAll at now mid after found
+    → now.pieces ≡ at.pieces → GivesMore b c [] → new ≡ now → HasFed a c t new before after n
+has_fed-end {Start} a b c t at now new before mid after found n h all same none still = rw still record {
   text = h.text;
-  read = subst (Consumes a c) (append-nil h.text) (Consumes-trans a b c h.text [] h.read none);
-  ended = λ whole. ended;
+  read = subst (GivesMore a c) (append-nil h.text) (gives_more a b c h.text [] h.read none);
   counted = h.counted;
   same = subst (AreFed t.pieces h.text) (sym same) h.same;
-  all = all_taken at now mid after found all h.taken;
+  taken = (all_taken at now mid after found all h.taken).taken_all;
   begins = begins_begins before mid after h.begins (takes_grow at now mid after found all);
 }
+
+-- it was looked for a next segment
+pub has_fed-look : {Start : Type 0} (a b c : Start → Meal → Type 0) (t at : Fed) (before mid : List Entry) (n : ℕ) → HasFed a b t at before mid n → ((start : Start) (meal : Meal) → b start meal → c start meal) → HasFed a c t at before mid n
+has_fed-look {Start} a b c t at before mid n h stays = record {
+  text = h.text;
+  read = gives_still a b c h.text h.read stays;
+  counted = h.counted;
+  same = h.same;
+  taken = h.taken;
+  begins = h.begins;
+}
+
+-- ---- how far a segment was read
 
 -- at a fault
-not_to_end : (past_fault : Bool) (found : Option TailFault) → is_some found ≡ true → past_fault ≡ false → IsReadToEnd past_fault found → ⊥
-not_to_end true found faulty stops whole = let no : true ≡ false = stops in absurd cc
-not_to_end false None faulty stops whole = let no : false ≡ true = faulty in absurd cc
-not_to_end false (Some f) faulty stops whole = whole
+pub is_faulty : (found : Option TailFault) → is_some found ≡ true → found ≡ None → ⊥
+is_faulty None faulty none = let no : false ≡ true = faulty in absurd cc
+is_faulty (Some f) faulty none = absurd cc
 
-pub reads_to_fault : (past_fault : Bool) (a b : Option (List ℕ)) (t at now : Fed) (before mid after : List Entry) (found : Option TailFault) (n : ℕ) → HasFed a b t at before mid n → TakesAll at now mid after found → now.pieces ≡ at.pieces
-    → is_some found ≡ true → past_fault ≡ false → ReadsText past_fault a b t now before after (n, found)
-reads_to_fault past_fault a b t at now before mid after found n h all same faulty stops = record {
+pub reads_to_fault : {Start : Type 0} (past_fault : Bool) (a b all_had : Start → Meal → Type 0) (is_read is_followed : Type 0) (t at now : Fed) (before mid after : List Entry) (read : TextRead) → HasFed a b t at before mid read.bytes
+    → TakesAll at now mid after read.fault → now.pieces ≡ at.pieces → is_some read.fault ≡ true → past_fault ≡ false → ReadsText past_fault a b all_had is_read is_followed t now before after read
+reads_to_fault {Start} past_fault a b all_had is_read is_followed t at now before mid after read h all same faulty stops = record {
   text = h.text;
-  read = h.read;
-  ended = λ whole. absurd (not_to_end past_fault found faulty stops whole);
+  is = record {
+    read = h.read;
+    last = λ none other. absurd (is_faulty read.fault faulty none);
+    next = λ none other. absurd (is_faulty read.fault faulty none);
+    ended = λ past some. let no : true ≡ false = sym past ∙ stops in absurd cc;
+  };
   counted = h.counted;
   same = subst (AreFed t.pieces h.text) (sym same) h.same;
-  all = all_taken at now mid after found all h.taken;
-  begins = begins_begins before mid after h.begins (takes_grow at now mid after found all);
+  all = all_taken at now mid after read.fault all h.taken;
+  begins = begins_begins before mid after h.begins (takes_grow at now mid after read.fault all);
 }
 
+-- at the end of the segment, which is followed or has a fault
+pub reads_to_end : {Start : Type 0} (past_fault : Bool) (a b c all_had : Start → Meal → Type 0) (is_read is_followed : Type 0) (t at now new : Fed) (before mid after : List Entry) (read : TextRead) → HasFed a b t at before mid read.bytes
+    → TakesAll at now mid after read.fault → now.pieces ≡ at.pieces → GivesMore b c [] → new ≡ now → is_read → (read.is_followed ≡ true → is_followed) → (read.fault ≡ None → read.is_followed ≡ false → ⊥)
+    → ReadsText past_fault a c all_had is_read is_followed t new before after read
+reads_to_end {Start} past_fault a b c all_had is_read is_followed t at now new before mid after read h all same none still at_end followed other =
+    let fed = has_fed-end a b c t at now new before mid after read.fault read.bytes h all same none still in
+    record {
+      text = fed.text;
+      is = record {
+        read = fed.read;
+        last = λ sound last. absurd (other sound last);
+        next = λ sound next. (at_end, followed next);
+        ended = λ past some. at_end;
+      };
+      counted = fed.counted;
+      same = fed.same;
+      all = subst (λ (x : Fed). HasTakenAll x after read.fault) (sym still) (all_taken at now mid after read.fault all h.taken);
+      begins = fed.begins;
+    }
+
+-- at the end of the log
+pub reads_to_last : {Start : Type 0} (past_fault : Bool) (a b c d all_had : Start → Meal → Type 0) (is_read is_followed : Type 0) (t at now new : Fed) (before mid after : List Entry) (read : TextRead)
+    → HasFed a b t at before mid read.bytes → TakesAll at now mid after read.fault → now.pieces ≡ at.pieces → GivesMore b c [] → new ≡ now → read.fault ≡ None → read.is_followed ≡ false
+    → ((start : Start) (meal : Meal) → c start meal → d start meal) → ((start : Start) (meal : Meal) → c start meal → all_had start meal) → ReadsText past_fault a d all_had is_read is_followed t new before after read
+reads_to_last {Start} past_fault a b c d all_had is_read is_followed t at now new before mid after read h all same none still sound last stays had =
+    let fed = has_fed-end a b c t at now new before mid after read.fault read.bytes h all same none still in
+    record {
+      text = fed.text;
+      is = record {
+        read = gives_still a c d fed.text fed.read stays;
+        last = λ s l. gives_still a c all_had fed.text fed.read had;
+        next = λ s next. let no : false ≡ true = sym last ∙ next in absurd cc;
+        ended = λ past some. absurd (none_some read.fault sound some);
+      };
+      counted = fed.counted;
+      same = fed.same;
+      all = subst (λ (x : Fed). HasTakenAll x after read.fault) (sym still) (all_taken at now mid after read.fault all h.taken);
+      begins = fed.begins;
+    }
+  where
+    none_some : (found : Option TailFault) → found ≡ None → IsSome found → ⊥
+    none_some None is some = let no : false ≡ true = some in absurd cc
+    none_some (Some f) is some = absurd cc
+
 -- a piece that was read and fed
-pub feeds_more : (a b : Option (List ℕ)) (before after : Fed) (text : List ℕ) (n : ℕ) → Consumes a b text → n ≡ length text → after ≡ record before { pieces = before.pieces ++ bytes text ∷ [] }
+pub feeds_more : {Start : Type 0} (a b : Start → Meal → Type 0) (before after : Fed) (text : List ℕ) (n : ℕ) → GivesMore a b text → n ≡ length text → after ≡ record before { pieces = before.pieces ++ bytes text ∷ [] }
     → ((taken : List Entry) → HasTaken before taken → HasTaken after taken) → FeedsMore a b before after n
-feeds_more a b before after text n read counted fed still = record { text = text; read = read; counted = counted; fed = fed; still = still }
-
--- an error that is handed on
-pub handed_on : {A E : Type 0} (r : Result A E) (f e : E) → IsErrAnd r (λ g. g ≡ f) → r ≡ Err e → e ≡ f
-handed_on (Ok x) f e h is = absurd h
-handed_on (Err g) f e h is = let same : g ≡ e = cc in sym same ∙ h
-
--- what is left, if something is
-pub one_left : (lefts : List (Option (List ℕ))) → 0 < length lefts → lefts ≡ current lefts ∷ later lefts
-one_left [] some = absurd (omega (arith, some))
-one_left (l ∷ ls) some = refl
-
-pub kept_left : (old mid new : List (Option (List ℕ))) → new ≡ current new ∷ later mid → mid ≡ current mid ∷ later old → new ≡ current new ∷ later old
-kept_left old mid new h m = h ∙ ap (λ ls. current new ∷ later ls) m
-
-pub some_left : (lefts more : List (Option (List ℕ))) (left : Option (List ℕ)) → lefts ≡ left ∷ more → 0 < length lefts
-some_left lefts more left is = let len = ap length is in omega (arith, len)
+feeds_more {Start} a b before after text n read counted fed still = record { text = text; read = read; counted = counted; fed = fed; still = still }

@@ -1,7 +1,8 @@
 use Rattle.std.proofs.Common.{◌≡◌, ◌<◌, ◌≤◌, [], length, true, None}
 use Rattle.rw_fleet.specs.Work.{AreResolved}
 use Rattle.rw_types.specs.declared.transfer.ReadFault.{ReadFault}
-use Rattle.rw_send.specs.Segments.{AreShortPieces, AreSoundButLast, meal_of, no_meal}
+use Rattle.rw_follow.specs.Meals.{no_meal}
+use Rattle.rw_send.specs.Segments.{AreShortPieces, AreSoundButLast, meal_of}
 use Rattle.rw_send.specs.Steps.{HasLapped, KeepsSetup}
 use Rattle.rw_send.specs.inner.EpochSizes.{KeepsEpochSizes}
 use Rattle.rw_send.specs.inner.FeedErrors.{IsIntact}
