@@ -88,10 +88,13 @@ fn commands_of<'a>(alloc: Global, rows: &[&Words]) -> Result<Vec<Command<'a>>, A
     Ok(commands)
 }
 
+/// The version of the program.
+pub const VERSION: &str = "0.2.0";
+
 /// Returns the program without its commands.
 fn program<'a>(alloc: Global) -> Command<'a> {
     Command::new(alloc, "rwship")
-        .version("0.2.0")
+        .version(VERSION)
         .about("Remote-write shipper and receiver for Prometheus")
         .after_help(help::ALL)
         .subcommand_required(true)

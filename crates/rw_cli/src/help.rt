@@ -138,3 +138,11 @@ docs/OPERATING.md explains more, and docs/SETTINGS.md the settings.
 Exit status: 0; 1 if the log in DIR has a fault; 2 for bad options or settings;
 3 out of memory; 4 if a file, the folder DIR, the network or standard output
 failed.";
+
+pub(crate) const VERSION: &str = "\
+Example:
+  rwship version
+
+It prints what 'rwship --version' prints.
+
+Exit status: 0; 2 for bad options; 3 out of memory; 4 if standard output failed.";

@@ -11,7 +11,7 @@ mod table;
 
 use answers::{dir_of, is_url, number_of, settings_of};
 use clap::ArgMatches;
-pub use commands::command_line;
+pub use commands::{VERSION, command_line};
 use receive::receive_task;
 pub use receiver_url::{ReceiverUrl, UrlFault, read_receiver_url};
 use rw_text::{Address, read_address};
@@ -44,6 +44,8 @@ pub enum Until<'a> {
 pub struct Following<'a> {
     /// It ends once this file exists, or, without one, once standard input ends.
     pub stop_file: Option<&'a str>,
+    /// Whether it waits for a folder and a host that are not there yet, until the file exists.
+    pub waits: bool,
     /// Look for new records every `poll_ms` milliseconds.
     pub poll_ms: Bounded<10, 60_000>,
     /// Flush a partial batch after this many milliseconds.
@@ -183,6 +185,8 @@ pub enum Task<'a> {
     Settings {
         settings: SettingsFile<'a>,
     },
+    /// The name of the program and its version out.
+    Version,
     /// Ships all segments of a folder.
     Send {
         settings: SettingsFile<'a>,
@@ -274,6 +278,8 @@ fn plain_task<'a>(name: &str, options: &ArgMatches<'a>, is_explained: bool) -> O
         log_task(options, is_explained)
     } else if name == "inspect" {
         Some(inspect_task(options, is_explained))
+    } else if name == "version" {
+        Some(Task::Version)
     } else {
         None
     }

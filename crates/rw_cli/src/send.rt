@@ -11,6 +11,7 @@ fn reading_of<'a>(options: &ArgMatches<'a>) -> Option<Reading<'a>> {
     }
     Some(Reading::Follow(Following {
         stop_file: options.get_str("stop-file"),
+        waits: options.get_flag("wait"),
         poll_ms: number_of(options, "poll-ms")?,
         flush_ms: number_of(options, "flush-ms")?,
         reshard_ms: number_of(options, "reshard-ms")?,

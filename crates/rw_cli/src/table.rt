@@ -262,6 +262,12 @@ static SEND: Words = Words {
             help: "With --follow: stop when this file exists, and do\nnot read standard input",
         },
         Opt {
+            name: "wait",
+            takes: Takes::Nothing,
+            bonds: &[Bond::Needs("stop-file")],
+            help: "With --stop-file: if DIR or the receiver's host is not\nthere yet, wait for it, until FILE exists",
+        },
+        Opt {
             name: "poll-ms",
             takes: Takes::NumberOr(10, 60_000, "200"),
             bonds: &[Bond::Needs("follow")],
@@ -335,12 +341,15 @@ static RECEIVE: Words = Words {
             name: "listen",
             takes: Takes::Text("HOST:PORT"),
             bonds: &[Bond::Required],
-            help: "Listen on this address",
+            help: "Listen on this address; :PORT is that port of all\nIPv4 addresses",
         },
         Opt {
             name: "until-eof",
             takes: Takes::Nothing,
-            bonds: &[Bond::Excludes("connections")],
+            bonds: &[
+                Bond::RequiredWithout("connections"),
+                Bond::Excludes("connections"),
+            ],
             help: "Serve any number of connections, until standard\ninput ends",
         },
         Opt {
@@ -352,7 +361,7 @@ static RECEIVE: Words = Words {
         Opt {
             name: "connections",
             takes: Takes::Number(1, 1000),
-            bonds: &[Bond::RequiredWithout("until-eof")],
+            bonds: &[],
             help: "Serve this many connections, 1 to 1000",
         },
         Opt {
@@ -430,8 +439,19 @@ fn receive() -> &'static Words {
     &RECEIVE
 }
 
+static VERSION: Words = Words {
+    name: "version",
+    about: "Prints the version of the program",
+    after: help::VERSION,
+    options: &[],
+};
+
+fn version() -> &'static Words {
+    &VERSION
+}
+
 /// Returns all commands.
-pub(crate) fn commands() -> [&'static Words; 8] {
+pub(crate) fn commands() -> [&'static Words; 9] {
     [
         body(),
         log(),
@@ -441,5 +461,6 @@ pub(crate) fn commands() -> [&'static Words; 8] {
         settings(),
         send(),
         receive(),
+        version(),
     ]
 }

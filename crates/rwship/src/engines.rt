@@ -1,6 +1,6 @@
 //! The commands that read standard input, or a folder, and write what they make of it.
 
-use crate::explanations::report_input_result;
+use crate::explanations::InputRun;
 use crate::input::{Form, Input};
 use crate::inspect_command::LogCommand;
 use crate::program_end::{report_settings_fault, report_unread_input};
@@ -43,7 +43,7 @@ impl<'a> InputCommand<'a> {
     /// Reports how a command ended that wrote to a folder or, without one, to standard output.
     /// Returns the exit status.
     fn end(&self, dir: Option<&str>, outcome: Result<(), ToolFault>) -> ExitCode {
-        report_input_result(self.rt, &self.input, dir, outcome)
+        InputRun::new(self.rt, &self.input, dir).report(outcome)
     }
 
     /// Writes the body of a segment.

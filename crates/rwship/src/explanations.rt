@@ -16,106 +16,112 @@ const NO_DIGITS: &str = "expected pairs of lower-case hexadecimal digits; white 
 const MIXED: &str =
     "a script has 'log' lines, or 'feed' and 'segment' lines, but not both; this line is the first of the other kind";
 
-/// Prints where a segment is damaged.
-fn print_segment_damage(rt: &HostRuntime, segment: &[u8]) -> Result<(), ToolFault> {
-    let report = inspect_segment(rt, Reader::Held(segment))?;
-    Ok(print_damage(rt, &report)?)
+/// A run over an input: what is said of its faults.
+#[derive(Clone, Copy)]
+pub struct InputRun<'a> {
+    rt: &'a HostRuntime,
+    input: &'a Input,
+    /// The folder that it wrote to, or `None` if it wrote to standard output.
+    dir: Option<&'a str>,
 }
 
-/// Prints a line, and what is wrong with it.
-fn print_line_note(
-    rt: &HostRuntime,
-    number: u64,
-    line: &[u8],
-    note: &str,
-) -> Result<(), AllocError> {
-    let shown = shown_line(rt.alloc(), line)?;
-    let _ = eprintln!(rt; "  line {number}: {shown}");
-    let _ = eprintln!(rt; "  {note}");
-    Ok(())
-}
-
-/// Returns what is wrong with a line of an input.
-fn note_of(rt: &HostRuntime, form: Form, line: &[u8]) -> Result<&'static str, AllocError> {
-    match form {
-        Form::Segment | Form::Digits => Ok(NO_DIGITS),
-        Form::LogText => Ok(log_line_note(rt.alloc(), line)?.unwrap_or("")),
-        Form::Script => Ok(script_line_note(rt.alloc(), line)?.unwrap_or(MIXED)),
+impl<'a> InputRun<'a> {
+    /// Returns the run over an input that wrote to a folder or, without one, to standard output.
+    pub fn new(rt: &'a HostRuntime, input: &'a Input, dir: Option<&'a str>) -> InputRun<'a> {
+        InputRun { rt, input, dir }
     }
-}
 
-/// Prints where an input has this fault, and what is wrong there.
-fn print_input_fault(
-    rt: &HostRuntime,
-    form: Form,
-    text: &[u8],
-    fault: ToolFault,
-) -> Result<(), ToolFault> {
-    match fault {
-        ToolFault::Log(_) => match form {
-            Form::Digits => print_segment_damage(rt, &rw_text::read_hex(rt.alloc(), text)?),
-            _ => print_segment_damage(rt, text),
-        },
-        ToolFault::Line(number) => {
-            if let Some(line) = numbered_line(text, number) {
-                print_line_note(rt, number, line, note_of(rt, form, line)?)?;
-            }
-            Ok(())
+    /// Prints where a segment is damaged.
+    fn print_segment_damage(&self, segment: &[u8]) -> Result<(), ToolFault> {
+        let report = inspect_segment(self.rt, Reader::Held(segment))?;
+        Ok(print_damage(self.rt, &report)?)
+    }
+
+    /// Returns what is wrong with a line of the input.
+    fn note_of(&self, line: &[u8]) -> Result<&'static str, AllocError> {
+        let alloc = self.rt.alloc();
+        match self.input.form {
+            Form::Segment | Form::Digits => Ok(NO_DIGITS),
+            Form::LogText => Ok(log_line_note(alloc, line)?.unwrap_or("")),
+            Form::Script => Ok(script_line_note(alloc, line)?.unwrap_or(MIXED)),
         }
-        _ => Ok(()),
     }
-}
 
-/// Says that a folder, or without one standard output, could not be written.
-fn print_unwritten(rt: &HostRuntime, dir: Option<&str>) {
-    let Some(dir) = dir else {
-        print_output_error(rt);
-        return;
-    };
-    match fs::read_dir(rt, dir) {
-        Ok(_) => {
-            let _ = eprintln!(rt;
-                "  cannot write a segment into {dir}; next: see whether it may be written, and whether its disk is full"
-            );
-        }
-        Err(error) => print_device_error(rt, "write to", dir, &error),
+    /// Prints a line of the input, and what is wrong with it.
+    fn print_line_note(&self, number: u64, line: &[u8]) -> Result<(), AllocError> {
+        let rt = self.rt;
+        let shown = shown_line(rt.alloc(), line)?;
+        let note = self.note_of(line)?;
+        let _ = eprintln!(rt; "  line {number}: {shown}");
+        let _ = eprintln!(rt; "  {note}");
+        Ok(())
     }
-}
 
-/// Says that the records of a log have no room in a segment, and what to do.
-fn print_segment_full(rt: &HostRuntime, dir: Option<&str>) {
-    let _ = match dir {
-        None => eprintln!(rt;
-            "  the records have no room in one segment; next: give more --pages, or --dir, which begins further segments"
-        ),
-        Some(_) => eprintln!(rt;
-            "  a record has no room in an empty segment; next: give more --pages"
-        ),
-    };
-}
-
-/// Ends as `report_result` does after a run over an input that wrote to a folder or, if there is
-/// none, to standard output. If the input was held, prints what is wrong: then a device that failed
-/// is not the input.
-pub fn report_input_result(
-    rt: &HostRuntime,
-    input: &Input,
-    dir: Option<&str>,
-    outcome: Result<(), ToolFault>,
-) -> ExitCode {
-    match outcome {
-        Ok(()) => report_result(rt, Ok(())),
-        Err(fault) => {
-            let status = report_result(rt, Err(fault));
-            match (&input.text, fault) {
-                (Some(_), ToolFault::Device) => print_unwritten(rt, dir),
-                (Some(_), ToolFault::SegmentFull) => print_segment_full(rt, dir),
-                (Some(text), _) => {
-                    let _ = print_input_fault(rt, input.form, text, fault);
+    /// Prints where the input, which is this text, has a fault, and what is wrong there.
+    fn print_input_fault(&self, text: &[u8], fault: ToolFault) -> Result<(), ToolFault> {
+        match fault {
+            ToolFault::Log(_) => match self.input.form {
+                Form::Digits => {
+                    self.print_segment_damage(&rw_text::read_hex(self.rt.alloc(), text)?)
                 }
-                (None, _) => {}
+                _ => self.print_segment_damage(text),
+            },
+            ToolFault::Line(number) => {
+                if let Some(line) = numbered_line(text, number) {
+                    self.print_line_note(number, line)?;
+                }
+                Ok(())
             }
-            status
+            _ => Ok(()),
         }
+    }
+
+    /// Says that the folder, or without one standard output, could not be written.
+    fn print_unwritten(&self) {
+        let rt = self.rt;
+        let Some(dir) = self.dir else {
+            print_output_error(rt);
+            return;
+        };
+        match fs::read_dir(rt, dir) {
+            Ok(_) => {
+                let _ = eprintln!(rt;
+                    "  cannot write a segment into {dir}; next: see whether it may be written, and whether its disk is full"
+                );
+            }
+            Err(error) => print_device_error(rt, "write to", dir, &error),
+        }
+    }
+
+    /// Says that the records of a log have no room in a segment, and what to do.
+    fn print_segment_full(&self) {
+        let rt = self.rt;
+        let _ = match self.dir {
+            None => eprintln!(rt;
+                "  the records have no room in one segment; next: give more --pages, or --dir, which begins further segments"
+            ),
+            Some(_) => eprintln!(rt;
+                "  a record has no room in an empty segment; next: give more --pages"
+            ),
+        };
+    }
+
+    /// Ends as `report_result` does. If the input was held, prints what is wrong: then a device
+    /// that failed is not the input.
+    pub fn report(&self, outcome: Result<(), ToolFault>) -> ExitCode {
+        let fault = match outcome {
+            Ok(()) => return report_result(self.rt, Ok(())),
+            Err(fault) => fault,
+        };
+        let status = report_result(self.rt, Err(fault));
+        match (&self.input.text, fault) {
+            (Some(_), ToolFault::Device) => self.print_unwritten(),
+            (Some(_), ToolFault::SegmentFull) => self.print_segment_full(),
+            (Some(text), _) => {
+                let _ = self.print_input_fault(text, fault);
+            }
+            (None, _) => {}
+        }
+        status
     }
 }

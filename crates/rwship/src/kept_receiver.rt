@@ -51,19 +51,6 @@ fn doubt_of(reading: &HeadReading, journal: &Log) -> Option<KeepError> {
     Some(KeepError::RecordFollows(damage, number, at))
 }
 
-/// Locks a folder until the file is dropped, so that no second receiver writes there.
-pub fn lock_folder(rt: &HostRuntime, dir: &str) -> Result<File, KeepError> {
-    let folder = match fs::open(rt, dir) {
-        Ok(folder) => folder,
-        Err(error) => return Err(KeepError::Unlocked(error)),
-    };
-    match folder.try_lock() {
-        Ok(()) => Ok(folder),
-        Err(TryLockError::WouldBlock) => Err(KeepError::InUse),
-        Err(TryLockError::Error(error)) => Err(KeepError::Unlocked(error)),
-    }
-}
-
 /// Returns why the log in these files cannot be opened.
 fn open_error(error: OpenError, files: &OpenFolder<HostRuntime>) -> KeepError {
     match error {
@@ -82,39 +69,6 @@ fn rules_of(receiving: &Receiving<'_>) -> FolderRules {
     }
 }
 
-/// Opens the log in a folder. The counters count what is written to it.
-pub fn open_head(
-    rt: &HostRuntime,
-    limits: &Limits,
-    dir: &str,
-    receiving: &Receiving<'_>,
-    counters: &Arc<ReceiveCounters, Global>,
-) -> Result<Opened<Log>, KeepError> {
-    let Ok(counters) = Arc::try_clone(counters) else {
-        return Err(KeepError::Folder(FolderError::OutOfMemory));
-    };
-    if let Err(error) = refuse_running_server(rt, dir) {
-        return Err(KeepError::Folder(error));
-    }
-    let Ok(mut reading) = HeadReading::new(rt.alloc(), limits) else {
-        return Err(KeepError::Folder(FolderError::OutOfMemory));
-    };
-    let monitor = FolderMonitor::new(counters);
-    let journal = match open_journal(rt, dir, rules_of(receiving), monitor, &mut reading) {
-        Ok(journal) => journal,
-        Err(error) => return Err(KeepError::Folder(error)),
-    };
-    if !receiving.cuts_at_fault {
-        if let Some(error) = doubt_of(&reading, &journal) {
-            return Err(error);
-        }
-    }
-    match KeptHead::open(reading, journal, PAGES) {
-        Ok(opened) => Ok(opened),
-        Err((error, journal)) => Err(open_error(error, journal.files())),
-    }
-}
-
 /// Returns the fault that stands for an error in the exit status.
 fn fault_of(error: &KeepError) -> ToolFault {
     match error {
@@ -125,31 +79,6 @@ fn fault_of(error: &KeepError) -> ToolFault {
         }
         _ => ToolFault::Device,
     }
-}
-
-/// Returns the bytes of a segment in a folder.
-fn read_segment(rt: &HostRuntime, dir: &str, number: u64) -> io::Result<Vec<u8>> {
-    let alloc = rt.alloc();
-    let path = format!(in alloc; "{dir}/{number:08}")?;
-    let mut file = fs::open(rt, path.as_str())?;
-    let mut bytes = Vec::new(alloc);
-    file.read_to_end(&mut bytes)?;
-    Ok(bytes)
-}
-
-/// Says where the log in a folder is damaged, and where to cut it, if that segment can be read.
-fn print_damage(rt: &HostRuntime, dir: &str, damage: &Damage, number: u64) {
-    let (fault, at) = (damage.fault, damage.place.offset);
-    let _ = eprintln!(rt;
-        "  cannot keep samples in {dir}: {fault} in segment {number} at byte {at}"
-    );
-    let Ok(text) = read_segment(rt, dir, number) else {
-        return;
-    };
-    let whole = whole_len(&text, at as usize);
-    let _ = eprintln!(rt;
-        "  next: copy {dir}/{number:08}, then cut it after its last whole record, 'truncate -s {whole} {dir}/{number:08}', and start the receiver and its sender again; of that segment, what came after the cut is lost unless the sender's log still has it"
-    );
 }
 
 /// What to do if the reason of a failed call does not say it.
@@ -216,126 +145,229 @@ fn next_step(error: &KeepError) -> Option<&'static str> {
     }
 }
 
-/// Reports why the log in a folder cannot be opened, and what to do. Returns the exit status.
-pub fn report_keep_error(rt: &HostRuntime, dir: &str, error: KeepError) -> ExitCode {
-    let status = report_result(rt, Err(fault_of(&error)));
-    let next = next_step(&error);
-    let _ = match error {
-        KeepError::InUse => eprintln!(rt; "  another receiver keeps samples in {dir}"),
-        KeepError::Unlocked(error) => eprintln!(rt; "  cannot lock the folder {dir}: {error}"),
-        KeepError::Folder(error) => eprintln!(rt; "  cannot keep samples in {dir}: {error}"),
-        KeepError::Log(OpenError::Foreign(at), None) => eprintln!(rt;
-            "  cannot keep samples in {dir}: entry {at} of the log there is refused; rwship inspect --dir {dir} --at {at} prints it"
-        ),
-        KeepError::Log(_, Some(fault)) => eprintln!(rt; "  cannot keep samples in {dir}: {fault}"),
-        KeepError::Damaged(damage, number) => {
-            print_damage(rt, dir, &damage, number);
-            Ok(())
-        }
-        KeepError::RecordFollows(damage, number, at) => eprintln!(rt;
-            "  cannot keep samples in {dir}: {} in segment {number} at byte {}, and a whole record follows at byte {at}",
-            damage.fault, damage.place.offset
-        ),
-        KeepError::Log(error, None) => eprintln!(rt; "  cannot keep samples in {dir}: {error}"),
-    };
-    if let Some(next) = next {
-        let _ = eprintln!(rt; "  next: {next}");
-    }
-    status
-}
-
-/// Reports that the first segments of a folder are missing, if they are.
-fn report_missing_start(rt: &HostRuntime, dir: &str, opened: &Opened<Log>) {
-    let first = opened.kept.journal().files().number_of(0);
-    if first > 0 && opened.segments > 0 {
-        let _ = eprintln!(rt; "rwship: {dir} has no segment before segment {first}");
-    }
-}
-
-/// Reports what was cut off the end of a folder's log, and what to do.
-fn report_cut(rt: &HostRuntime, dir: &str, opened: &Opened<Log>) {
-    let torn = opened.end.torn.len();
-    if torn == 0 {
-        return;
-    }
-    let last = opened.segments.saturating_sub(1) as u64;
-    let number = opened.kept.journal().files().number_of(last);
-    let _ = eprintln!(rt;
-        "rwship: the end of {dir} is not whole: {torn} bytes are cut off, and copied to {dir}/torn-{number:08}"
-    );
-    if let Some(at) = opened.end.follows {
-        let _ = eprintln!(rt;
-            "  a whole record follows the fault, at byte {at} of segment {number}"
-        );
-    }
-    let _ = eprintln!(rt;
-        "  next: if no crash and no failed write left them, they may hold acknowledged samples: start the sender again now, so that it ships them once more"
-    );
-}
-
-/// Reports what the log of a folder has that one which this version began never has.
-fn report_oddities(rt: &HostRuntime, dir: &str, oddities: &Oddities) {
-    let (repeated, passed) = (
-        oddities.repeated_definitions,
-        oddities.samples_without_series,
-    );
-    if repeated > 0 {
-        let _ = eprintln!(rt;
-            "rwship: the log in {dir} defines label sets again, {repeated} times, as an earlier version did at each start: a Prometheus over it answers only what follows the last definition"
-        );
-        let _ = eprintln!(rt;
-            "  next: for a folder that a Prometheus can read, ship it to a receiver with a new one: rwship send --dir {dir}"
-        );
-    }
-    if passed > 0 {
-        let _ = eprintln!(rt;
-            "rwship: {passed} samples in {dir} have no label set, and are not held"
-        );
-    }
-}
-
-/// Reports what a folder holds, if somebody may read that, and in any case what was cut off, and
-/// what is odd of its log.
-pub fn report_opened(rt: &HostRuntime, dir: &str, opened: &Opened<Log>, receiving: &Receiving<'_>) {
-    report_cut(rt, dir, opened);
-    report_missing_start(rt, dir, opened);
-    report_oddities(rt, dir, &opened.oddities);
-    if is_watched(rt, &receiving.reporting) {
-        let (head, segments) = (opened.kept.head(), opened.segments);
-        let (samples, series) = (head.total(), head.places());
-        let _ = eprintln!(rt;
-            "rwship: {dir} holds {samples} samples of {series} series in {segments} segments"
-        );
-    }
-}
-
-/// Says why nothing more could be kept in a folder, and what to do.
-fn print_write_fault(rt: &HostRuntime, dir: &str, fault: FolderFault) {
-    let _ = eprintln!(rt; "  cannot keep samples in {dir}: {fault}");
-    let _ = eprintln!(rt;
-        "  next: make room on its disk, or mend it, and start the receiver again; nothing acknowledged is lost"
-    );
-}
-
-/// Reports how serving, printing what is held, and keeping ended. Returns the exit status.
-pub fn report_kept(
-    rt: &HostRuntime,
-    dir: &str,
-    outcome: Result<Received<FolderHead>, ToolFault>,
+/// A folder in which a receiver keeps what it takes: what it opens there, and what it says of it.
+#[derive(Clone, Copy)]
+pub struct KeptFolder<'a> {
+    rt: &'a HostRuntime,
+    dir: &'a str,
+    receiving: &'a Receiving<'a>,
     is_explained: bool,
-) -> ExitCode {
-    let Received { holder, printed } = match outcome {
-        Ok(received) => received,
-        Err(fault) => return report_result(rt, Err(fault)),
-    };
-    let status = match printed {
-        Err(ToolFault::Device) => report_output_fault(rt, is_explained),
-        Err(fault) => report_result(rt, Err(fault)),
-        Ok(()) if holder.fault().is_none() => ExitCode::SUCCESS,
-        Ok(()) => report_result(rt, Err(ToolFault::Device)),
-    };
-    if let Some(fault) = holder.journal().files().fault() {
-        print_write_fault(rt, dir, fault);
+}
+
+impl<'a> KeptFolder<'a> {
+    /// Returns the folder at a path. If `is_explained` says so, an output that fails is explained.
+    pub fn new(
+        rt: &'a HostRuntime,
+        dir: &'a str,
+        receiving: &'a Receiving<'a>,
+        is_explained: bool,
+    ) -> KeptFolder<'a> {
+        KeptFolder {
+            rt,
+            dir,
+            receiving,
+            is_explained,
+        }
     }
-    status
+
+    /// Locks the folder until the file is dropped, so that no second receiver writes there.
+    pub fn lock(&self) -> Result<File, KeepError> {
+        let folder = match fs::open(self.rt, self.dir) {
+            Ok(folder) => folder,
+            Err(error) => return Err(KeepError::Unlocked(error)),
+        };
+        match folder.try_lock() {
+            Ok(()) => Ok(folder),
+            Err(TryLockError::WouldBlock) => Err(KeepError::InUse),
+            Err(TryLockError::Error(error)) => Err(KeepError::Unlocked(error)),
+        }
+    }
+
+    /// Opens the log in the folder. The counters count what is written to it.
+    pub fn open(
+        &self,
+        limits: &Limits,
+        counters: &Arc<ReceiveCounters, Global>,
+    ) -> Result<Opened<Log>, KeepError> {
+        let (rt, dir, receiving) = (self.rt, self.dir, self.receiving);
+        let Ok(counters) = Arc::try_clone(counters) else {
+            return Err(KeepError::Folder(FolderError::OutOfMemory));
+        };
+        if let Err(error) = refuse_running_server(rt, dir) {
+            return Err(KeepError::Folder(error));
+        }
+        let Ok(mut reading) = HeadReading::new(rt.alloc(), limits) else {
+            return Err(KeepError::Folder(FolderError::OutOfMemory));
+        };
+        let monitor = FolderMonitor::new(counters);
+        let journal = match open_journal(rt, dir, rules_of(receiving), monitor, &mut reading) {
+            Ok(journal) => journal,
+            Err(error) => return Err(KeepError::Folder(error)),
+        };
+        if !receiving.cuts_at_fault {
+            if let Some(error) = doubt_of(&reading, &journal) {
+                return Err(error);
+            }
+        }
+        match KeptHead::open(reading, journal, PAGES) {
+            Ok(opened) => Ok(opened),
+            Err((error, journal)) => Err(open_error(error, journal.files())),
+        }
+    }
+
+    /// Returns the bytes of a segment.
+    fn read_segment(&self, number: u64) -> io::Result<Vec<u8>> {
+        let (alloc, dir) = (self.rt.alloc(), self.dir);
+        let path = format!(in alloc; "{dir}/{number:08}")?;
+        let mut file = fs::open(self.rt, path.as_str())?;
+        let mut bytes = Vec::new(alloc);
+        file.read_to_end(&mut bytes)?;
+        Ok(bytes)
+    }
+
+    /// Says where the log is damaged, and where to cut it, if that segment can be read.
+    fn print_damage(&self, damage: &Damage, number: u64) {
+        let (rt, dir) = (self.rt, self.dir);
+        let (fault, at) = (damage.fault, damage.place.offset);
+        let _ = eprintln!(rt;
+            "  cannot keep samples in {dir}: {fault} in segment {number} at byte {at}"
+        );
+        let Ok(text) = self.read_segment(number) else {
+            return;
+        };
+        let whole = whole_len(&text, at as usize);
+        let _ = eprintln!(rt;
+            "  next: copy {dir}/{number:08}, then cut it after its last whole record, 'truncate -s {whole} {dir}/{number:08}', and start the receiver and its sender again; of that segment, what came after the cut is lost unless the sender's log still has it"
+        );
+    }
+
+    /// Reports why the log in the folder cannot be opened, and what to do. Returns the exit status.
+    pub fn report_error(&self, error: KeepError) -> ExitCode {
+        let (rt, dir) = (self.rt, self.dir);
+        let status = report_result(rt, Err(fault_of(&error)));
+        let next = next_step(&error);
+        let _ = match error {
+            KeepError::InUse => eprintln!(rt; "  another receiver keeps samples in {dir}"),
+            KeepError::Unlocked(error) => eprintln!(rt; "  cannot lock the folder {dir}: {error}"),
+            KeepError::Folder(error) => eprintln!(rt; "  cannot keep samples in {dir}: {error}"),
+            KeepError::Log(OpenError::Foreign(at), None) => eprintln!(rt;
+                "  cannot keep samples in {dir}: entry {at} of the log there is refused; rwship inspect --dir {dir} --at {at} prints it"
+            ),
+            KeepError::Log(_, Some(fault)) => {
+                eprintln!(rt; "  cannot keep samples in {dir}: {fault}")
+            }
+            KeepError::Damaged(damage, number) => {
+                self.print_damage(&damage, number);
+                Ok(())
+            }
+            KeepError::RecordFollows(damage, number, at) => eprintln!(rt;
+                "  cannot keep samples in {dir}: {} in segment {number} at byte {}, and a whole record follows at byte {at}",
+                damage.fault, damage.place.offset
+            ),
+            KeepError::Log(error, None) => {
+                eprintln!(rt; "  cannot keep samples in {dir}: {error}")
+            }
+        };
+        if let Some(next) = next {
+            let _ = eprintln!(rt; "  next: {next}");
+        }
+        status
+    }
+
+    /// Reports that the first segments are missing, if they are.
+    fn report_missing_start(&self, opened: &Opened<Log>) {
+        let (rt, dir) = (self.rt, self.dir);
+        let first = opened.kept.journal().files().number_of(0);
+        if first > 0 && opened.segments > 0 {
+            let _ = eprintln!(rt; "rwship: {dir} has no segment before segment {first}");
+        }
+    }
+
+    /// Reports what was cut off the end of the log, and what to do.
+    fn report_cut(&self, opened: &Opened<Log>) {
+        let (rt, dir) = (self.rt, self.dir);
+        let torn = opened.end.torn.len();
+        if torn == 0 {
+            return;
+        }
+        let last = opened.segments.saturating_sub(1) as u64;
+        let number = opened.kept.journal().files().number_of(last);
+        let _ = eprintln!(rt;
+            "rwship: the end of {dir} is not whole: {torn} bytes are cut off, and copied to {dir}/torn-{number:08}"
+        );
+        if let Some(at) = opened.end.follows {
+            let _ = eprintln!(rt;
+                "  a whole record follows the fault, at byte {at} of segment {number}"
+            );
+        }
+        let _ = eprintln!(rt;
+            "  next: if no crash and no failed write left them, they may hold acknowledged samples: start the sender again now, so that it ships them once more"
+        );
+    }
+
+    /// Reports what the log has that one which this version began never has.
+    fn report_oddities(&self, oddities: &Oddities) {
+        let (rt, dir) = (self.rt, self.dir);
+        let (repeated, passed) = (
+            oddities.repeated_definitions,
+            oddities.samples_without_series,
+        );
+        if repeated > 0 {
+            let _ = eprintln!(rt;
+                "rwship: the log in {dir} defines label sets again, {repeated} times, as an earlier version did at each start: a Prometheus over it answers only what follows the last definition"
+            );
+            let _ = eprintln!(rt;
+                "  next: for a folder that a Prometheus can read, ship it to a receiver with a new one: rwship send --dir {dir}"
+            );
+        }
+        if passed > 0 {
+            let _ = eprintln!(rt;
+                "rwship: {passed} samples in {dir} have no label set, and are not held"
+            );
+        }
+    }
+
+    /// Reports what the folder holds, if somebody may read that, and in any case what was cut off,
+    /// and what is odd of its log.
+    pub fn report_opened(&self, opened: &Opened<Log>) {
+        let (rt, dir, receiving) = (self.rt, self.dir, self.receiving);
+        self.report_cut(opened);
+        self.report_missing_start(opened);
+        self.report_oddities(&opened.oddities);
+        if is_watched(rt, &receiving.reporting) {
+            let (head, segments) = (opened.kept.head(), opened.segments);
+            let (samples, series) = (head.total(), head.places());
+            let _ = eprintln!(rt;
+                "rwship: {dir} holds {samples} samples of {series} series in {segments} segments"
+            );
+        }
+    }
+
+    /// Says why nothing more could be kept, and what to do.
+    fn print_write_fault(&self, fault: FolderFault) {
+        let (rt, dir) = (self.rt, self.dir);
+        let _ = eprintln!(rt; "  cannot keep samples in {dir}: {fault}");
+        let _ = eprintln!(rt;
+            "  next: make room on its disk, or mend it, and start the receiver again; nothing acknowledged is lost"
+        );
+    }
+
+    /// Reports how serving, printing what is held, and keeping ended. Returns the exit status.
+    pub fn report_end(&self, outcome: Result<Received<FolderHead>, ToolFault>) -> ExitCode {
+        let rt = self.rt;
+        let Received { holder, printed } = match outcome {
+            Ok(received) => received,
+            Err(fault) => return report_result(rt, Err(fault)),
+        };
+        let status = match printed {
+            Err(ToolFault::Device) => report_output_fault(rt, self.is_explained),
+            Err(fault) => report_result(rt, Err(fault)),
+            Ok(()) if holder.fault().is_none() => ExitCode::SUCCESS,
+            Ok(()) => report_result(rt, Err(ToolFault::Device)),
+        };
+        if let Some(fault) = holder.journal().files().fault() {
+            self.print_write_fault(fault);
+        }
+        status
+    }
 }

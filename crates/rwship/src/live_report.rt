@@ -10,6 +10,13 @@ use std::io::{Error, IsTerminal};
 use std::net::TcpListener;
 use std::thread::Threads;
 
+/// Returns the name of the host to listen on: without one, as in `:9090`, all IPv4 addresses of the
+/// machine.
+pub fn name_to_listen_on(address: Address<'_>) -> &str {
+    let name = address.name();
+    if name.is_empty() { "0.0.0.0" } else { name }
+}
+
 /// Reports that the program cannot listen at an address, and why.
 pub fn print_listen_error(rt: &HostRuntime, listen: Address<'_>, error: &Error) {
     let Address { host, port } = listen;
@@ -45,7 +52,7 @@ fn serve_at<R: Threads>(
     address: Address<'_>,
     counters: &Counters,
 ) -> Result<(), ToolFault> {
-    match TcpListener::bind(rt, (address.name(), address.port)) {
+    match TcpListener::bind(rt, (name_to_listen_on(address), address.port)) {
         Ok(listener) => {
             serve_metrics(threads, *rt, rt.alloc(), listener, counters.share()?)?;
             Ok(())

@@ -16,13 +16,14 @@ mod receive_command;
 mod send_command;
 mod settings;
 mod stop;
+mod waiting;
 
 use clap::ArgMatches;
 use engines::{body, log, plan, replay};
 use inspect_command::{LogCommand, inspect_input};
 use program_end::{
-    report_bad_address, report_bad_arguments, report_output_fault, report_parse_error,
-    report_result, report_settings_fault,
+    print_version, report_bad_address, report_bad_arguments, report_output_fault,
+    report_parse_error, report_result, report_settings_fault,
 };
 use receive_command::receive;
 use rw_cli::{LogDir, SettingsFile, Task, command_line, positions_of, task_of};
@@ -87,6 +88,7 @@ fn perform<R: Threads + Wait + Clock + Copy + Send + Sync + 'static>(
         Task::Find { dir, is_explained } => find(rt, dir, words, is_explained),
         Task::Replay { settings } => replay(rt, settings),
         Task::Settings { settings } => print_settings(rt, settings),
+        Task::Version => print_version(rt),
         Task::Send { settings, sending } => send(rt, threads, settings, &sending),
         Task::Receive {
             settings,

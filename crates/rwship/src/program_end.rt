@@ -8,7 +8,7 @@ ghost use Rattle.rwship.specs.Statuses.{follow_status, unset_status};
 use crate::settings::Unset;
 use clap::ArgMatches;
 use clap::error::ErrorKind;
-use rw_cli::{UrlFault, bad_address};
+use rw_cli::{UrlFault, VERSION, bad_address};
 use rw_send::FollowFault;
 use rw_settings::SettingsNote;
 use rw_text::ToolFault;
@@ -174,6 +174,14 @@ pub fn report_settings_fault(rt: &HostRuntime, fault: Unset) -> ExitCode
     }
 }
 
+/// Prints the name of the program and its version, as `--version` does.
+pub fn print_version(rt: &HostRuntime) -> ExitCode {
+    match println!(rt; "rwship {VERSION}") {
+        Ok(()) => ExitCode::SUCCESS,
+        Err(_) => report_result(rt, Err(ToolFault::Device)),
+    }
+}
+
 /// Prints the text of the command-line parser: help and version on standard output with status 0,
 /// and otherwise what is wrong with the arguments.
 pub fn report_parse_error(rt: &HostRuntime, error: clap::Error) -> ExitCode {
@@ -195,13 +203,13 @@ pub fn report_bad_arguments(rt: &HostRuntime, text: &str) -> ExitCode
     ExitCode::from(BAD_ARGUMENTS)
 }
 
-/// Reports that the folder of the stop file is missing, in the form of the command-line parser, and
-/// returns the exit status.
+/// Reports that the folder of the stop file is missing or may not be entered, in the form of the
+/// command-line parser, and returns the exit status.
 pub fn report_misplaced(rt: &HostRuntime, stop_file: &str) -> ExitCode
     ensures { process.exit_status result ≡ 2 }
 {
     let _ = eprintln!(rt;
-        "error: invalid value '{stop_file}' for '--stop-file <FILE>': expected a file in a folder that exists\n"
+        "error: invalid value '{stop_file}' for '--stop-file <FILE>': expected a file in a folder that exists and may be entered\n"
     );
     report_bad_arguments(rt, "For more information, try '--help'.")
 }

@@ -1,15 +1,15 @@
 //! The command `receive`.
 
-use crate::kept_receiver::{
-    FolderHead, lock_folder, open_head, report_keep_error, report_kept, report_opened,
+use crate::kept_receiver::{FolderHead, KeptFolder};
+use crate::live_report::{
+    OutputAfterReport, begin_reporting, end_reporting, name_to_listen_on, print_listen_error,
 };
-use crate::live_report::{OutputAfterReport, begin_reporting, end_reporting, print_listen_error};
 use crate::log_fault::has_output_failed;
 use crate::program_end::{
     report_misplaced, report_output_fault, report_result, report_settings_fault,
 };
 use crate::settings::settings_in;
-use crate::stop::{is_misplaced, report_write_error, stop_signal};
+use crate::stop::{is_misplaced, note_left_file, report_write_error, stop_signal};
 use rw_cli::{Receiving, SettingsFile, Until};
 use rw_follow::StopSignal;
 use rw_head::Capacity;
@@ -20,6 +20,7 @@ use rw_text::ToolFault;
 use rw_types::{Bounded, Std};
 use std::alloc::{AllocError, Global};
 use std::net::TcpListener;
+use std::path::Path;
 use std::process::ExitCode;
 use std::rt::Stdout;
 use std::sync::{Arc, Wait};
@@ -35,6 +36,8 @@ struct Receiver<'a, R> {
     settings: &'a Settings,
     receiving: &'a Receiving<'a>,
     is_explained: bool,
+    /// Whether the stop file was there when the command began.
+    was_stopped: bool,
 }
 
 /// Returns how much the head may hold.
@@ -71,6 +74,32 @@ impl<R: Threads + Wait + Clock + Sync> Receiver<'_, R> {
         Ok((counters, shown))
     }
 
+    /// Says that a stop was requested while the log in a folder was read, if it was.
+    fn note_early_stop(&self, dir: &str) {
+        let Until::FileIs(path) = &self.receiving.until else {
+            return;
+        };
+        if !self.was_stopped && Path::new(path).exists(self.rt) {
+            let _ = eprintln!(self.rt;
+                "rwship: the stop file {path} was made while {dir} was read, so a stop is requested at once"
+            );
+        }
+    }
+
+    /// Says what has stopped the receiver, if standard input ended before a client came.
+    fn note_ended_input(&self, counters: &ReceiveCounters) {
+        let (Until::InputEnds, Ok(numbers)) =
+            (&self.receiving.until, counters.numbers(self.rt.alloc()))
+        else {
+            return;
+        };
+        if numbers.accepted == 0 {
+            let _ = eprintln!(self.rt;
+                "rwship: standard input has ended before a client came, so the receiver stops; with --stop-file FILE it does not read it"
+            );
+        }
+    }
+
     /// Returns the stop signal, or `None` if a number of connections ends the receiver. Whether
     /// writing to the log of a folder has failed is reported at once from here on, and sets the
     /// signal too if that is asked for.
@@ -85,6 +114,7 @@ impl<R: Threads + Wait + Clock + Sync> Receiver<'_, R> {
         };
         let signal = stop_signal(self.rt, self.threads, stop_file, None)?;
         if let Some(dir) = self.receiving.dir {
+            self.note_early_stop(dir);
             let ends = self.receiving.ends_on_write_error;
             report_write_error(self.rt, self.threads, dir, counters, &signal, ends)?;
         }
@@ -124,7 +154,9 @@ impl<R: Threads + Wait + Clock + Sync> Receiver<'_, R> {
         let signal = self.stop_signal(counters)?;
         let service = self.service(&signal, counters);
         let (alloc, settings) = (self.rt.alloc(), self.settings);
-        run_receive(self.threads, alloc, settings, service, listener, output)
+        let outcome = run_receive(self.threads, alloc, settings, service, listener, output);
+        self.note_ended_input(counters);
+        outcome
     }
 
     /// Serves connections over a head whose log is in a folder, and prints what it holds, if that
@@ -178,15 +210,14 @@ impl<R: Threads + Wait + Clock + Sync> Receiver<'_, R> {
 
     /// Opens the log in a folder that is locked, and serves connections over it. What is asked for
     /// is reported from the beginning, so that one can see how far the log is read.
-    fn receive_into(&self, listener: TcpListener, dir: &str) -> ExitCode {
+    fn receive_into(&self, listener: TcpListener, folder: &KeptFolder<'_>) -> ExitCode {
         let (counters, shown) = match self.begin_counting() {
             Ok(begun) => begun,
             Err(fault) => return report_result(self.rt, Err(fault)),
         };
-        let limits = &self.settings.limits;
-        match open_head(self.rt, limits, dir, self.receiving, &counters) {
+        match folder.open(&self.settings.limits, &counters) {
             Ok(opened) => {
-                report_opened(self.rt, dir, &opened, self.receiving);
+                folder.report_opened(&opened);
                 let head = opened.kept;
                 counters.begin_with(head.head().total(), head.head().places());
                 let output = Std::new(self.rt.stdout());
@@ -194,9 +225,10 @@ impl<R: Threads + Wait + Clock + Sync> Receiver<'_, R> {
                 let mut output = OutputAfterReport::new(self.rt, reporting, &shown, output);
                 let outcome = self.serve_kept(listener, &counters, head, &mut output);
                 output.report();
-                report_kept(self.rt, dir, outcome, self.is_explained)
+                self.note_ended_input(&counters);
+                folder.report_end(outcome)
             }
-            Err(error) => report_keep_error(self.rt, dir, error),
+            Err(error) => folder.report_error(error),
         }
     }
 
@@ -207,20 +239,21 @@ impl<R: Threads + Wait + Clock + Sync> Receiver<'_, R> {
             let outcome = self.receive_in_memory(listener, &mut output);
             return self.report_served(&mut output, outcome);
         };
-        match lock_folder(self.rt, dir) {
+        let folder = KeptFolder::new(self.rt, dir, self.receiving, self.is_explained);
+        match folder.lock() {
             Ok(lock) => {
-                let status = self.receive_into(listener, dir);
+                let status = self.receive_into(listener, &folder);
                 drop(lock);
                 status
             }
-            Err(error) => report_keep_error(self.rt, dir, error),
+            Err(error) => folder.report_error(error),
         }
     }
 
     /// Listens at the address that is given, serves connections, and returns the exit status.
     fn receive(&self) -> ExitCode {
         let listen = self.receiving.listen;
-        match TcpListener::bind(self.rt, (listen.name(), listen.port)) {
+        match TcpListener::bind(self.rt, (name_to_listen_on(listen), listen.port)) {
             Ok(listener) => self.receive_from(listener),
             Err(error) => {
                 let status = report_result(self.rt, Err(ToolFault::Device));
@@ -249,10 +282,12 @@ pub fn receive<R: Threads + Wait + Clock + Sync>(
     file: SettingsFile<'_>,
     receiving: &Receiving<'_>,
 ) -> ExitCode {
+    let mut was_stopped = false;
     if let Until::FileIs(path) = receiving.until {
         if is_misplaced(rt, path) {
             return report_misplaced(rt, path);
         }
+        was_stopped = note_left_file(rt, path);
     }
     match settings_in(rt, file) {
         Ok(settings) => {
@@ -263,6 +298,7 @@ pub fn receive<R: Threads + Wait + Clock + Sync>(
                 settings: &settings,
                 receiving,
                 is_explained: file.is_explained,
+                was_stopped,
             };
             receiver.receive()
         }

@@ -12,7 +12,8 @@ use crate::program_end::{
     report_settings_fault, report_skipped,
 };
 use crate::settings::settings_in;
-use crate::stop::{is_misplaced, stop_signal};
+use crate::stop::{is_misplaced, note_left_file, report_waiting, stop_signal};
+use crate::waiting::wait_for_start;
 use rw_cli::{Following, Reading, Sending, SettingsFile};
 use rw_follow::{Queue, Timed, ToTheEnd};
 use rw_log_folder::{Folder, FolderFault, Opened, SegmentFile, check_folder, watch_newest_segment};
@@ -119,17 +120,21 @@ impl<R: Threads + Wait + Clock + Copy + Send + 'static> Sender<'_, R> {
         self.is_explained || self.sending.reporting.has_progress
     }
 
+    /// Returns the receiver, as it is shown.
+    fn receiver(&self) -> Result<String, AllocError> {
+        let Address { host, port } = self.to;
+        Ok(format!(in self.rt.alloc(); "{host}:{port}")?)
+    }
+
     /// On a terminal, reports from here on when the receiver acknowledges nothing, unless progress
     /// is shown.
     fn report_stalls(&self, counters: &Arc<SendCounters, Global>) -> Result<(), AllocError> {
         if self.sending.reporting.has_progress || !self.rt.stderr().is_terminal() {
             return Ok(());
         }
-        let (rt, alloc) = (self.rt, self.rt.alloc());
-        let Address { host, port } = self.to;
-        let receiver = format!(in alloc; "{host}:{port}")?;
+        let (rt, receiver) = (self.rt, self.receiver()?);
         let theirs = Arc::try_clone(counters)?;
-        show_stalls(self.threads, *rt, rt.stderr(), alloc, receiver, theirs)
+        show_stalls(self.threads, *rt, rt.stderr(), rt.alloc(), receiver, theirs)
     }
 
     /// Looks for the newest segment of the folder from here on, if somebody may read its number.
@@ -175,14 +180,19 @@ impl<R: Threads + Wait + Clock + Copy + Send + 'static> Sender<'_, R> {
     }
 
     /// Returns a watch that stops a follower, stops its workers too if that is at once, and lets
-    /// time pass.
+    /// time pass. If somebody may read that, it is said what a stop waits for.
     fn watch(
         &self,
         following: &Following<'_>,
         stop: &StopFlag,
+        counters: &Arc<SendCounters, Global>,
     ) -> Result<Timed<HostRuntime>, AllocError> {
         let workers = stop.share()?;
         let signal = stop_signal(self.rt, self.threads, following.stop_file, Some(workers))?;
+        if self.wants_notes() {
+            let receiver = self.receiver()?;
+            report_waiting(self.rt, self.threads, receiver, counters, &signal)?;
+        }
         let poll = Duration::from_millis(following.poll_ms.get());
         let patience = Duration::from_millis(following.flush_ms.get());
         let reshard = Duration::from_millis(following.reshard_ms.get());
@@ -201,7 +211,7 @@ impl<R: Threads + Wait + Clock + Copy + Send + 'static> Sender<'_, R> {
             Reading::Follow(following) => {
                 check_folder(self.rt, dir.path)?;
                 let folder = self.folder(counters)?;
-                Ok(Log::Growing(folder, self.watch(following, stop)?))
+                Ok(Log::Growing(folder, self.watch(following, stop, counters)?))
             }
         }
     }
@@ -276,10 +286,21 @@ impl<R: Threads + Wait + Clock + Copy + Send + 'static> Sender<'_, R> {
         status
     }
 
+    /// Returns the stop file, if it is waited for what shipping needs.
+    fn stop_file_to_wait_for(&self) -> Option<&str> {
+        match &self.sending.reading {
+            Reading::Follow(following) if following.waits => following.stop_file,
+            _ => None,
+        }
+    }
+
     /// Looks the receiver up and prepares to ship. If that fails, it reports why, and returns the
     /// exit status.
     fn start(&mut self, settings: &Settings) -> Result<Shipment, ExitCode> {
         let (rt, to, dir) = (self.rt, self.to, self.sending.dir);
+        if let Some(stop_file) = self.stop_file_to_wait_for() {
+            wait_for_start(rt, dir.path, to, stop_file);
+        }
         if self.wants_notes() {
             note_checkpoint(rt, dir);
         }
@@ -435,6 +456,7 @@ pub fn send<'a, R: Threads + Wait + Clock + Copy + Send + 'static>(
             if is_misplaced(rt, path) {
                 return report_misplaced(rt, path);
             }
+            note_left_file(rt, path);
         }
     }
     let mut destination = match destination_of(rt, sending.to) {

@@ -1,7 +1,7 @@
 //! The stop signal of the program.
 
 use rw_follow::{StopRequest, StopSignal, watch_file, watch_input};
-use rw_metrics::ReceiveCounters;
+use rw_metrics::{ReceiveCounters, SendCounters};
 use rw_send::StopFlag;
 use std::alloc::{AllocError, Global};
 use std::fs;
@@ -11,8 +11,11 @@ use std::sync::Arc;
 use std::thread::{self, Threads};
 use std::time::Duration;
 
-/// How many milliseconds pass between two looks at the counters of a log.
+/// How many milliseconds pass between two looks at the counters of a log, or at a stop signal.
 const LOOK_MS: u64 = 200;
+
+/// After how many milliseconds it is said that a stop still waits.
+const WAIT_MS: u64 = 2_000;
 
 /// Sets the flag of the workers if an end at once is requested: they do not see the signal.
 fn forward_abort(signal: &StopSignal, workers: &Option<StopFlag>) {
@@ -23,8 +26,13 @@ fn forward_abort(signal: &StopSignal, workers: &Option<StopFlag>) {
     }
 }
 
-/// Returns whether the folder of a stop file is missing.
+/// Returns whether the folder of a stop file is missing, or may not be entered.
 pub fn is_misplaced(rt: &HostRuntime, stop_file: &str) -> bool {
+    if let Err(error) = fs::metadata(rt, Path::new(stop_file)) {
+        if error.kind() == ErrorKind::PermissionDenied {
+            return true;
+        }
+    }
     let folder = match Path::new(stop_file).parent() {
         Some(folder) if !folder.as_str().is_empty() => folder,
         Some(_) => Path::new("."),
@@ -36,13 +44,16 @@ pub fn is_misplaced(rt: &HostRuntime, stop_file: &str) -> bool {
     }
 }
 
-/// Says that a stop is requested from the start, if the stop file exists already.
-fn note_left_file(rt: &HostRuntime, stop_file: &str) {
-    if Path::new(stop_file).exists(rt) {
+/// Says that a stop is requested from the start, if the stop file exists already. Returns whether
+/// it does.
+pub fn note_left_file(rt: &HostRuntime, stop_file: &str) -> bool {
+    let is_left = Path::new(stop_file).exists(rt);
+    if is_left {
         let _ = eprintln!(rt;
             "rwship: the stop file {stop_file} exists already, so a stop is requested from the start; remove it before each start"
         );
     }
+    is_left
 }
 
 /// Returns a signal that is set by the file or, if none is given, by standard input. If that asks
@@ -60,7 +71,6 @@ pub fn stop_signal<R: Threads>(
     let host = *rt;
     let watcher = match stop_file {
         Some(path) => {
-            note_left_file(rt, path);
             let path = String::from_str(alloc, path)?;
             thread::spawn(threads, move || {
                 watch_file(&host, &path, &theirs);
@@ -138,6 +148,57 @@ pub fn report_write_error<R: Threads>(
     let host = *rt;
     let watcher = thread::spawn(threads, move || {
         watch_writes(&host, &dir, &counters, &signal, ends);
+    })?;
+    drop(watcher);
+    Ok(())
+}
+
+/// Says how many samples a stop waits for, if there are any.
+fn print_waiting(rt: &HostRuntime, receiver: &str, counters: &SendCounters) {
+    if let Ok(numbers) = counters.numbers(rt.alloc()) {
+        let count = numbers.in_flight;
+        if count > 0 {
+            let _ = eprintln!(rt;
+                "rwship: a stop is requested, and {count} samples wait for an answer of {receiver}; the line 'hard', on standard input or in the stop file, ends that at once"
+            );
+        }
+    }
+}
+
+/// Waits until the signal asks to finish, and then says what that waits for, unless the program
+/// ends before that.
+fn watch_stop(
+    rt: &HostRuntime,
+    receiver: &str,
+    counters: &SendCounters,
+    signal: &StopSignal,
+) {
+    for _ in 0..u64::MAX {
+        if signal.request() != StopRequest::Continue {
+            break;
+        }
+        thread::sleep(rt, Duration::from_millis(LOOK_MS));
+    }
+    thread::sleep(rt, Duration::from_millis(WAIT_MS));
+    if signal.request() == StopRequest::Finish {
+        print_waiting(rt, receiver, counters);
+    }
+}
+
+/// Reports once how many samples a stop waits for, if that takes longer than two seconds. The
+/// thread that does so is never joined.
+pub fn report_waiting<R: Threads>(
+    rt: &HostRuntime,
+    threads: &R,
+    receiver: String,
+    counters: &Arc<SendCounters, Global>,
+    signal: &Arc<StopSignal, Global>,
+) -> Result<(), AllocError> {
+    let counters = Arc::try_clone(counters)?;
+    let signal = Arc::try_clone(signal)?;
+    let host = *rt;
+    let watcher = thread::spawn(threads, move || {
+        watch_stop(&host, &receiver, &counters, &signal);
     })?;
     drop(watcher);
     Ok(())
