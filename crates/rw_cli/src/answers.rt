@@ -57,6 +57,7 @@ pub(crate) fn reporting_of<'a>(options: &ArgMatches<'a>) -> Option<Reporting<'a>
     };
     Some(Reporting {
         has_progress: options.get_flag("progress"),
+        has_log: options.get_flag("log"),
         metrics,
     })
 }

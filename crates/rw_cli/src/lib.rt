@@ -76,6 +76,8 @@ pub enum Reading<'a> {
 pub struct Reporting<'a> {
     /// Whether a line of progress is written to standard error every second.
     pub has_progress: bool,
+    /// Whether what happens is written to standard error, with time and level.
+    pub has_log: bool,
     /// The address at which the metrics are served.
     pub metrics: Option<Address<'a>>,
 }

@@ -101,6 +101,13 @@ const PROGRESS: Opt = Opt {
     help: "Report progress once a second on standard error",
 };
 
+const EVENT_LOG: Opt = Opt {
+    name: "log",
+    takes: Takes::Nothing,
+    bonds: &[],
+    help: "Write what happens to standard error, with time and\nlevel",
+};
+
 const METRICS: Opt = Opt {
     name: "metrics",
     takes: Takes::Text("HOST:PORT"),
@@ -321,6 +328,7 @@ static SEND: Words = Words {
             bonds: &[],
             help: "Send bodies with Content-Encoding: snappy, as\nPrometheus does",
         },
+        EVENT_LOG,
         PROGRESS,
         METRICS,
     ],
@@ -430,6 +438,7 @@ static RECEIVE: Words = Words {
             bonds: &[Bond::Needs("dir")],
             help: "With --dir: cut the last segment at its fault though\na whole record follows",
         },
+        EVENT_LOG,
         PROGRESS,
         METRICS,
     ],

@@ -170,6 +170,11 @@ impl<'a> KeptFolder<'a> {
         }
     }
 
+    /// Returns its path.
+    pub fn dir(&self) -> &str {
+        self.dir
+    }
+
     /// Locks the folder until the file is dropped, so that no second receiver writes there.
     pub fn lock(&self) -> Result<File, KeepError> {
         let folder = match fs::open(self.rt, self.dir) {

@@ -4,6 +4,7 @@
 mod destination;
 mod drops;
 mod engines;
+mod event_log;
 mod explanations;
 mod input;
 mod inspect_command;

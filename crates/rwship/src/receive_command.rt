@@ -1,5 +1,6 @@
 //! The command `receive`.
 
+use crate::event_log::EventLog;
 use crate::kept_receiver::{FolderHead, KeptFolder};
 use crate::live_report::{
     OutputAfterReport, begin_reporting, end_reporting, name_to_listen_on, print_listen_error,
@@ -9,14 +10,16 @@ use crate::program_end::{
     report_misplaced, report_output_fault, report_result, report_settings_fault,
 };
 use crate::settings::settings_in;
-use crate::stop::{is_misplaced, note_left_file, report_write_error, stop_signal};
+use crate::stop::{
+    is_misplaced, note_left_file, report_stop, report_write_error, stop_signal,
+};
 use rw_cli::{Receiving, SettingsFile, Until};
 use rw_follow::StopSignal;
 use rw_head::Capacity;
 use rw_metrics::{Counters, ReceiveCounters};
 use rw_receive::{Received, ServeUntil, Service, run_receive, serve_and_print, serve_connections};
 use rw_settings::Settings;
-use rw_text::ToolFault;
+use rw_text::{Address, ToolFault};
 use rw_types::{Bounded, Std};
 use std::alloc::{AllocError, Global};
 use std::net::TcpListener;
@@ -65,12 +68,18 @@ fn new_counters(
 }
 
 impl<R: Threads + Wait + Clock + Sync> Receiver<'_, R> {
+    /// Returns where what happens is written, if that is asked for.
+    fn log(&self) -> EventLog {
+        EventLog::new(self.rt, self.receiving.reporting.has_log)
+    }
+
     /// Returns counters that have counted nothing, and reports them from here on, as far as that is
     /// asked for. The second ones are what is shown.
     fn begin_counting(&self) -> Result<(Arc<ReceiveCounters, Global>, Counters), ToolFault> {
         let counters = new_counters(self.rt, self.receiving)?;
         let shown = Counters::Receive(Arc::try_clone(&counters)?);
         begin_reporting(self.rt, self.threads, &self.receiving.reporting, &shown)?;
+        self.log().watch_receiver(self.threads, &counters)?;
         Ok((counters, shown))
     }
 
@@ -113,6 +122,7 @@ impl<R: Threads + Wait + Clock + Sync> Receiver<'_, R> {
             Until::InputEnds => None,
         };
         let signal = stop_signal(self.rt, self.threads, stop_file, None)?;
+        report_stop(self.rt, self.threads, self.log(), None, &signal)?;
         if let Some(dir) = self.receiving.dir {
             self.note_early_stop(dir);
             let ends = self.receiving.ends_on_write_error;
@@ -219,7 +229,9 @@ impl<R: Threads + Wait + Clock + Sync> Receiver<'_, R> {
             Ok(opened) => {
                 folder.report_opened(&opened);
                 let head = opened.kept;
-                counters.begin_with(head.head().total(), head.head().places());
+                let (samples, series) = (head.head().total(), head.head().places());
+                counters.begin_with(samples, series);
+                self.log_opened(folder.dir(), samples, series);
                 let output = Std::new(self.rt.stdout());
                 let reporting = &self.receiving.reporting;
                 let mut output = OutputAfterReport::new(self.rt, reporting, &shown, output);
@@ -250,11 +262,28 @@ impl<R: Threads + Wait + Clock + Sync> Receiver<'_, R> {
         }
     }
 
+    /// Has the log say where clients may connect.
+    fn log_start(&self) {
+        let Address { host, port } = self.receiving.listen;
+        self.log().info(format!(in self.rt.alloc(); "listens on {host}:{port}"));
+    }
+
+    /// Has the log say what a folder holds at the start.
+    fn log_opened(&self, dir: &str, samples: u64, series: usize) {
+        let alloc = self.rt.alloc();
+        self.log().info(format!(in alloc; "{dir} was read; it holds samples: {samples}, of series: {series}"));
+    }
+
     /// Listens at the address that is given, serves connections, and returns the exit status.
     fn receive(&self) -> ExitCode {
         let listen = self.receiving.listen;
         match TcpListener::bind(self.rt, (name_to_listen_on(listen), listen.port)) {
-            Ok(listener) => self.receive_from(listener),
+            Ok(listener) => {
+                self.log_start();
+                let status = self.receive_from(listener);
+                self.log().info(String::from_str(self.rt.alloc(), "ends"));
+                status
+            }
             Err(error) => {
                 let status = report_result(self.rt, Err(ToolFault::Device));
                 if self.is_explained {

@@ -2,6 +2,7 @@
 
 use crate::destination::destination_of;
 use crate::drops::explain_drops;
+use crate::event_log::EventLog;
 use crate::live_report::{begin_reporting, end_reporting};
 use crate::log_fault::{LogFault, log_fault, report_run_fault};
 use crate::log_files::{
@@ -12,10 +13,10 @@ use crate::program_end::{
     report_settings_fault, report_skipped,
 };
 use crate::settings::settings_in;
-use crate::stop::{is_misplaced, note_left_file, report_waiting, stop_signal};
+use crate::stop::{Awaited, is_misplaced, note_left_file, report_stop, stop_signal};
 use crate::waiting::wait_for_start;
 use rw_cli::{Following, Reading, Sending, SettingsFile};
-use rw_follow::{Queue, Timed, ToTheEnd};
+use rw_follow::{Queue, StopSignal, Timed, ToTheEnd};
 use rw_log_folder::{Folder, FolderFault, Opened, SegmentFile, check_folder, watch_newest_segment};
 use rw_metrics::{Counters, SendCounters, show_stalls};
 use rw_send::{RunFault, SendOptions, StopFlag, TcpConnect, run_follow};
@@ -115,6 +116,11 @@ fn fault_in(
 }
 
 impl<R: Threads + Wait + Clock + Copy + Send + 'static> Sender<'_, R> {
+    /// Returns where what happens is written, if that is asked for.
+    fn log(&self) -> EventLog {
+        EventLog::new(self.rt, self.sending.reporting.has_log)
+    }
+
     /// Returns whether somebody may read what is noted about the folder.
     fn wants_notes(&self) -> bool {
         self.is_explained || self.sending.reporting.has_progress
@@ -162,6 +168,7 @@ impl<R: Threads + Wait + Clock + Copy + Send + 'static> Sender<'_, R> {
         begin_reporting(self.rt, self.threads, &self.sending.reporting, &shown)?;
         self.report_stalls(&counters)?;
         self.watch_folder(&counters)?;
+        self.log().watch_sender(self.threads, &counters)?;
         Ok(counters)
     }
 
@@ -179,8 +186,25 @@ impl<R: Threads + Wait + Clock + Copy + Send + 'static> Sender<'_, R> {
         Ok(Folder::new(*self.rt, path, counters))
     }
 
+    /// Reports a stop and, if somebody may read that, what it waits for.
+    fn report_stop(
+        &self,
+        counters: &Arc<SendCounters, Global>,
+        signal: &Arc<StopSignal, Global>,
+    ) -> Result<(), AllocError> {
+        let awaited = if self.wants_notes() {
+            Some(Awaited {
+                receiver: self.receiver()?,
+                counters: Arc::try_clone(counters)?,
+            })
+        } else {
+            None
+        };
+        report_stop(self.rt, self.threads, self.log(), awaited, signal)
+    }
+
     /// Returns a watch that stops a follower, stops its workers too if that is at once, and lets
-    /// time pass. If somebody may read that, it is said what a stop waits for.
+    /// time pass. It is reported when a stop is requested.
     fn watch(
         &self,
         following: &Following<'_>,
@@ -189,10 +213,7 @@ impl<R: Threads + Wait + Clock + Copy + Send + 'static> Sender<'_, R> {
     ) -> Result<Timed<HostRuntime>, AllocError> {
         let workers = stop.share()?;
         let signal = stop_signal(self.rt, self.threads, following.stop_file, Some(workers))?;
-        if self.wants_notes() {
-            let receiver = self.receiver()?;
-            report_waiting(self.rt, self.threads, receiver, counters, &signal)?;
-        }
+        self.report_stop(counters, &signal)?;
         let poll = Duration::from_millis(following.poll_ms.get());
         let patience = Duration::from_millis(following.flush_ms.get());
         let reshard = Duration::from_millis(following.reshard_ms.get());
@@ -200,7 +221,7 @@ impl<R: Threads + Wait + Clock + Copy + Send + 'static> Sender<'_, R> {
     }
 
     /// Returns the log in the folder, to be read as it is or while it grows.
-    fn log(
+    fn segments(
         &self,
         stop: &StopFlag,
         counters: &Arc<SendCounters, Global>,
@@ -244,7 +265,7 @@ impl<R: Threads + Wait + Clock + Copy + Send + 'static> Sender<'_, R> {
         let theirs = Arc::try_clone(counters)?;
         let counters = Arc::try_clone(counters)?;
         let connect = self.connect_to(addresses, settings, theirs)?;
-        let log = self.log(&stop, &counters)?;
+        let log = self.segments(&stop, &counters)?;
         Ok(Shipment {
             log,
             connect,
@@ -416,6 +437,22 @@ impl<R: Threads + Wait + Clock + Copy + Send + 'static> Sender<'_, R> {
         }
     }
 
+    /// Has the log say what is read, and where it is sent to.
+    fn log_start(&self) {
+        let (alloc, dir) = (self.rt.alloc(), self.sending.dir.path);
+        let Address { host, port } = self.to;
+        self.log().info(format!(in alloc; "reads {dir}, and sends to {host}:{port}"));
+    }
+
+    /// Has the log say what was acknowledged and dropped in the end.
+    fn log_end(&self, counters: &SendCounters) {
+        let alloc = self.rt.alloc();
+        if let Ok(numbers) = counters.numbers(alloc) {
+            let (taken, lost) = (numbers.acknowledged, numbers.drops.all);
+            self.log().info(format!(in alloc; "ends; samples acknowledged: {taken}, dropped: {lost}"));
+        }
+    }
+
     /// Ships what was prepared, and reports how that ended. Returns the exit status.
     fn ship(&mut self, settings: Settings, shipment: Shipment) -> ExitCode {
         let Shipment {
@@ -425,6 +462,7 @@ impl<R: Threads + Wait + Clock + Copy + Send + 'static> Sender<'_, R> {
             counters,
         } = shipment;
         let noted = self.note_segments(&log);
+        self.log_start();
         let options = SendOptions {
             connect,
             counters: &counters,
@@ -432,6 +470,7 @@ impl<R: Threads + Wait + Clock + Copy + Send + 'static> Sender<'_, R> {
             stop,
         };
         let outcome = self.ship_log(settings, log, options);
+        self.log_end(&counters);
         self.finish(counters, noted, outcome)
     }
 

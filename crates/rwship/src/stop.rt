@@ -1,5 +1,6 @@
 //! The stop signal of the program.
 
+use crate::event_log::EventLog;
 use rw_follow::{StopRequest, StopSignal, watch_file, watch_input};
 use rw_metrics::{ReceiveCounters, SendCounters};
 use rw_send::StopFlag;
@@ -153,24 +154,34 @@ pub fn report_write_error<R: Threads>(
     Ok(())
 }
 
-/// Says how many samples a stop waits for, if there are any.
-fn print_waiting(rt: &HostRuntime, receiver: &str, counters: &SendCounters) {
-    if let Ok(numbers) = counters.numbers(rt.alloc()) {
-        let count = numbers.in_flight;
-        if count > 0 {
-            let _ = eprintln!(rt;
-                "rwship: a stop is requested, and {count} samples wait for an answer of {receiver}; the line 'hard', on standard input or in the stop file, ends that at once"
-            );
+/// What an orderly stop of a sender waits for.
+#[derive(Drop)]
+pub struct Awaited {
+    /// The receiver, as it is shown.
+    pub receiver: String,
+    pub counters: Arc<SendCounters, Global>,
+}
+
+impl Awaited {
+    /// Says how many samples have no answer yet, if there are any.
+    fn print(&self, rt: &HostRuntime) {
+        if let Ok(numbers) = self.counters.numbers(rt.alloc()) {
+            let (count, receiver) = (numbers.in_flight, &self.receiver);
+            if count > 0 {
+                let _ = eprintln!(rt;
+                    "rwship: a stop is requested, and {count} samples wait for an answer of {receiver}; the line 'hard', on standard input or in the stop file, ends that at once"
+                );
+            }
         }
     }
 }
 
-/// Waits until the signal asks to finish, and then says what that waits for, unless the program
-/// ends before that.
+/// Waits until a stop is requested, and has the log say so. If the program has not ended two
+/// seconds later, says what an orderly stop waits for.
 fn watch_stop(
     rt: &HostRuntime,
-    receiver: &str,
-    counters: &SendCounters,
+    log: EventLog,
+    awaited: &Option<Awaited>,
     signal: &StopSignal,
 ) {
     for _ in 0..u64::MAX {
@@ -179,26 +190,26 @@ fn watch_stop(
         }
         thread::sleep(rt, Duration::from_millis(LOOK_MS));
     }
+    log.note_stop();
     thread::sleep(rt, Duration::from_millis(WAIT_MS));
-    if signal.request() == StopRequest::Finish {
-        print_waiting(rt, receiver, counters);
+    match awaited {
+        Some(awaited) if signal.request() == StopRequest::Finish => awaited.print(rt),
+        _ => {}
     }
 }
 
-/// Reports once how many samples a stop waits for, if that takes longer than two seconds. The
-/// thread that does so is never joined.
-pub fn report_waiting<R: Threads>(
+/// Has a thread report that a stop is requested, and what it waits for. It is never joined.
+pub fn report_stop<R: Threads>(
     rt: &HostRuntime,
     threads: &R,
-    receiver: String,
-    counters: &Arc<SendCounters, Global>,
+    log: EventLog,
+    awaited: Option<Awaited>,
     signal: &Arc<StopSignal, Global>,
 ) -> Result<(), AllocError> {
-    let counters = Arc::try_clone(counters)?;
     let signal = Arc::try_clone(signal)?;
     let host = *rt;
     let watcher = thread::spawn(threads, move || {
-        watch_stop(&host, &receiver, &counters, &signal);
+        watch_stop(&host, log, &awaited, &signal);
     })?;
     drop(watcher);
     Ok(())
