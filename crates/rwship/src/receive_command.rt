@@ -264,7 +264,8 @@ impl<R: Threads + Wait + Clock + Sync> Receiver<'_, R> {
 
     /// Has the log say where clients may connect.
     fn log_start(&self) {
-        let Address { host, port } = self.receiving.listen;
+        let receiving = self.receiving;
+        let Address { host, port } = receiving.listen;
         self.log().info(format!(in self.rt.alloc(); "listens on {host}:{port}"));
     }
 

@@ -439,7 +439,8 @@ impl<R: Threads + Wait + Clock + Copy + Send + 'static> Sender<'_, R> {
 
     /// Has the log say what is read, and where it is sent to.
     fn log_start(&self) {
-        let (alloc, dir) = (self.rt.alloc(), self.sending.dir.path);
+        let (alloc, sending) = (self.rt.alloc(), self.sending);
+        let dir = sending.dir.path;
         let Address { host, port } = self.to;
         self.log().info(format!(in alloc; "reads {dir}, and sends to {host}:{port}"));
     }
