@@ -57,7 +57,7 @@ impl EventLog {
         self.info(String::from_str(self.alloc(), "a stop is requested"));
     }
 
-    /// Has a thread write what the counters of a sender tell, if lines are asked for. It is never
+    /// Has a thread write what the counters of a sender show, if lines are asked for. It is never
     /// joined.
     pub fn watch_sender<R: Threads>(
         &self,
@@ -81,7 +81,7 @@ impl EventLog {
         Ok(())
     }
 
-    /// Has a thread write what the counters of a receiver tell, if lines are asked for. It is never
+    /// Has a thread write what the counters of a receiver show, if lines are asked for. It is never
     /// joined.
     pub fn watch_receiver<R: Threads>(
         &self,
@@ -242,7 +242,7 @@ fn refused_in(numbers: &ReceiveNumbers) -> u64 {
     sum
 }
 
-/// Returns the line on requests that were refused, of which there are so many more.
+/// Returns the line on requests that were refused: `more` of them since the last such line.
 fn refusals_text(alloc: Global, more: u64, numbers: &ReceiveNumbers) -> Result<String, AllocError> {
     let mut text = format!(in alloc; "requests were refused: {more}; since the start")?;
     for (status, count) in &numbers.statuses {

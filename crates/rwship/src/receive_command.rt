@@ -164,9 +164,9 @@ impl<R: Threads + Wait + Clock + Sync> Receiver<'_, R> {
         let signal = self.stop_signal(counters)?;
         let service = self.service(&signal, counters);
         let (alloc, settings) = (self.rt.alloc(), self.settings);
-        let outcome = run_receive(self.threads, alloc, settings, service, listener, output);
+        run_receive(self.threads, alloc, settings, service, listener, output)?;
         self.note_ended_input(counters);
-        outcome
+        Ok(())
     }
 
     /// Serves connections over a head whose log is in a folder, and prints what it holds, if that
@@ -237,7 +237,9 @@ impl<R: Threads + Wait + Clock + Sync> Receiver<'_, R> {
                 let mut output = OutputAfterReport::new(self.rt, reporting, &shown, output);
                 let outcome = self.serve_kept(listener, &counters, head, &mut output);
                 output.report();
-                self.note_ended_input(&counters);
+                if outcome.is_ok() {
+                    self.note_ended_input(&counters);
+                }
                 folder.report_end(outcome)
             }
             Err(error) => folder.report_error(error),
