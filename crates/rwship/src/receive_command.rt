@@ -10,9 +10,7 @@ use crate::program_end::{
     report_misplaced, report_output_fault, report_result, report_settings_fault,
 };
 use crate::settings::settings_in;
-use crate::stop::{
-    is_misplaced, note_left_file, report_stop, report_write_error, stop_signal,
-};
+use crate::stop::{is_misplaced, note_left_file, report_stop, report_write_error, stop_signal};
 use rw_cli::{Receiving, SettingsFile, Until};
 use rw_follow::StopSignal;
 use rw_head::Capacity;
@@ -97,9 +95,10 @@ impl<R: Threads + Wait + Clock + Sync> Receiver<'_, R> {
 
     /// Says what has stopped the receiver, if standard input ended before a client came.
     fn note_ended_input(&self, counters: &ReceiveCounters) {
-        let (Until::InputEnds, Ok(numbers)) =
-            (&self.receiving.until, counters.numbers(self.rt.alloc()))
-        else {
+        let (Until::InputEnds, Ok(numbers)) = (
+            &self.receiving.until,
+            counters.numbers(self.rt.alloc()),
+        ) else {
             return;
         };
         if numbers.accepted == 0 {
@@ -268,13 +267,16 @@ impl<R: Threads + Wait + Clock + Sync> Receiver<'_, R> {
     fn log_start(&self) {
         let receiving = self.receiving;
         let Address { host, port } = receiving.listen;
-        self.log().info(format!(in self.rt.alloc(); "listens on {host}:{port}"));
+        self.log()
+            .info(format!(in self.rt.alloc(); "listens on {host}:{port}"));
     }
 
     /// Has the log say what a folder holds at the start.
     fn log_opened(&self, dir: &str, samples: u64, series: usize) {
         let alloc = self.rt.alloc();
-        self.log().info(format!(in alloc; "{dir} was read; it holds samples: {samples}, of series: {series}"));
+        self.log().info(format!(in alloc;
+            "{dir} was read; it holds samples: {samples}, of series: {series}"
+        ));
     }
 
     /// Listens at the address that is given, serves connections, and returns the exit status.

@@ -450,7 +450,9 @@ impl<R: Threads + Wait + Clock + Copy + Send + 'static> Sender<'_, R> {
         let alloc = self.rt.alloc();
         if let Ok(numbers) = counters.numbers(alloc) {
             let (taken, lost) = (numbers.acknowledged, numbers.drops.all);
-            self.log().info(format!(in alloc; "ends; samples acknowledged: {taken}, dropped: {lost}"));
+            self.log().info(format!(in alloc;
+                "ends; samples acknowledged: {taken}, dropped: {lost}"
+            ));
         }
     }
 

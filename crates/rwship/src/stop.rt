@@ -178,12 +178,7 @@ impl Awaited {
 
 /// Waits until a stop is requested, and has the log say so. If the program has not ended two
 /// seconds later, says what an orderly stop waits for.
-fn watch_stop(
-    rt: &HostRuntime,
-    log: EventLog,
-    awaited: &Option<Awaited>,
-    signal: &StopSignal,
-) {
+fn watch_stop(rt: &HostRuntime, log: EventLog, awaited: &Option<Awaited>, signal: &StopSignal) {
     for _ in 0..u64::MAX {
         if signal.request() != StopRequest::Continue {
             break;

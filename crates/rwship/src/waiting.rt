@@ -3,10 +3,9 @@
 use rw_tcp::look_up;
 use rw_text::Address;
 use std::alloc::AllocError;
-use std::fs;
 use std::path::Path;
-use std::thread;
 use std::time::Duration;
+use std::{fs, thread};
 
 /// How many milliseconds pass between two tries.
 const TRY_MS: u64 = 1_000;
