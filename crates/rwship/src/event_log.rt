@@ -106,17 +106,17 @@ impl EventLog {
     }
 }
 
-/// What a line was written about already, and how many looks ago.
+/// The last line on a count: how large that was, and how many looks ago the line was written.
 #[derive(Clone, Copy)]
-struct Told {
+struct LastLine {
     count: u64,
     looks: u64,
 }
 
-impl Told {
+impl LastLine {
     /// Returns what it is before the first line.
-    fn new() -> Told {
-        Told {
+    fn new() -> LastLine {
+        LastLine {
             count: 0,
             looks: LOOKS_BETWEEN,
         }
@@ -143,8 +143,8 @@ struct SenderSeen {
     segment: Option<u64>,
     is_acknowledged: bool,
     is_failing: bool,
-    dropped: Told,
-    skipped: Told,
+    dropped: LastLine,
+    skipped: LastLine,
 }
 
 /// Returns why the last attempt failed, in words.
@@ -169,8 +169,8 @@ impl SenderSeen {
             segment: None,
             is_acknowledged: false,
             is_failing: false,
-            dropped: Told::new(),
-            skipped: Told::new(),
+            dropped: LastLine::new(),
+            skipped: LastLine::new(),
         }
     }
 
@@ -228,7 +228,7 @@ struct ReceiverSeen {
     segments: u64,
     syncs: u64,
     sync_micros: u64,
-    refused: Told,
+    refused: LastLine,
 }
 
 /// Returns how many requests were refused.
@@ -262,7 +262,7 @@ impl ReceiverSeen {
             segments: 0,
             syncs: 0,
             sync_micros: 0,
-            refused: Told::new(),
+            refused: LastLine::new(),
         }
     }
 
