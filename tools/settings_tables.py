@@ -9,7 +9,7 @@ import os
 import re
 
 SOURCE, PAGE = "crates/rw_settings/src/keys.rt", "docs/SETTINGS.md"
-HEADINGS = {"SEND": "## `[send]`", "RECEIVE": "## `[receive]`", "RULE": "## `[[rule]]`"}
+HEADINGS = {"SEND": "## `[send]`", "RECEIVE": "## `[receive]`", "LOG": "## `[log]`", "RULE": "## `[[rule]]`"}
 # The default of each kind of key, and what it takes. A text has its default in its comment.
 KINDS = {
     "Host": ("`localhost:9090`", "1 to 255 bytes, each `!` to `~`"),

@@ -38,6 +38,7 @@ pub(crate) fn dir_of<'a>(options: &ArgMatches<'a>) -> Option<LogDir<'a>> {
     Some(LogDir {
         path,
         from_checkpoint: options.get_flag("checkpoint"),
+        may_compress: options.get_flag("wal-compression"),
     })
 }
 

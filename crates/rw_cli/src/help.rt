@@ -90,7 +90,8 @@ Example:
 DIR is the folder 'wal' of a server that has stopped, or a copy of it; with
 --follow it is that of a server that runs. A server removes its oldest segments
 and keeps their series in a checkpoint: use --checkpoint unless DIR has the log
-from its first segment on.
+from its first segment on. Prometheus compresses its log by default: use
+--wal-compression, with which plain records are read, too.
 
 --follow ends when standard input ends or, with --stop-file, when FILE exists:
 it ships what the log has, and prints its report. A line 'hard', on standard

@@ -60,6 +60,8 @@ pub struct LogDir<'a> {
     pub path: &'a str,
     /// Whether its newest checkpoint is read first, and then the segments after it.
     pub from_checkpoint: bool,
+    /// Whether its records may be Snappy blocks, whatever the settings say.
+    pub may_compress: bool,
 }
 
 /// How far a log is read.
@@ -149,6 +151,8 @@ pub enum Task<'a> {
     /// One log segment in; its body out.
     Body {
         hex: bool,
+        /// Whether records of the segment may be Snappy blocks.
+        may_compress: bool,
         /// Whether the damage of a segment is explained.
         is_explained: bool,
     },
@@ -164,11 +168,15 @@ pub enum Task<'a> {
     Plan {
         settings: SettingsFile<'a>,
         hex: bool,
+        /// Whether records may be Snappy blocks, whatever the settings say.
+        may_compress: bool,
         dir: Option<LogDir<'a>>,
     },
     /// One log segment in, or all segments of `dir`; what they hold out.
     Inspect {
         dir: Option<LogDir<'a>>,
+        /// Whether records may be Snappy blocks.
+        may_compress: bool,
         json: bool,
         /// Whether it is explained what cannot be read.
         is_explained: bool,
@@ -233,6 +241,7 @@ fn inspect_task<'a>(options: &ArgMatches<'a>, is_explained: bool) -> Task<'a> {
         Some(dir) if options.get_str("at").is_some() => Task::Find { dir, is_explained },
         _ => Task::Inspect {
             dir,
+            may_compress: options.get_flag("wal-compression"),
             json: options.get_flag("json"),
             is_explained,
         },
@@ -268,6 +277,7 @@ fn log_task<'a>(options: &ArgMatches<'a>, is_explained: bool) -> Option<Task<'a>
 fn body_task<'a>(options: &ArgMatches<'a>, is_explained: bool) -> Task<'a> {
     Task::Body {
         hex: options.get_flag("hex"),
+        may_compress: options.get_flag("wal-compression"),
         is_explained,
     }
 }
@@ -292,6 +302,7 @@ fn plan_task<'a>(settings: SettingsFile<'a>, options: &ArgMatches<'a>) -> Task<'
     Task::Plan {
         settings,
         hex: options.get_flag("hex"),
+        may_compress: options.get_flag("wal-compression"),
         dir: dir_of(options),
     }
 }

@@ -94,6 +94,13 @@ const CHECKPOINT: Opt = Opt {
     help: "With --dir: read the newest checkpoint there first,\nand then the segments after it",
 };
 
+const WAL_COMPRESSION: Opt = Opt {
+    name: "wal-compression",
+    takes: Takes::Nothing,
+    bonds: &[],
+    help: "Read records that are compressed by Snappy, as\nPrometheus writes them by default",
+};
+
 const PROGRESS: Opt = Opt {
     name: "progress",
     takes: Takes::Nothing,
@@ -119,7 +126,7 @@ static BODY: Words = Words {
     name: "body",
     about: "Reads one log segment and writes the remote-write body of its samples",
     after: help::BODY,
-    options: &[HEX, EXPLAIN_INPUT],
+    options: &[HEX, WAL_COMPRESSION, EXPLAIN_INPUT],
 };
 
 fn body() -> &'static Words {
@@ -161,6 +168,7 @@ static PLAN: Words = Words {
         EXPLAIN,
         SEGMENTS,
         CHECKPOINT,
+        WAL_COMPRESSION,
         Opt {
             name: "hex",
             takes: Takes::Nothing,
@@ -181,6 +189,7 @@ static INSPECT: Words = Words {
     options: &[
         SEGMENTS,
         CHECKPOINT,
+        WAL_COMPRESSION,
         Opt {
             name: "explain",
             takes: Takes::Nothing,
@@ -250,6 +259,7 @@ static SEND: Words = Words {
             help: "Ship the log in this folder",
         },
         CHECKPOINT,
+        WAL_COMPRESSION,
         Opt {
             name: "to",
             takes: Takes::Text("HOST:PORT"),

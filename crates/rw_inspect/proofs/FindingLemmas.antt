@@ -130,9 +130,9 @@ pub defined_sample : (cache : Taken) (e : Entry) (reference : ℕ) (t : ℤ) (wo
 defined_sample cache e reference t word is before h = rw is (definitions_of-sample before reference t word ∙ h)
 
 -- what was found
-pub finds : (lefts : List (Option (List ℕ))) (positions asked : List ℕ) (taken : List Entry) (rows segments : List Segment) (r : Found) → ReadsNamed lefts taken rows (fault_in r.damage) → asked ≡ positions → segments ≡ rows
-    → r.text.items ≡ flat_map (position_text segments taken) asked → r.missing ≡ count_by (is_missing taken) asked → Finds lefts positions r
-finds lefts positions asked taken rows segments r h same seen text missing = record {
+pub finds : (c : Bool) (lefts : List (Option (List ℕ))) (positions asked : List ℕ) (taken : List Entry) (rows segments : List Segment) (r : Found) → ReadsNamed c lefts taken rows (fault_in r.damage) → asked ≡ positions → segments ≡ rows
+    → r.text.items ≡ flat_map (position_text segments taken) asked → r.missing ≡ count_by (is_missing taken) asked → Finds c lefts positions r
+finds c lefts positions asked taken rows segments r h same seen text missing = record {
   texts = h.texts;
   read = subst (ReadsFirst lefts h.texts) h.are.fault_is h.read;
   segments = rows;

@@ -1,5 +1,5 @@
 -- The report of a log.
-use Rattle.std.proofs.Common.{◌≡◌, ℕ, List, [], ◌++◌, Option, Result, Ok, Err, sym, ap, ◌∙◌, subst}
+use Rattle.std.proofs.Common.{◌≡◌, ℕ, Bool, List, [], ◌++◌, Option, Result, Ok, Err, sym, ap, ◌∙◌, subst}
 use Rattle.std.specs.Prelude.{take}
 use Rattle.std.specs.Result.{IsErrAnd}
 use Rattle.rw_types.specs.declared.entry.Entry.{Entry}
@@ -13,15 +13,16 @@ use Rattle.rw_inspect.specs.Troubles.{not_rising, troubles_of}
 use Rattle.rw_inspect.specs.declared.report.Report.{Report}
 
 -- the report of what was read
-pub reported_first : (lefts : List (Option (List ℕ))) (taken : List Entry) (rows : List Segment) (damage : Option Damage) (r : Report) → ReadsNamed lefts taken rows (fault_in damage) → Reports taken rows damage r → IsReportOfFirst lefts r
-reported_first lefts taken rows damage r h m = record {
+pub reported_first : (c : Bool) (lefts : List (Option (List ℕ))) (taken : List Entry) (rows : List Segment) (damage : Option Damage) (r : Report) → ReadsNamed c lefts taken rows (fault_in damage) → Reports c taken rows damage r → IsReportOfFirst c lefts r
+reported_first c lefts taken rows damage r h m = record {
   texts = h.texts;
   read = subst (ReadsFirst lefts h.texts) h.are.fault_is h.read;
   report = record {
-    rows_are = subst (AreRows [] h.texts) (sym m.rows_are) h.are.rows_are;
+    rows_are = subst (AreRows c [] h.texts) (sym m.rows_are) h.are.rows_are;
     counts_are = m.counts_are ∙ ap log_counts h.are.all;
     first_are = m.first_are ∙ ap (λ es. take 10 (not_rising (troubles_of es))) h.are.all;
     fault_is = ap fault_in m.damage_is ∙ h.are.fault_is;
+    compresses_is = m.compresses_is;
   };
 }
 

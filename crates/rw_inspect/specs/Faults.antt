@@ -1,7 +1,8 @@
 -- How a fault of a log is printed: what is wrong, where, and what to do next.
-use Rattle.std.specs.Prelude.{ℕ, ◌-◌, List, [], ◌++◌, Bool, if◌then◌else◌, get_or, decimal, Option, None, Some, slice_get, string_bytes}
+use Rattle.std.specs.Prelude.{ℕ, ◌-◌, List, [], ◌++◌, Bool, true, false, if◌then◌else◌, get_or, decimal, Option, None, Some, slice_get, string_bytes}
 use Rattle.rw_wal_format.specs.Faults.{log_fault_number}
 use Rattle.rw_wal_format.specs.declared.tail_fault.TailFault.{TailFault}
+use Rattle.rw_wal_format.specs.declared.tail_fault.TailFault.TheVariants.{Compressed, BadRecord}
 use Rattle.rw_wal_tail.specs.declared.place.Damage.{Damage}
 use Rattle.rw_wal_tail.specs.declared.place.FaultPlace.{FaultPlace}
 use Rattle.rw_log_read.specs.declared.log_read.Segment.{Segment}
@@ -9,15 +10,23 @@ use Rattle.rw_inspect.specs.JsonText.{json_quoted}
 use Rattle.rw_inspect.specs.Cells.{Text}
 use Rattle.rw_inspect.specs.declared.words.TheConstants.{FAULTS}
 
--- what is wrong and what to do next, by the number of the fault
-abbrev pub fault_row : TailFault → Text × Text
-fault_row f = get_or FAULTS (log_fault_number f) (record { now = [] }, record { now = [] })
+-- The row of a fault of a log, which may have Snappy blocks or has none: its number, or a later row
+-- if the fault means something else in a log with such blocks.
+abbrev pub row_number : (compresses : Bool) → TailFault → ℕ
+row_number false f = log_fault_number f
+row_number true Compressed = 9
+row_number true BadRecord = 10
+row_number true f = log_fault_number f
 
-abbrev pub fault_words : TailFault → List ℕ
-fault_words f = (fault_row f).0.now
+-- what is wrong and what to do next
+abbrev pub fault_row : Bool → TailFault → Text × Text
+fault_row compresses f = get_or FAULTS (row_number compresses f) (record { now = [] }, record { now = [] })
 
-abbrev pub next_step : TailFault → List ℕ
-next_step f = (fault_row f).1.now
+abbrev pub fault_words : Bool → TailFault → List ℕ
+fault_words compresses f = (fault_row compresses f).0.now
+
+abbrev pub next_step : Bool → TailFault → List ℕ
+next_step compresses f = (fault_row compresses f).1.now
 
 -- the texts around what is wrong, where, and what to do next; and whether sentences and names are
 -- JSON strings
@@ -57,9 +66,11 @@ placed_text s segments None = []
 placed_text s segments (Some p) = any_spot s (slice_get segments p.segment) p.offset
 
 -- a fault with its place, and the damage of a log, if it has one
-unfoldable pub fault_text : FaultShape → TailFault → (place : List ℕ) → List ℕ
-fault_text s f place = sentence_text s.said s.is_json (fault_words f) ++ place ++ sentence_text s.next s.is_json (next_step f)
+unfoldable pub fault_text : FaultShape → (compresses : Bool) → TailFault → (place : List ℕ) → List ℕ
+fault_text s compresses f place =
+    sentence_text s.said s.is_json (fault_words compresses f) ++ place
+    ++ sentence_text s.next s.is_json (next_step compresses f)
 
-abbrev pub damage_text : FaultShape → List Segment → Option Damage → List ℕ
-damage_text s segments None = []
-damage_text s segments (Some d) = fault_text s d.fault (placed_text s segments d.place)
+abbrev pub damage_text : FaultShape → (compresses : Bool) → List Segment → Option Damage → List ℕ
+damage_text s compresses segments None = []
+damage_text s compresses segments (Some d) = fault_text s compresses d.fault (placed_text s segments d.place)

@@ -11,7 +11,7 @@ use Rattle.rw_relabel.specs.declared.choice.Choice.{Choice}
 use Rattle.rw_series_cache.specs.Known.{Standing, Unknown, Bad, Filtered, Kept, known}
 use Rattle.rw_text.specs.LabelText.{labels_text}
 use Rattle.rw_text.specs.ValueText.{value_text}
-use Rattle.rw_log_read.specs.Logs.{AreRows, ReadsFirst, fault_in, log_of}
+use Rattle.rw_log_read.specs.Logs.{AreRows, ReadsFirst, fault_in, log_in}
 use Rattle.rw_inspect.specs.declared.found.Found.{Found}
 use Rattle.rw_log_read.specs.declared.log_read.Segment.{Segment}
 
@@ -83,12 +83,12 @@ position_text segments es position = finding_line segments position (entry_text_
 abbrev pub is_missing : List Entry → ℕ → Bool
 is_missing es position = not (is_some (entry_text_at es position))
 
--- what was found at positions, in their order
-pub record Finds (lefts : List (Option (List ℕ))) (positions : List ℕ) (r : Found) : Type 0 where
+-- what was found at positions of a log, which may have Snappy blocks or has none, in their order
+pub record Finds (compresses : Bool) (lefts : List (Option (List ℕ))) (positions : List ℕ) (r : Found) : Type 0 where
   pub texts : List (List ℕ)
-  pub read : ReadsFirst lefts texts (fault (log_of texts))
+  pub read : ReadsFirst lefts texts (fault (log_in compresses texts))
   pub segments : List Segment
-  pub segments_are : AreRows [] texts segments
-  pub text_is : r.text.items ≡ flat_map (position_text segments (entries (log_of texts))) positions
-  pub missing_is : r.missing ≡ count_by (is_missing (entries (log_of texts))) positions
-  pub fault_is : fault_in r.damage ≡ fault (log_of texts)
+  pub segments_are : AreRows compresses [] texts segments
+  pub text_is : r.text.items ≡ flat_map (position_text segments (entries (log_in compresses texts))) positions
+  pub missing_is : r.missing ≡ count_by (is_missing (entries (log_in compresses texts))) positions
+  pub fault_is : fault_in r.damage ≡ fault (log_in compresses texts)

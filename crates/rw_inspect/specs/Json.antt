@@ -45,4 +45,4 @@ totals_json t c first = TOTALS.now ++ measures_json t c.sums ++ found_json c fir
 unfoldable pub report_json : Report → List ℕ
 report_json r =
     flat_map line_json r.segments.items ++ totals_json (sizes_in r.segments.items) r.counts r.first_not_rising.items
-    ++ damage_text (shape FAULT) r.segments.items r.damage
+    ++ damage_text (shape FAULT) r.may_compress r.segments.items r.damage

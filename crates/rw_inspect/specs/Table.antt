@@ -58,4 +58,4 @@ head_text = title_text (column NAME) ++ flat_map title_text (map column COLUMNS)
 unfoldable pub report_text : Report → List ℕ
 report_text r =
     head_text ++ flat_map line_text r.segments.items ++ row_text (codes "all") (sizes_in r.segments.items) r.counts.sums
-    ++ found_text r.counts r.first_not_rising.items ++ damage_text (shape LINES) r.segments.items r.damage
+    ++ found_text r.counts r.first_not_rising.items ++ damage_text (shape LINES) r.may_compress r.segments.items r.damage

@@ -105,42 +105,45 @@ fn push_place(
     }
 }
 
-/// Adds a fault, if there is one.
+/// Adds a fault of a log, which may have Snappy blocks or has none, if there is one.
 #[tactic(auto, unfolding(crate::specs::Faults::fault_text))]
 pub(crate) fn push_damage(
     out: &mut Vec<u8>,
     form: &FaultForm,
+    may_compress: bool,
     segments: &[Segment],
     damage: &Option<Damage>,
 ) -> Result<(), AllocError>
-    ensures { OnOk result
-        (out.new.items ≡ out.old.items ++ damage_text (shape_of form.now) segments.now damage.now) }
+    ensures { OnOk result (out.new.items
+        ≡ out.old.items ++ damage_text (shape_of form.now) may_compress segments.now damage.now) }
 {
     let Some(damage) = damage else {
         return Ok(());
     };
     let (said, _, next, is_json) = form;
-    push_sentence(out, said, *is_json, fault_words(damage.fault))?;
+    let words = fault_words(damage.fault, may_compress);
+    push_sentence(out, said, *is_json, words)?;
     push_place(out, form, segments, damage.place)?;
-    push_sentence(out, next, *is_json, next_step(damage.fault))
+    push_sentence(out, next, *is_json, next_step(damage.fault, may_compress))
 }
 
-/// Returns the lines of the table about a fault at this offset of a file of this name and length:
-/// what is wrong, where, and what to do next.
+/// Returns the lines of the table about a fault of a log, which may have Snappy blocks or has none,
+/// at this offset of a file of this name and length: what is wrong, where, and what to do next.
 #[tactic(auto, unfolding(crate::specs::Faults::fault_text))]
 pub fn fault_lines(
     alloc: Global,
     fault: TailFault,
+    may_compress: bool,
     name: &str,
     bytes: u64,
     offset: u64,
 ) -> Result<Vec<u8>, AllocError>
-    ensures { IfOk result
-        (λ text. text.items ≡ fault_text (shape LINES) fault (spot_text (shape LINES) name.now bytes offset)) }
+    ensures { IfOk result (λ text. text.items
+        ≡ fault_text (shape LINES) may_compress fault (spot_text (shape LINES) name.now bytes offset)) }
 {
     let mut out = Vec::new(alloc);
-    push_sentence(&mut out, &LINES.0, false, fault_words(fault))?;
+    push_sentence(&mut out, &LINES.0, false, fault_words(fault, may_compress))?;
     push_spot(&mut out, &LINES, name, bytes, offset)?;
-    push_sentence(&mut out, &LINES.2, false, next_step(fault))?;
+    push_sentence(&mut out, &LINES.2, false, next_step(fault, may_compress))?;
     Ok(out)
 }

@@ -326,18 +326,21 @@ impl Taker for Finder {
 /// SEGMENT series REF LABELS`, or `POS SEGMENT sample REF T VALUE LABELS` with the label set that
 /// its reference stands for there, each line ended by LF. `bad FAULT` stands for labels that are
 /// not a label set, whatever names are accepted, `noseries` for those of a reference without a
-/// definition before it, and `POS has no entry` if there is no entry.
+/// definition before it, and `POS has no entry` if there is no entry. With `may_compress` records
+/// may be Snappy blocks.
 pub fn find_entries<S: Source + Drop>(
     alloc: Global,
     segments: Vec<Named<S>>,
+    may_compress: bool,
     positions: Vec<u64>,
 ) -> Result<Found, Unread>
-    ensures ok { IfOk result (Finds (map (source_of S.remaining) segments.items) positions.items) }
+    ensures ok { IfOk result
+        (Finds may_compress (map (source_of S.remaining) segments.items) positions.items) }
     ensures sure { AreSure (map (source_of S.is_sure) segments.items)
         → (u : Unread) → result ≡ Err u → u.error ≡ Failed → ⊥ }
 {
     let finder = Finder::new(alloc, positions);
-    let (read, finder) = read_named(alloc, segments, finder)?;
+    let (read, finder) = read_named(alloc, segments, may_compress, finder)?;
     let LogRead {
         segments,
         damage,

@@ -146,6 +146,12 @@ pub fn json_of(alloc: Global, report: &Report) -> Result<Vec<u8>, AllocError>
     let sizes = sizes_in(&report.segments)?;
     push_segments(&mut out, &report.segments)?;
     push_totals(&mut out, &sizes, &report.counts, &report.first_not_rising)?;
-    push_damage(&mut out, &FAULT, &report.segments, &report.damage)?;
+    push_damage(
+        &mut out,
+        &FAULT,
+        report.may_compress,
+        &report.segments,
+        &report.damage,
+    )?;
     Ok(out)
 }

@@ -15,8 +15,13 @@ use rw_types::Source;
 use std::alloc::{AllocError, Global};
 
 /// Returns the report of what was read and counted.
-fn report_of(alloc: Global, counts: &Counter, read: LogRead) -> Result<Report, AllocError>
-    ensures { IfOk result (Reports counts.now read.segments.items read.damage) }
+fn report_of(
+    alloc: Global,
+    counts: &Counter,
+    read: LogRead,
+    may_compress: bool,
+) -> Result<Report, AllocError>
+    ensures { IfOk result (Reports may_compress counts.now read.segments.items read.damage) }
 {
     let LogRead {
         segments,
@@ -30,18 +35,24 @@ fn report_of(alloc: Global, counts: &Counter, read: LogRead) -> Result<Report, A
         counts: counts.counts(),
         first_not_rising,
         damage,
+        may_compress,
         skipped,
     })
 }
 
 /// Reads the segments of a log in order, to the end of the last one or of the first one with a
-/// fault, and reports what is in them. An `Err` has the name of the segment whose device failed, if
-/// one did.
-pub fn inspect<S: Source + Drop>(alloc: Global, segments: Vec<Named<S>>) -> Result<Report, Unread>
-    ensures ok { IfOk result (IsReportOfFirst (map (source_of S.remaining) segments.items)) }
+/// fault, and reports what is in them. With `may_compress` records may be Snappy blocks. An `Err`
+/// has the name of the segment whose device failed, if one did.
+pub fn inspect<S: Source + Drop>(
+    alloc: Global,
+    segments: Vec<Named<S>>,
+    may_compress: bool,
+) -> Result<Report, Unread>
+    ensures ok { IfOk result
+        (IsReportOfFirst may_compress (map (source_of S.remaining) segments.items)) }
     ensures sure { AreSure (map (source_of S.is_sure) segments.items)
         → (u : Unread) → result ≡ Err u → u.error ≡ Failed → ⊥ }
 {
-    let (read, counts) = read_named(alloc, segments, Counter::new(alloc))?;
-    Ok(report_of(alloc, &counts, read)?)
+    let (read, counts) = read_named(alloc, segments, may_compress, Counter::new(alloc))?;
+    Ok(report_of(alloc, &counts, read, may_compress)?)
 }

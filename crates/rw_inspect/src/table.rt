@@ -158,6 +158,12 @@ pub fn table_of(alloc: Global, report: &Report) -> Result<Vec<u8>, AllocError>
     push_rows(&mut out, &report.segments)?;
     push_row(&mut out, b"all", &sizes, &report.counts.sums)?;
     push_found(&mut out, &report.counts, &report.first_not_rising)?;
-    push_damage(&mut out, &LINES, &report.segments, &report.damage)?;
+    push_damage(
+        &mut out,
+        &LINES,
+        report.may_compress,
+        &report.segments,
+        &report.damage,
+    )?;
     Ok(out)
 }

@@ -1,15 +1,16 @@
 //! The texts about a fault.
 
-ghost use Rattle.std.specs.Prelude.{◌≡◌};
-ghost use Rattle.rw_inspect.specs.Faults.{fault_words, next_step};
+ghost use Rattle.std.specs.Prelude.{◌≡◌, ◌<◌};
+ghost use Rattle.rw_inspect.specs.Faults.{fault_words, next_step, row_number};
 
 use rw_wal_tail::TailFault;
 
 const COPY_AGAIN: &str =
     "copy the segment again and compare; send ships what comes before the fault, and nothing after it";
 
-/// What is wrong, and what to do next, by the number of the fault.
-const FAULTS: [(&str, &str); 9] = [
+/// What is wrong, and what to do next, by the number of the fault; and then of those faults that
+/// mean something else in a log that may have Snappy blocks.
+const FAULTS: [(&str, &str); 11] = [
     (
         "out of memory",
         "free some memory and run the command again",
@@ -22,7 +23,7 @@ const FAULTS: [(&str, &str); 9] = [
     ),
     (
         "the fragment is compressed",
-        "start Prometheus with --no-storage.tsdb.wal-compression; send ships what comes before the fault",
+        "give --wal-compression, which reads Snappy blocks, or start Prometheus with --no-storage.tsdb.wal-compression; send ships what comes before the fault",
     ),
     (
         "a byte of the padding at the end of the page is not zero",
@@ -37,18 +38,41 @@ const FAULTS: [(&str, &str); 9] = [
         "the segment ends inside a record, but another segment follows",
         "copy the segment again, or let Prometheus repair the log as it starts; send ships what comes before the fault",
     ),
+    (
+        "the fragment is compressed by Zstandard, or its type byte is damaged",
+        "start Prometheus without --storage.tsdb.wal-compression-type=zstd if it has that, or else copy the segment again; send ships what comes before the fault",
+    ),
+    (
+        "the record is a Snappy block that does not decode to at most 16 MiB, or does not have the form of its type",
+        COPY_AGAIN,
+    ),
 ];
 
-/// Returns what is wrong.
-pub(crate) fn fault_words(fault: TailFault) -> &'static str
-    ensures { result.now ≡ fault_words fault }
+/// Returns the row of a fault of a log, which may have Snappy blocks or has none.
+fn row_of(fault: TailFault, may_compress: bool) -> usize
+    ensures row { result ≡ row_number may_compress fault }
+    ensures within { result < 11 }
 {
-    FAULTS[usize::from(fault.number())].0
+    if !may_compress {
+        return usize::from(fault.number());
+    }
+    match fault {
+        TailFault::Compressed => 9,
+        TailFault::BadRecord => 10,
+        _ => usize::from(fault.number()),
+    }
+}
+
+/// Returns what is wrong.
+pub(crate) fn fault_words(fault: TailFault, may_compress: bool) -> &'static str
+    ensures { result.now ≡ fault_words may_compress fault }
+{
+    FAULTS[row_of(fault, may_compress)].0
 }
 
 /// Returns what to do next.
-pub(crate) fn next_step(fault: TailFault) -> &'static str
-    ensures { result.now ≡ next_step fault }
+pub(crate) fn next_step(fault: TailFault, may_compress: bool) -> &'static str
+    ensures { result.now ≡ next_step may_compress fault }
 {
-    FAULTS[usize::from(fault.number())].1
+    FAULTS[row_of(fault, may_compress)].1
 }

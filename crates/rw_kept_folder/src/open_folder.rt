@@ -51,7 +51,7 @@ fn fail(noted: &mut Record, fault: FolderFault) -> JournalError
 }
 
 impl<R: Files + Clock + AllocGlobal + Copy> OpenFolder<R> {
-    /// Returns the files of a folder that has so many segments by the record, by which they are
+    /// Returns the files of a folder that has this many segments by the record, by which they are
     /// also on the disk, and whose first segment has this number.
     pub(crate) fn new(
         handle: FolderHandle<R>,

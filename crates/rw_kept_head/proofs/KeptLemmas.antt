@@ -8,7 +8,7 @@ use Rattle.rw_types.specs.LabelOrder.{labels_eq}
 use Rattle.rw_types.specs.declared.entry.Entry.{Entry}
 use Rattle.rw_wal_format.specs.Laws.{log_all, sample_entry}
 use Rattle.rw_wal_format.specs.Pieces.{page_size, reading}
-use Rattle.rw_wal_format.specs.Segments.{segment, item_at}
+use Rattle.rw_wal_format.specs.Segments.{segment, item_at, segment_in}
 use Rattle.rw_wal_format.specs.Series.{samples_after}
 use Rattle.rw_head.specs.Added.{Added, samples_added, AddsUp}
 use Rattle.rw_head.specs.Order.{Point}
@@ -56,7 +56,7 @@ AddUp =
     → entries_of page (done ++ text ∷ last ∷ []) ≡ entries_of page (done ++ text ∷ []) ++ (segment page last).entries
 
 nothing_there : (page : ℕ) → entries_of page ([] ∷ []) ≡ entries_of page []
-unfolding reading segment item_at
+unfolding reading segment_in item_at
 nothing_there page = refl
 
 record Ended (P : List ℕ → Type 0) (ss : Segments) : Type 0 where

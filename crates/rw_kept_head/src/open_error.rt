@@ -16,7 +16,7 @@ pub enum OpenError {
     /// The log has samples that no head with these limits holds: their labels are refused, or their
     /// timestamps do not rise. The number is the position of the first such entry, from 0 on.
     Foreign(u64),
-    /// The log has a reference from 2^63 on, so there may be none left after it.
+    /// The log has a reference from 2^63 on, so no free one may be left after it.
     NoReferenceLeft,
 }
 

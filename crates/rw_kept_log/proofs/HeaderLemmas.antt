@@ -6,7 +6,7 @@ use Rattle.std.specs.List.{list_all}
 use Rattle.byteorder.specs.Endian.{big_number}
 use Rattle.byteorder.specs.Numbers.{big_from-append}
 use Rattle.rw_codes.specs.Crc.{crc32c_of}
-use Rattle.rw_wal_format.specs.Segments.{Kind, full, first, middle, last, Item, nothing, begun, zeros, fragment, wrong, zeros_at, data_at, fragment_at, item_at}
+use Rattle.rw_wal_format.specs.Segments.{Kind, full, first, middle, last, snappy, Item, nothing, begun, zeros, fragment, wrong, zeros_at, data_at, fragment_at, item_at}
 use Rattle.rw_wal_format.specs.Writing.{type_byte}
 use Rattle.rw_wal_format.specs.declared.tail_fault.TailFault.{TailFault}
 use Rattle.rw_wal_format.specs.declared.tail_fault.TailFault.TheVariants.{BadType, BadLength, BadCrc, Compressed, NonzeroPadding}
@@ -140,6 +140,7 @@ no_type full e = cc
 no_type first e = cc
 no_type middle e = cc
 no_type last e = cc
+no_type (snappy kind) e = omega (arith, e)
 
 zeros_stay : (m left : ℕ) (bs : List ℕ) (y : Item) → Stays m (zeros_at left bs) y
 unfolding Stays HasHeader
@@ -218,6 +219,10 @@ ends_by full b e = rw e refl
 ends_by first b e = rw e refl
 ends_by middle b e = rw e refl
 ends_by last b e = rw e refl
+ends_by (snappy kind) b e =
+    let one : eqb b 1 ≡ false = ne_eqb b 1 (omega (arith, e)) in
+    let four : eqb b 4 ≡ false = ne_eqb b 4 (omega (arith, e)) in
+    rw (one, four) refl
 
 -- no fragment is at the front
 pub no_fragment : (left : ℕ) (bs : List ℕ) (kind : Kind) (d : List ℕ) → 0 < length bs → (left < 7) ⊎ ((get_or bs 0 0 ≡ 0) ⊎ (length bs < 7)) → item_at left bs ≡ fragment kind d → ⊥

@@ -6,7 +6,7 @@ use Rattle.rw_codes.specs.Crc.{crc_bits}
 use Rattle.rw_types.specs.Labels.{Labels}
 use Rattle.rw_types.specs.declared.entry.Entry.TheVariants.{Def, Sample}
 use Rattle.rw_wal_format.specs.Records.{series_record, sample_record, record_entries}
-use Rattle.rw_wal_format.specs.Segments.{segment, item_at}
+use Rattle.rw_wal_format.specs.Segments.{segment, item_at, segment_in}
 use Rattle.rw_wal_format.specs.Writing.{frame, log_bytes}
 use Rattle.rw_wal_format.specs.Laws.{log_all}
 
@@ -25,9 +25,9 @@ holed = take 29 whole ++ replicate 35 0 ++ drop 64 whole
 
 -- no fault shows that the sample is lost, and the later one is read
 read_over_a_hole : (segment 64 holed).entries ≡ Def 1 up ∷ Sample 1 (pos 2000) 0x3ff0000000000000 ∷ []
-unfolding groups frame log_bytes item_at segment record_entries number_in_groups crc_bits
+unfolding groups frame log_bytes item_at segment_in record_entries number_in_groups crc_bits
 read_over_a_hole = refl
 
 read_whole : (segment 64 whole).entries ≡ Def 1 up ∷ Sample 1 (pos 1000) 0x3ff0000000000000 ∷ Sample 1 (pos 2000) 0x3ff0000000000000 ∷ []
-unfolding groups frame log_bytes item_at segment record_entries number_in_groups crc_bits
+unfolding groups frame log_bytes item_at segment_in record_entries number_in_groups crc_bits
 read_whole = refl

@@ -1,7 +1,7 @@
 -- A segment that is read in parts.
 use Rattle.std.proofs.Common.{◌≡◌, ℕ, List, [], ◌∷◌, ◌++◌, length, Option, Some, None, refl, sym, ap, ◌∙◌, subst, append_assoc, append-nil}
 use Rattle.rw_types.specs.declared.entry.Entry.{Entry}
-use Rattle.rw_wal_format.specs.Segments.{Stop, between, inside, at_fault, Reading, segment, item_at}
+use Rattle.rw_wal_format.specs.Segments.{Stop, between, inside, at_fault, Reading, segment, item_at, segment_in}
 use Rattle.rw_wal_format.specs.Pieces.{Piece, bytes, next_segment, entries, fault, fault_at, page_size, reading, reading_after, then_after}
 use Rattle.rw_wal_format.specs.declared.tail_fault.TailFault.{TailFault}
 use Rattle.rw_wal_tail.specs.Fed.{Fed}
@@ -18,7 +18,7 @@ none_is_some f e = cc
 -- ---- the parts of a segment
 
 nothing_read : (segment page_size []).entries ≡ []
-unfolding segment item_at
+unfolding segment_in item_at
 nothing_read = refl
 
 none_entries : entries [] ≡ []
@@ -87,7 +87,7 @@ end_entries : (text : List ℕ) → (reading_after page_size text (next_segment 
 end_entries text = end_adds_none (segment page_size text).stop (segment page_size text) (segment page_size []) nothing_read
 
 nothing_wrong : fault_at (segment page_size []).stop ≡ None
-unfolding segment item_at
+unfolding segment_in item_at
 nothing_wrong = refl
 
 stop_there : (s : Stop) (r next : Reading) (f : TailFault) (o : ℕ) (p : FaultPlace) → fault_at next.stop ≡ None → r.stop ≡ s → fault_at (then_after s r next).stop ≡ Some f → (place_then s 0 o p).offset ≡ o

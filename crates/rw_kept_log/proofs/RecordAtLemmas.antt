@@ -4,7 +4,7 @@ use Rattle.std.proofs.lemmas.List.{drop_all}
 use Rattle.std.specs.List.{list_all}
 use Rattle.byteorder.specs.Endian.{big_number}
 use Rattle.rw_codes.specs.Crc.{crc32c_of}
-use Rattle.rw_wal_format.specs.Segments.{Kind, full, first, middle, last, Item, fragment, wrong, zeros_at, data_at, fragment_at, item_at}
+use Rattle.rw_wal_format.specs.Segments.{Kind, full, first, middle, last, snappy, Item, fragment, wrong, zeros_at, data_at, fragment_at, item_at}
 use Rattle.rw_wal_format.specs.declared.tail_fault.TailFault.{TailFault}
 use Rattle.rw_wal_format.specs.declared.tail_fault.TailFault.TheVariants.{BadCrc}
 use Rattle.rw_wal_format.specs.Pieces.{page_size, fault}
@@ -25,6 +25,7 @@ empty_no full (r ∷ rs) = refl
 empty_no first rest = refl
 empty_no middle rest = refl
 empty_no last rest = refl
+empty_no (snappy kind) rest = refl
 
 pub no_data : (left n crc : ℕ) (rest : List ℕ) → n ≡ 0 → is_record (data_at full left n crc rest) ≡ false
 no_data left n crc rest none =

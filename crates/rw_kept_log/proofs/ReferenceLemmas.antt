@@ -151,7 +151,7 @@ noted_all es n ss noted table =
           (knows_all n (definitions_in es) (noted.knows (apart_front (definitions_in es) (undefined n) (subst AreApart is once))));
     }
 
--- a definition of the log is none of the new ones
+-- a definition of the log is not one of the new ones
 is_other : (n : ReferenceTable) (d e : ℕ × Labels) → IsTable n → d.0 < n.next → (IsLabelSet Utf8 d.1 → IsOneOf n.known d) → n.next ≤ e.0 → IsLabelSet Utf8 e.1 → IsOneOf (undefined n) e → IsOther d e
 is_other n d e table less knows from set one = (
   λ same. omega (arith, same, less, from),

@@ -1,14 +1,14 @@
 -- A torn segment: its fragments are a prefix of those that were being written, but for an empty one
 -- at its end, and its entries are a prefix of those that were being written.
-use Rattle.std.proofs.Common.{◌≡◌, ℕ, zero, suc, ◌+◌, ◌*◌, ◌/◌, ◌<◌, ◌≤◌, List, [], ◌∷◌, ◌++◌, length, take, drop, Option, Some, None, refl, sym, ap, ◌∙◌, subst, ◌⊎◌, inl, inr, arith, le_refl, append_assoc, length-drop, take-append-drop, div-add-mod', mod-lt}
+use Rattle.std.proofs.Common.{◌≡◌, ℕ, zero, suc, ◌+◌, ◌*◌, ◌/◌, ◌<◌, ◌≤◌, List, [], ◌∷◌, ◌++◌, length, take, drop, Option, Some, None, true, false, refl, sym, ap, ◌∙◌, subst, ◌⊎◌, inl, inr, arith, le_refl, append_assoc, length-drop, take-append-drop, div-add-mod', mod-lt}
 use Rattle.std.proofs.lemmas.Bool.{cases_lt}
 use Rattle.std.proofs.lemmas.List.{drop-drop, drop_all, drop-take, take-take}
 use Rattle.std.proofs.lemmas.Nat.{mul-le, div_below}
 use Rattle.rw_types.specs.Beginnings.{Begins}
 use Rattle.rw_types.specs.declared.entry.Entry.{Entry}
 use Rattle.rw_wal_format.specs.Records.{record_entries}
-use Rattle.rw_wal_format.specs.Segments.{Kind, full, first, middle, last, Item, nothing, begun, zeros, fragment, wrong, item_at, Stop, Layout, with_fragment, from_item, Reading, with_entries, reading_of, segment}
-use Rattle.rw_wal_format.proofs.shared.Growing.{segment_grows}
+use Rattle.rw_wal_format.specs.Segments.{Kind, full, first, middle, last, Item, nothing, begun, zeros, fragment, wrong, item_at, Stop, Layout, with_fragment, from_item, Reading, Record, text_of, with_text, with_entries, snappy, IsPlain, Joined, still_open, complete, out_of_sequence, joined, from_joined, reading_of, segment, segment_in}
+use Rattle.rw_wal_format.proofs.shared.Growing.{segment_grows, kind_plain}
 use Rattle.rw_wal_format.proofs.shared.Items.{layout_from, layout_step, read_step}
 use Rattle.rw_kept_log.specs.Torn.{left_at, end_of_page, IsTorn}
 use Rattle.rw_kept_log.specs.TornLogs.{item_of, after_item, place_of, NoChance}
@@ -31,8 +31,8 @@ page_end_le page at offset p h =
 
 -- ---- what is read at a place
 
-read_as : (page left : ℕ) (bs : List ℕ) (x : Item) → 0 < page → 0 < left → item_at left bs ≡ x → layout_from page left bs ≡ from_item page left bs (layout_from page) x
-read_as page left bs x p l e = layout_step page left bs p l ∙ ap (from_item page left bs (layout_from page)) e
+read_as : (page left : ℕ) (bs : List ℕ) (x : Item) → 0 < page → 0 < left → item_at left bs ≡ x → layout_from false page left bs ≡ from_item page left bs (layout_from false page) x
+read_as page left bs x p l e = layout_step false page left bs p l ∙ ap (from_item page left bs (layout_from false page)) e
 
 -- The first fragments are a prefix of the second ones, and some that add no entry.
 record BeginsBut (ls ms : List (Kind × List ℕ)) : Type 0 where
@@ -41,7 +41,7 @@ record BeginsBut (ls ms : List (Kind × List ℕ)) : Type 0 where
   more : List (Kind × List ℕ)
   left_is : ls ≡ same ++ extra
   written_is : ms ≡ same ++ more
-  adds_none : (so_far : Option (List ℕ)) (s : Stop) → (reading_of so_far extra s).entries ≡ []
+  adds_none : (so_far : Option Record) (s : Stop) → (reading_of so_far extra s).entries ≡ []
 
 none_begins : (l m : Layout) → l.fragments ≡ [] → BeginsBut l.fragments m.fragments
 none_begins l m e = record { same = []; extra = []; more = m.fragments; left_is = e; written_is = refl; adds_none = λ so_far s. refl }
@@ -67,27 +67,31 @@ same_begins l l' m m' el em b = record {
 }
 
 -- an empty fragment that ends no open record adds no entry
-empty_adds_none : (kind : Kind) → (kind ≡ last → ⊥) → (so_far : Option (List ℕ)) (s : Stop) → (reading_of so_far ((kind, []) ∷ []) s).entries ≡ []
+empty_adds_none : (kind : Kind) → IsPlain kind → (kind ≡ last → ⊥) → (so_far : Option Record) (s : Stop) → (reading_of so_far ((kind, []) ∷ []) s).entries ≡ []
 unfolding record_entries
-empty_adds_none full ends_none None s = refl
-empty_adds_none first ends_none None s = refl
-empty_adds_none middle ends_none None s = refl
-empty_adds_none last ends_none so_far s = absurd (ends_none refl)
-empty_adds_none full ends_none (Some o) s = refl
-empty_adds_none first ends_none (Some o) s = refl
-empty_adds_none middle ends_none (Some o) s = refl
+empty_adds_none (snappy kind) plain ends_none so_far s = absurd plain
+empty_adds_none last plain ends_none so_far s = absurd (ends_none refl)
+empty_adds_none full plain ends_none None s = refl
+empty_adds_none first plain ends_none None s = refl
+empty_adds_none middle plain ends_none None s = refl
+empty_adds_none full plain ends_none (Some (false, o)) s = refl
+empty_adds_none first plain ends_none (Some (false, o)) s = refl
+empty_adds_none middle plain ends_none (Some (false, o)) s = refl
+empty_adds_none full plain ends_none (Some (true, o)) s = refl
+empty_adds_none first plain ends_none (Some (true, o)) s = refl
+empty_adds_none middle plain ends_none (Some (true, o)) s = refl
 
-end_begins : (kind : Kind) (d : List ℕ) (l l' m : Layout) → l ≡ with_fragment kind d l' → l'.fragments ≡ [] → d ≡ [] → (kind ≡ last → ⊥) → BeginsBut l.fragments m.fragments
-end_begins kind d l l' m el none empty ends_none = record {
+end_begins : (kind : Kind) (d : List ℕ) (l l' m : Layout) → l ≡ with_fragment kind d l' → l'.fragments ≡ [] → d ≡ [] → IsPlain kind → (kind ≡ last → ⊥) → BeginsBut l.fragments m.fragments
+end_begins kind d l l' m el none empty plain ends_none = record {
   same = [];
   extra = (kind, []) ∷ [];
   more = m.fragments;
   left_is = ap (λ (x : Layout). x.fragments) el ∙ ap (λ (fs : List (Kind × List ℕ)). (kind, d) ∷ fs) none ∙ ap (λ (x : List ℕ). (kind, x) ∷ []) empty;
   written_is = refl;
-  adds_none = empty_adds_none kind ends_none;
+  adds_none = empty_adds_none kind plain ends_none;
 }
 
-empty_layout : (page : ℕ) → 0 < page → (layout_from page page []).fragments ≡ []
+empty_layout : (page : ℕ) → 0 < page → (layout_from false page page []).fragments ≡ []
 unfolding item_at
 empty_layout page p = ap (λ (x : Layout). x.fragments) (read_as page page [] nothing p p refl)
 
@@ -95,10 +99,10 @@ empty_layout page p = ap (λ (x : Layout). x.fragments) (read_as page page [] no
 
 -- the layout of a text from an offset on
 layout_at : ℕ → List ℕ → ℕ → Layout
-layout_at page text offset = layout_from page (left_at page offset) (drop offset text)
+layout_at page text offset = layout_from false page (left_at page offset) (drop offset text)
 
 module _ (page : ℕ) (text : List ℕ) (p : 0 < page) where
-  at_item : (offset : ℕ) (x : Item) → item_of page text offset ≡ x → layout_at page text offset ≡ from_item page (left_at page offset) (drop offset text) (layout_from page) x
+  at_item : (offset : ℕ) (x : Item) → item_of page text offset ≡ x → layout_at page text offset ≡ from_item page (left_at page offset) (drop offset text) (layout_from false page) x
   unfolding layout_at
   at_item offset x e = read_as page (left_at page offset) (drop offset text) x p (left_pos page offset p) e
 
@@ -106,15 +110,15 @@ module _ (page : ℕ) (text : List ℕ) (p : 0 < page) where
   unfolding layout_at
   at_fragment offset kind d fits e =
       at_item offset (fragment kind d) e
-      ∙ ap (λ (k : ℕ). with_fragment kind d (layout_from page k (drop (7 + length d) (drop offset text)))) (left_moves page offset (7 + length d) p fits)
-      ∙ ap (λ (bs : List ℕ). with_fragment kind d (layout_from page (left_at page (offset + (7 + length d))) bs)) (drop-drop (7 + length d) offset text)
+      ∙ ap (λ (k : ℕ). with_fragment kind d (layout_from false page k (drop (7 + length d) (drop offset text)))) (left_moves page offset (7 + length d) p fits)
+      ∙ ap (λ (bs : List ℕ). with_fragment kind d (layout_from false page (left_at page (offset + (7 + length d))) bs)) (drop-drop (7 + length d) offset text)
 
   at_zeros : (offset : ℕ) → item_of page text offset ≡ zeros → layout_at page text offset ≡ layout_at page text (end_of_page page offset)
   unfolding layout_at
   at_zeros offset e =
       at_item offset zeros e
-      ∙ ap (layout_from page page) (drop-drop (left_at page offset) offset text)
-      ∙ ap (λ (k : ℕ). layout_from page k (drop (end_of_page page offset) text)) (sym (left_full page offset p))
+      ∙ ap (layout_from false page page) (drop-drop (left_at page offset) offset text)
+      ∙ ap (λ (k : ℕ). layout_from false page k (drop (end_of_page page offset) text)) (sym (left_full page offset p))
 
   -- where no fragment is read from a place on, the layout has none
   none_step : (offset : ℕ) (x : Item) → item_of page text offset ≡ x → ((kind : Kind) (d : List ℕ) → x ≡ fragment kind d → ⊥)
@@ -148,8 +152,8 @@ module _ (page synced : ℕ) (written left : List ℕ) (p : 0 < page) (torn : Is
       elim (cases_lt synced (offset + left_at page offset)) [
         | inl l ↦
             (let gone : drop (offset + left_at page offset) left ≡ [] = drop_all (offset + left_at page offset) left (omega (arith, torn.within, page_end_le page synced offset p l)) in
-            none_begins (layout_at page left offset) (layout_at page written offset) (ap (λ (x : Layout). x.fragments) (at_zeros page left p offset e ∙ ap (layout_from page (left_at page (end_of_page page offset))) gone)
-            ∙ ap (λ (k : ℕ). (layout_from page k []).fragments) (left_full page offset p) ∙ empty_layout page p))
+            none_begins (layout_at page left offset) (layout_at page written offset) (ap (λ (x : Layout). x.fragments) (at_zeros page left p offset e ∙ ap (layout_from false page (left_at page (end_of_page page offset))) gone)
+            ∙ ap (λ (k : ℕ). (layout_from false page k []).fragments) (left_full page offset p) ∙ empty_layout page p))
         | inr g ↦
             (let same : take (left_at page offset) (drop offset left) ≡ take (left_at page offset) (drop offset written) =
             sym (drop-take offset (left_at page offset) left)
@@ -174,7 +178,7 @@ module _ (page synced : ℕ) (written left : List ℕ) (p : 0 < page) (torn : Is
       elim (why kind d refl) [
         | inl was ↦ cons_begins kind d (layout_at page left offset) (layout_at page left (offset + (7 + length d))) (layout_at page written offset) (layout_at page written (offset + (7 + length d)))
             here (at_fragment page written p offset kind d fits.1 was) (ih fits.0)
-        | inr end ↦ end_begins kind d (layout_at page left offset) (layout_at page left (offset + (7 + length d))) (layout_at page written offset) here end.2 end.0 end.1
+        | inr end ↦ end_begins kind d (layout_at page left offset) (layout_at page left (offset + (7 + length d))) (layout_at page written offset) here end.2 end.0 (kind_plain (left_at page offset) (drop offset left) kind d e) end.1
       ]
 
   step : (offset : ℕ) (x : Item) → item_of page left offset ≡ x → Explained offset x
@@ -208,17 +212,19 @@ with_begin : (d : List ℕ) (found : Option (List Entry)) (r s : Reading) → Be
 with_begin d None r s b = ([], refl)
 with_begin d (Some es) r s b = (b.0, ap (λ (l : List Entry). es ++ l) b.1 ∙ sym (append_assoc es r.entries b.0))
 
-module _ (extra more : List (Kind × List ℕ)) (s s' : Stop) (adds_none : (so_far : Option (List ℕ)) (t : Stop) → (reading_of so_far extra t).entries ≡ []) where
-  entries_begin : (so_far : Option (List ℕ)) (fs : List (Kind × List ℕ)) → Begins (reading_of so_far (fs ++ extra) s).entries (reading_of so_far (fs ++ more) s').entries
+text_begin : (found : Option (List ℕ)) (r s : Reading) → Begins r.entries s.entries → Begins (with_text found r).entries (with_text found s).entries
+text_begin None r s b = ([], refl)
+text_begin (Some d) r s b = with_begin d (record_entries d) r s b
+
+joined_begin : (next next' : Option Record → Reading) (j : Joined) → ((o : Option Record) → Begins (next o).entries (next' o).entries) → Begins (from_joined next j).entries (from_joined next' j).entries
+joined_begin next next' (still_open d) h = h (Some d)
+joined_begin next next' (complete d) h = text_begin (text_of d) _ _ (h None)
+joined_begin next next' out_of_sequence h = ([], refl)
+
+module _ (extra more : List (Kind × List ℕ)) (s s' : Stop) (adds_none : (so_far : Option Record) (t : Stop) → (reading_of so_far extra t).entries ≡ []) where
+  entries_begin : (so_far : Option Record) (fs : List (Kind × List ℕ)) → Begins (reading_of so_far (fs ++ extra) s).entries (reading_of so_far (fs ++ more) s').entries
   entries_begin so_far [] = ((reading_of so_far more s').entries, ap (λ (es : List Entry). es ++ (reading_of so_far more s').entries) (sym (adds_none so_far s)))
-  entries_begin None ((full, d) ∷ fs) = with_begin d (record_entries d) _ _ (entries_begin None fs)
-  entries_begin None ((first, d) ∷ fs) = entries_begin (Some d) fs
-  entries_begin None ((middle, d) ∷ fs) = ([], refl)
-  entries_begin None ((last, d) ∷ fs) = ([], refl)
-  entries_begin (Some o) ((full, d) ∷ fs) = ([], refl)
-  entries_begin (Some o) ((first, d) ∷ fs) = ([], refl)
-  entries_begin (Some o) ((middle, d) ∷ fs) = entries_begin (Some (o ++ d)) fs
-  entries_begin (Some o) ((last, d) ∷ fs) = with_begin (o ++ d) (record_entries (o ++ d)) _ _ (entries_begin None fs)
+  entries_begin so_far ((kind, d) ∷ fs) = joined_begin (λ o. reading_of o (fs ++ extra) s) (λ o. reading_of o (fs ++ more) s') (joined so_far kind d) (λ o. entries_begin o fs)
 
 layouts_begin : (l m : Layout) → BeginsBut l.fragments m.fragments → Begins (reading_of None l.fragments l.stop).entries (reading_of None m.fragments m.stop).entries
 layouts_begin l m b =
@@ -227,24 +233,24 @@ layouts_begin l m b =
     (entries_begin b.extra b.more l.stop m.stop b.adds_none None b.same))
 
 -- a segment is read by its layout
-segment_is : (page : ℕ) (text : List ℕ) → 0 < page → segment page text ≡ reading_of None (layout_from page page text).fragments (layout_from page page text).stop
-unfolding segment
+segment_is : (page : ℕ) (text : List ℕ) → 0 < page → segment page text ≡ reading_of None (layout_from false page page text).fragments (layout_from false page page text).stop
+unfolding segment_in
 segment_is page text p =
-    read_step page page None text (item_at page text) p p refl
-    ∙ ap (λ (l : Layout). reading_of None l.fragments l.stop) (sym (layout_step page page text p p))
+    read_step false page page None text (item_at page text) p p refl
+    ∙ ap (λ (l : Layout). reading_of None l.fragments l.stop) (sym (layout_step false page page text p p))
 
 pub torn_begins : (page synced : ℕ) (written left : List ℕ) → 0 < page → IsTorn page synced written left → NoChance page written left
     → Begins (segment page left).entries (segment page written).entries
 unfolding BeginsAt layout_at
 torn_begins page synced written left p torn chance =
     let all = fragments_begin page synced written left p torn chance (length left) 0 (le_refl (length left)) in
-    let both = layouts_begin (layout_from page page left) (layout_from page page written)
-    (subst (λ (k : ℕ). BeginsBut (layout_from page k left).fragments (layout_from page k written).fragments) (left_first page p) all) in
+    let both = layouts_begin (layout_from false page page left) (layout_from false page page written)
+    (subst (λ (k : ℕ). BeginsBut (layout_from false page k left).fragments (layout_from false page k written).fragments) (left_first page p) all) in
     (both.0, ap (λ (r : Reading). r.entries) (segment_is page written p) ∙ both.1 ∙ ap (λ (r : Reading). r.entries ++ both.0) (sym (segment_is page left p)))
 
 pub synced_stays : (page synced : ℕ) (written left : List ℕ) → 0 < page → IsTorn page synced written left
     → Begins (segment page (take synced written)).entries (segment page left).entries
 synced_stays page synced written left p torn =
     let whole : take synced written ++ drop synced left ≡ left = ap (λ (bs : List ℕ). bs ++ drop synced left) (sym torn.front) ∙ take-append-drop synced left in
-    let grown = segment_grows page (take synced written) (drop synced left) p in
+    let grown = segment_grows false page (take synced written) (drop synced left) p in
     subst (λ (bs : List ℕ). Begins (segment page (take synced written)).entries (segment page bs).entries) whole (grown.more, grown.entries)

@@ -3,10 +3,11 @@ use Rattle.std.proofs.Common.{◌≡◌, ◌⊎◌, ℕ, ◌+◌, ◌-◌, ◌<�
 use Rattle.std.proofs.lemmas.List.{drop-drop, drop_all, drop-take, take-take}
 use Rattle.std.proofs.Math.Seq.{take-length}
 use Rattle.rw_types.specs.declared.entry.Entry.{Entry}
-use Rattle.rw_wal_format.specs.Records.{record_entries}
-use Rattle.rw_wal_format.specs.Segments.{Kind, full, first, middle, last, Item, nothing, begun, zeros, fragment, wrong, item_at, Stop, between, left_after, Reading, with_entries, reading_of, read_from, segment}
-use Rattle.rw_wal_format.proofs.shared.Items.{read_step, read_zeros, read_nothing, read_begun, read_wrong, read_full, read_first, read_middle, read_last}
-use Rattle.rw_wal_tail.specs.Places.{closes, opens, count_after, count_from, read_count, stop_offset}
+use Rattle.rw_wal_format.specs.Records.{◌then◌, record_entries}
+use Rattle.rw_wal_format.specs.Segments.{Kind, full, first, middle, last, Item, nothing, begun, zeros, fragment, wrong, item_at, between, left_after, snappy, Reading, Record, text_of, with_text, with_entries, Joined, still_open, complete, out_of_sequence, joined, from_joined, read_from, segment, segment_in}
+use Rattle.rw_wal_format.proofs.shared.Growing.{kind_plain}
+use Rattle.rw_wal_format.proofs.shared.Items.{read_zeros, read_nothing, read_begun, read_wrong, read_fragment}
+use Rattle.rw_wal_tail.specs.Places.{closes, open_after, opens, count_after, count_from, read_count, stop_offset, stop_offset_in}
 use Rattle.rw_wal_tail.proofs.shared.PlaceLaws.{count_item, empty_count}
 use Rattle.rw_kept_log.specs.Logs.{IsCleanCut}
 use Rattle.rw_kept_log.specs.Torn.{left_at}
@@ -21,27 +22,27 @@ use Rattle.rw_kept_log.proofs.HeaderLemmas.{item_cut, take_in}
 -- ---- one fragment
 
 -- what a fragment adds, if the reader goes on after it
-record Adds (page left : ℕ) (so_far : Option (List ℕ)) (kind : Kind) (d : List ℕ) (o' : Option (List ℕ)) : Type 0 where
+record Adds (page left : ℕ) (so_far : Option Record) (kind : Kind) (d : List ℕ) (o' : Option Record) : Type 0 where
   es : List Entry
-  entries : (bs : List ℕ) → item_at left bs ≡ fragment kind d → (read_from page left so_far bs).entries ≡ es ++ (read_from page (left_after page left (7 + length d)) o' (drop (7 + length d) bs)).entries
-  stop : (bs : List ℕ) → item_at left bs ≡ fragment kind d → (read_from page left so_far bs).stop ≡ (read_from page (left_after page left (7 + length d)) o' (drop (7 + length d) bs)).stop
+  entries : (bs : List ℕ) → item_at left bs ≡ fragment kind d → (read_from false page left so_far bs).entries ≡ es ++ (read_from false page (left_after page left (7 + length d)) o' (drop (7 + length d) bs)).entries
+  stop : (bs : List ℕ) → item_at left bs ≡ fragment kind d → (read_from false page left so_far bs).stop ≡ (read_from false page (left_after page left (7 + length d)) o' (drop (7 + length d) bs)).stop
   ended : ends_with kind ≡ true → o' ≡ None
   quiet : ends_with kind ≡ false → es ≡ []
 
-closed_by : (found : Option (List Entry)) (o' : Option (List ℕ)) → closes found ≡ Some o' → (es : List Entry) × (found ≡ Some es) × (None ≡ o')
+closed_by : (found : Option (List Entry)) (o' : Option Record) → closes found ≡ Some o' → (es : List Entry) × (found ≡ Some es) × (None ≡ o')
 closed_by None o' h = absurd (cc)
 closed_by (Some es) o' h = (es, refl, cc)
 
-adds-end : (page left : ℕ) (so_far : Option (List ℕ)) (kind : Kind) (d whole : List ℕ) (o' : Option (List ℕ)) → ends_with kind ≡ true → closes (record_entries whole) ≡ Some o'
-    → ((bs : List ℕ) → item_at left bs ≡ fragment kind d → read_from page left so_far bs ≡ with_entries whole (record_entries whole) (read_from page (left_after page left (7 + length d)) None (drop (7 + length d) bs)))
+adds-end : (page left : ℕ) (so_far : Option Record) (kind : Kind) (d whole : List ℕ) (o' : Option Record) → ends_with kind ≡ true → closes (record_entries whole) ≡ Some o'
+    → ((bs : List ℕ) → item_at left bs ≡ fragment kind d → read_from false page left so_far bs ≡ with_entries whole (record_entries whole) (read_from false page (left_after page left (7 + length d)) None (drop (7 + length d) bs)))
     → Adds page left so_far kind d o'
 adds-end page left so_far kind d whole o' end h reads =
     let c = closed_by (record_entries whole) o' h in
-    let next = λ (o : Option (List ℕ)) (bs : List ℕ). read_from page (left_after page left (7 + length d)) o (drop (7 + length d) bs) in
+    let next = λ (o : Option Record) (bs : List ℕ). read_from false page (left_after page left (7 + length d)) o (drop (7 + length d) bs) in
     record {
       es = c.0;
-      entries = λ bs e. ap (λ (r : Reading). r.entries) (reads bs e ∙ ap (λ (f : Option (List Entry)). with_entries whole f (next None bs)) c.1) ∙ ap (λ (o : Option (List ℕ)). c.0 ++ (next o bs).entries) c.2;
-      stop = λ bs e. ap (λ (r : Reading). r.stop) (reads bs e ∙ ap (λ (f : Option (List Entry)). with_entries whole f (next None bs)) c.1) ∙ ap (λ (o : Option (List ℕ)). (next o bs).stop) c.2;
+      entries = λ bs e. ap (λ (r : Reading). r.entries) (reads bs e ∙ ap (λ (f : Option (List Entry)). with_entries whole f (next None bs)) c.1) ∙ ap (λ (o : Option Record). c.0 ++ (next o bs).entries) c.2;
+      stop = λ bs e. ap (λ (r : Reading). r.stop) (reads bs e ∙ ap (λ (f : Option (List Entry)). with_entries whole f (next None bs)) c.1) ∙ ap (λ (o : Option Record). (next o bs).stop) c.2;
       ended = λ t. sym c.2;
       quiet = λ f. absurd (both (ends_with kind) end f);
     }
@@ -49,15 +50,15 @@ adds-end page left so_far kind d whole o' end h reads =
     both : (b : Bool) → b ≡ true → b ≡ false → ⊥
     both b t f = cc
 
-adds-more : (page left : ℕ) (so_far : Option (List ℕ)) (kind : Kind) (d : List ℕ) (o o' : Option (List ℕ)) → ends_with kind ≡ false → o ≡ o'
-    → ((bs : List ℕ) → item_at left bs ≡ fragment kind d → read_from page left so_far bs ≡ read_from page (left_after page left (7 + length d)) o (drop (7 + length d) bs))
+adds-more : (page left : ℕ) (so_far : Option Record) (kind : Kind) (d : List ℕ) (o o' : Option Record) → ends_with kind ≡ false → o ≡ o'
+    → ((bs : List ℕ) → item_at left bs ≡ fragment kind d → read_from false page left so_far bs ≡ read_from false page (left_after page left (7 + length d)) o (drop (7 + length d) bs))
     → Adds page left so_far kind d o'
 adds-more page left so_far kind d o o' goes_on is reads =
-    let next = λ (x : Option (List ℕ)) (bs : List ℕ). read_from page (left_after page left (7 + length d)) x (drop (7 + length d) bs) in
+    let next = λ (x : Option Record) (bs : List ℕ). read_from false page (left_after page left (7 + length d)) x (drop (7 + length d) bs) in
     record {
       es = [];
-      entries = λ bs e. ap (λ (r : Reading). r.entries) (reads bs e) ∙ ap (λ (x : Option (List ℕ)). (next x bs).entries) is;
-      stop = λ bs e. ap (λ (r : Reading). r.stop) (reads bs e) ∙ ap (λ (x : Option (List ℕ)). (next x bs).stop) is;
+      entries = λ bs e. ap (λ (r : Reading). r.entries) (reads bs e) ∙ ap (λ (x : Option Record). (next x bs).entries) is;
+      stop = λ bs e. ap (λ (r : Reading). r.stop) (reads bs e) ∙ ap (λ (x : Option Record). (next x bs).stop) is;
       ended = λ t. absurd (both (ends_with kind) t goes_on);
       quiet = λ f. refl;
     }
@@ -65,18 +66,32 @@ adds-more page left so_far kind d o o' goes_on is reads =
     both : (b : Bool) → b ≡ true → b ≡ false → ⊥
     both b t f = cc
 
-same_some : (o o' : Option (List ℕ)) → Some o ≡ Some o' → o ≡ o'
+true_false : (b : Bool) → b ≡ true → b ≡ false → ⊥
+true_false b t f = cc
+
+same_some : (o o' : Option Record) → Some o ≡ Some o' → o ≡ o'
 same_some o o' h = cc
 
-adds : (page left : ℕ) (so_far : Option (List ℕ)) (kind : Kind) (d : List ℕ) (o' : Option (List ℕ)) → 0 < page → 0 < left → opens so_far kind d ≡ Some o' → Adds page left so_far kind d o'
-adds page left None full d o' p l h = adds-end page left None full d d o' refl h (λ bs e. read_full page left bs p l d e)
-adds page left None first d o' p l h = adds-more page left None first d (Some d) o' refl (same_some (Some d) o' h) (λ bs e. read_first page left bs p l d e)
+adds : (page left : ℕ) (so_far : Option Record) (kind : Kind) (d : List ℕ) (o' : Option Record) → 0 < page → 0 < left → opens so_far kind d ≡ Some o' → Adds page left so_far kind d o'
+adds page left None full d o' p l h = adds-end page left None full d d o' refl h (λ bs e. read_fragment false page left bs p l None full d e)
+adds page left None first d o' p l h = adds-more page left None first d (Some (false, d)) o' refl (same_some (Some (false, d)) o' h) (λ bs e. read_fragment false page left bs p l None first d e)
 adds page left None middle d o' p l h = absurd (cc)
 adds page left None last d o' p l h = absurd (cc)
-adds page left (Some o) full d o' p l h = absurd (cc)
-adds page left (Some o) first d o' p l h = absurd (cc)
-adds page left (Some o) middle d o' p l h = adds-more page left (Some o) middle d (Some (o ++ d)) o' refl (same_some (Some (o ++ d)) o' h) (λ bs e. read_middle page left bs p l o d e)
-adds page left (Some o) last d o' p l h = adds-end page left (Some o) last d (o ++ d) o' refl h (λ bs e. read_last page left bs p l o d e)
+adds page left (Some (false, o)) full d o' p l h = absurd (cc)
+adds page left (Some (false, o)) first d o' p l h = absurd (cc)
+adds page left (Some (false, o)) middle d o' p l h = adds-more page left (Some (false, o)) middle d (Some (false, o ++ d)) o' refl (same_some (Some (false, o ++ d)) o' h) (λ bs e. read_fragment false page left bs p l (Some (false, o)) middle d e)
+adds page left (Some (false, o)) last d o' p l h = adds-end page left (Some (false, o)) last d (o ++ d) o' refl h (λ bs e. read_fragment false page left bs p l (Some (false, o)) last d e)
+adds page left (Some (true, o)) full d o' p l h = absurd (cc)
+adds page left (Some (true, o)) first d o' p l h = absurd (cc)
+adds page left (Some (true, o)) middle d o' p l h = absurd (cc)
+adds page left (Some (true, o)) last d o' p l h = absurd (cc)
+adds page left so_far (snappy kind) d o' p l h = record {
+  es = [];
+  entries = λ bs e. absurd (kind_plain left bs (snappy kind) d e);
+  stop = λ bs e. absurd (kind_plain left bs (snappy kind) d e);
+  ended = λ t. absurd (true_false false t refl);
+  quiet = λ f. refl;
+}
 
 -- ---- nothing more is read
 
@@ -87,45 +102,44 @@ not_closed (Some es) h = absurd (cc)
 stuck : (d : List ℕ) (r : Reading) → closes (record_entries d) ≡ None → (with_entries d (record_entries d) r).entries ≡ []
 stuck d r h = ap (λ (f : Option (List Entry)). (with_entries d f r).entries) (not_closed (record_entries d) h)
 
-none_more : (so_far : Option (List ℕ)) (kind : Kind) (d : List ℕ) (fs : List (Kind × List ℕ)) (s : Stop) → opens so_far kind d ≡ None → (reading_of so_far ((kind, d) ∷ fs) s).entries ≡ []
-none_more None full d fs s h = stuck d (reading_of None fs s) h
-none_more None first d fs s h = absurd (cc)
-none_more None middle d fs s h = refl
-none_more None last d fs s h = refl
-none_more (Some o) full d fs s h = refl
-none_more (Some o) first d fs s h = refl
-none_more (Some o) middle d fs s h = absurd (cc)
-none_more (Some o) last d fs s h = stuck (o ++ d) (reading_of None fs s) h
+stuck_text : (found : Option (List ℕ)) (r : Reading) → closes (found then λ d. record_entries d) ≡ None → (with_text found r).entries ≡ []
+stuck_text None r h = refl
+stuck_text (Some d) r h = stuck d r h
 
-module _ (page left : ℕ) (so_far : Option (List ℕ)) (bs : List ℕ) (p : 0 < page) (l : 0 < left) where
-  counted : (x : Item) → item_at left bs ≡ x → read_count page left so_far bs ≡ count_from page left so_far bs (λ m r rest. read_count page m r rest) x
-  counted x e = count_item page left so_far bs x p l e
+stuck_joined : (next : Option Record → Reading) (j : Joined) → open_after j ≡ None → (from_joined next j).entries ≡ []
+stuck_joined next (still_open d) h = absurd (cc)
+stuck_joined next (complete d) h = stuck_text (text_of d) (next None) h
+stuck_joined next out_of_sequence h = refl
 
-  none_after : (kind : Kind) (d : List ℕ) (oo : Option (Option (List ℕ))) → item_at left bs ≡ fragment kind d → opens so_far kind d ≡ oo → read_count page left so_far bs ≡ 0 → (read_from page left so_far bs).entries ≡ []
-  none_after kind d None e h none = ap (λ (r : Reading). r.entries) (read_step page left so_far bs (fragment kind d) p l e) ∙ none_more so_far kind d _ _ h
+module _ (page left : ℕ) (so_far : Option Record) (bs : List ℕ) (p : 0 < page) (l : 0 < left) where
+  counted : (x : Item) → item_at left bs ≡ x → read_count false page left so_far bs ≡ count_from page left so_far bs (λ m r rest. read_count false page m r rest) x
+  counted x e = count_item false page left so_far bs x p l e
+
+  none_after : (kind : Kind) (d : List ℕ) (oo : Option (Option Record)) → item_at left bs ≡ fragment kind d → opens so_far kind d ≡ oo → read_count false page left so_far bs ≡ 0 → (read_from false page left so_far bs).entries ≡ []
+  none_after kind d None e h none = ap (λ (r : Reading). r.entries) (read_fragment false page left bs p l so_far kind d e) ∙ stuck_joined (λ o. read_from false page (left_after page left (7 + length d)) o (drop (7 + length d) bs)) (joined so_far kind d) h
   none_after kind d (Some o') e h none =
-      let c = counted (fragment kind d) e ∙ ap (count_after page left (7 + length d) bs (λ m r rest. read_count page m r rest)) h in
+      let c = counted (fragment kind d) e ∙ ap (count_after page left (7 + length d) bs (λ m r rest. read_count false page m r rest)) h in
       absurd (omega (arith, c, none))
 
-  none_from : (x : Item) → item_at left bs ≡ x → read_count page left so_far bs ≡ 0 → (read_from page left so_far bs).entries ≡ []
-  none_from nothing e none = ap (λ (r : Reading). r.entries) (read_nothing page left bs p l so_far e)
-  none_from begun e none = ap (λ (r : Reading). r.entries) (read_begun page left bs p l so_far e)
-  none_from (wrong f) e none = ap (λ (r : Reading). r.entries) (read_wrong page left bs p l so_far f e)
+  none_from : (x : Item) → item_at left bs ≡ x → read_count false page left so_far bs ≡ 0 → (read_from false page left so_far bs).entries ≡ []
+  none_from nothing e none = ap (λ (r : Reading). r.entries) (read_nothing false page left bs p l so_far e)
+  none_from begun e none = ap (λ (r : Reading). r.entries) (read_begun false page left bs p l so_far e)
+  none_from (wrong f) e none = ap (λ (r : Reading). r.entries) (read_wrong false page left bs p l so_far f e)
   none_from zeros e none = let c = counted zeros e in absurd (omega (arith, c, none, l))
   none_from (fragment kind d) e none = none_after kind d (opens so_far kind d) e refl none
 
   -- what comes before the place at which reading stops
   Further : Type 0
-  Further = (item_at left bs ≡ zeros) ⊎ ((kind : Kind) × (d : List ℕ) × (o' : Option (List ℕ)) × (item_at left bs ≡ fragment kind d) × (opens so_far kind d ≡ Some o'))
+  Further = (item_at left bs ≡ zeros) ⊎ ((kind : Kind) × (d : List ℕ) × (o' : Option Record) × (item_at left bs ≡ fragment kind d) × (opens so_far kind d ≡ Some o'))
 
-  further_after : (kind : Kind) (d : List ℕ) (oo : Option (Option (List ℕ))) → item_at left bs ≡ fragment kind d → opens so_far kind d ≡ oo → 0 < read_count page left so_far bs → Further
+  further_after : (kind : Kind) (d : List ℕ) (oo : Option (Option Record)) → item_at left bs ≡ fragment kind d → opens so_far kind d ≡ oo → 0 < read_count false page left so_far bs → Further
   unfolding Further
   further_after kind d None e h some =
-      let c = counted (fragment kind d) e ∙ ap (count_after page left (7 + length d) bs (λ m r rest. read_count page m r rest)) h in
+      let c = counted (fragment kind d) e ∙ ap (count_after page left (7 + length d) bs (λ m r rest. read_count false page m r rest)) h in
       absurd (omega (arith, c, some))
   further_after kind d (Some o') e h some = inr (kind, d, o', e, h)
 
-  further_from : (x : Item) → item_at left bs ≡ x → 0 < read_count page left so_far bs → Further
+  further_from : (x : Item) → item_at left bs ≡ x → 0 < read_count false page left so_far bs → Further
   unfolding Further
   further_from nothing e some = let c = counted nothing e in absurd (omega (arith, c, some))
   further_from begun e some = let c = counted begun e in absurd (omega (arith, c, some))
@@ -137,14 +151,14 @@ module _ (page left : ℕ) (so_far : Option (List ℕ)) (bs : List ℕ) (p : 0 <
 
 -- The items of a text up to a place were followed: these entries come before it, and a record is
 -- open there, if one is. It is so of each text that has these bytes in front.
-pub record IsAt (page : ℕ) (text : List ℕ) (at : ℕ) (so_far : Option (List ℕ)) (es : List Entry) : Type 0 where
-  pub stops : stop_offset page text ≡ at + read_count page (left_at page at) so_far (drop at text)
-  pub entries : (n : ℕ) → at ≤ n → (segment page (take n text)).entries ≡ es ++ (read_from page (left_at page at) so_far (drop at (take n text))).entries
-  pub stop : (n : ℕ) → at ≤ n → (segment page (take n text)).stop ≡ (read_from page (left_at page at) so_far (drop at (take n text))).stop
+pub record IsAt (page : ℕ) (text : List ℕ) (at : ℕ) (so_far : Option Record) (es : List Entry) : Type 0 where
+  pub stops : stop_offset page text ≡ at + read_count false page (left_at page at) so_far (drop at text)
+  pub entries : (n : ℕ) → at ≤ n → (segment page (take n text)).entries ≡ es ++ (read_from false page (left_at page at) so_far (drop at (take n text))).entries
+  pub stop : (n : ℕ) → at ≤ n → (segment page (take n text)).stop ≡ (read_from false page (left_at page at) so_far (drop at (take n text))).stop
 
 -- the last whole record before that place ends here
 pub record IsWalked (page : ℕ) (text : List ℕ) (at whole : ℕ) : Type 0 where
-  pub so_far : Option (List ℕ)
+  pub so_far : Option Record
   pub es : List Entry
   pub here : IsAt page text at so_far es
   pub front : (segment page (take whole text)).entries ≡ es
@@ -155,23 +169,23 @@ take_none [] = refl
 take_none (b ∷ bs) = refl
 
 nothing_between : (page : ℕ) → (segment page []).stop ≡ between
-unfolding segment
+unfolding segment_in
 nothing_between page = refl
 
-none_read : (page left : ℕ) → (read_from page left None []).entries ≡ []
+none_read : (page left : ℕ) → (read_from false page left None []).entries ≡ []
 none_read page left = refl
 
-none_stops : (page left : ℕ) → (read_from page left None []).stop ≡ between
+none_stops : (page left : ℕ) → (read_from false page left None []).stop ≡ between
 none_stops page left = refl
 
 module _ (page : ℕ) (text : List ℕ) (p : 0 < page) where
-  all_from : (n : ℕ) → segment page (take n text) ≡ read_from page (left_at page 0) None (take n text)
-  unfolding segment
-  all_from n = ap (λ (l : ℕ). read_from page l None (take n text)) (sym (left_first page p))
+  all_from : (n : ℕ) → segment page (take n text) ≡ read_from false page (left_at page 0) None (take n text)
+  unfolding segment_in
+  all_from n = ap (λ (l : ℕ). read_from false page l None (take n text)) (sym (left_first page p))
 
-  all_stops : stop_offset page text ≡ read_count page (left_at page 0) None text
-  unfolding stop_offset
-  all_stops = ap (λ (l : ℕ). read_count page l None text) (sym (left_first page p))
+  all_stops : stop_offset page text ≡ read_count false page (left_at page 0) None text
+  unfolding stop_offset_in
+  all_stops = ap (λ (l : ℕ). read_count false page l None text) (sym (left_first page p))
 
   pub walked-none : IsWalked page text 0 0
   walked-none = record {
@@ -187,22 +201,22 @@ module _ (page : ℕ) (text : List ℕ) (p : 0 < page) where
   }
 
   -- the same place, as it is counted after an item
-  moved : (at s : ℕ) (so_far : Option (List ℕ)) (t : List ℕ) → s ≤ left_at page at
-      → read_from page (left_after page (left_at page at) s) so_far (drop s (drop at t)) ≡ read_from page (left_at page (at + s)) so_far (drop (at + s) t)
+  moved : (at s : ℕ) (so_far : Option Record) (t : List ℕ) → s ≤ left_at page at
+      → read_from false page (left_after page (left_at page at) s) so_far (drop s (drop at t)) ≡ read_from false page (left_at page (at + s)) so_far (drop (at + s) t)
   moved at s so_far t fits =
-      ap (λ (l : ℕ). read_from page l so_far (drop s (drop at t))) (left_moves page at s p fits)
-      ∙ ap (read_from page (left_at page (at + s)) so_far) (drop-drop s at t)
+      ap (λ (l : ℕ). read_from false page l so_far (drop s (drop at t))) (left_moves page at s p fits)
+      ∙ ap (read_from false page (left_at page (at + s)) so_far) (drop-drop s at t)
 
-  moved_count : (at s : ℕ) (so_far : Option (List ℕ)) → s ≤ left_at page at
-      → read_count page (left_after page (left_at page at) s) so_far (drop s (drop at text)) ≡ read_count page (left_at page (at + s)) so_far (drop (at + s) text)
+  moved_count : (at s : ℕ) (so_far : Option Record) → s ≤ left_at page at
+      → read_count false page (left_after page (left_at page at) s) so_far (drop s (drop at text)) ≡ read_count false page (left_at page (at + s)) so_far (drop (at + s) text)
   moved_count at s so_far fits =
-      ap (λ (l : ℕ). read_count page l so_far (drop s (drop at text))) (left_moves page at s p fits)
-      ∙ ap (read_count page (left_at page (at + s)) so_far) (drop-drop s at text)
+      ap (λ (l : ℕ). read_count false page l so_far (drop s (drop at text))) (left_moves page at s p fits)
+      ∙ ap (read_count false page (left_at page (at + s)) so_far) (drop-drop s at text)
 
   new_page : (at : ℕ) → left_after page (left_at page at) (left_at page at) ≡ page
   new_page at = left_moves page at (left_at page at) p (le_refl (left_at page at)) ∙ left_full page at p
 
-  at-zeros : (at : ℕ) (so_far : Option (List ℕ)) (es : List Entry) → IsAt page text at so_far es → item_of page text at ≡ zeros → IsAt page text (at + left_at page at) so_far es
+  at-zeros : (at : ℕ) (so_far : Option Record) (es : List Entry) → IsAt page text at so_far es → item_of page text at ≡ zeros → IsAt page text (at + left_at page at) so_far es
   at-zeros at so_far es here e =
       let l = left_at page at in
       let pos = left_pos page at p in
@@ -213,12 +227,12 @@ module _ (page : ℕ) (text : List ℕ) (p : 0 < page) where
       (sym (drop-take at (left_at page at) text) ∙ ap (drop at) (sym (take-take (at + left_at page at) n text le)) ∙ drop-take at (left_at page at) (take n text))
       (omega (arith, le, fit, length-drop at (take n text), length-take n text, length-drop at text)) pos in
       let goes = λ (n : ℕ) (le : at + left_at page at ≤ n).
-      read_zeros page (left_at page at) (drop at (take n text)) p pos so_far (there n le)
-      ∙ ap (λ (k : ℕ). read_from page k so_far (drop (left_at page at) (drop at (take n text)))) (sym (new_page at))
+      read_zeros false page (left_at page at) (drop at (take n text)) p pos so_far (there n le)
+      ∙ ap (λ (k : ℕ). read_from false page k so_far (drop (left_at page at) (drop at (take n text)))) (sym (new_page at))
       ∙ moved at (left_at page at) so_far (take n text) all in
-      let count : read_count page (left_at page at) so_far (drop at text) ≡ left_at page at + read_count page (left_at page (at + left_at page at)) so_far (drop (at + left_at page at) text) =
-      count_item page (left_at page at) so_far (drop at text) zeros p pos e
-      ∙ ap (λ (k : ℕ). left_at page at + read_count page k so_far (drop (left_at page at) (drop at text))) (sym (new_page at))
+      let count : read_count false page (left_at page at) so_far (drop at text) ≡ left_at page at + read_count false page (left_at page (at + left_at page at)) so_far (drop (at + left_at page at) text) =
+      count_item false page (left_at page at) so_far (drop at text) zeros p pos e
+      ∙ ap (λ (k : ℕ). left_at page at + read_count false page k so_far (drop (left_at page at) (drop at text))) (sym (new_page at))
       ∙ ap (λ (k : ℕ). left_at page at + k) (moved_count at (left_at page at) so_far all) in
       record {
         stops = omega (arith, here.stops, count);
@@ -226,21 +240,21 @@ module _ (page : ℕ) (text : List ℕ) (p : 0 < page) where
         stop = λ n le. here.stop n (omega (arith, le)) ∙ ap (λ (r : Reading). r.stop) (goes n le);
       }
 
-  at-fragment : (at : ℕ) (so_far o' : Option (List ℕ)) (es : List Entry) (kind : Kind) (d : List ℕ) → IsAt page text at so_far es → item_of page text at ≡ fragment kind d → opens so_far kind d ≡ Some o'
+  at-fragment : (at : ℕ) (so_far o' : Option Record) (es : List Entry) (kind : Kind) (d : List ℕ) → IsAt page text at so_far es → item_of page text at ≡ fragment kind d → opens so_far kind d ≡ Some o'
       → (a : Adds page (left_at page at) so_far kind d o') → IsAt page text (at + (7 + length d)) o' (es ++ a.es)
   at-fragment at so_far o' es kind d here e h a =
       let pos = left_pos page at p in
       let fit = fragment_fits (left_at page at) (drop at text) kind d e in
       let there = λ (n : ℕ) (le : at + (7 + length d) ≤ n).
       ap (item_at (left_at page at)) (take_in at n text (omega (arith, le))) ∙ item_cut (left_at page at) (n - at) (drop at text) kind d e (omega (arith, le)) in
-      let count : read_count page (left_at page at) so_far (drop at text) ≡ 7 + length d + read_count page (left_at page (at + (7 + length d))) o' (drop (at + (7 + length d)) text) =
-      count_item page (left_at page at) so_far (drop at text) (fragment kind d) p pos e
-      ∙ ap (count_after page (left_at page at) (7 + length d) (drop at text) (λ m r rest. read_count page m r rest)) h
+      let count : read_count false page (left_at page at) so_far (drop at text) ≡ 7 + length d + read_count false page (left_at page (at + (7 + length d))) o' (drop (at + (7 + length d)) text) =
+      count_item false page (left_at page at) so_far (drop at text) (fragment kind d) p pos e
+      ∙ ap (count_after page (left_at page at) (7 + length d) (drop at text) (λ m r rest. read_count false page m r rest)) h
       ∙ ap (λ (k : ℕ). 7 + length d + k) (moved_count at (7 + length d) o' fit.1) in
       record {
         stops = omega (arith, here.stops, count);
         entries = λ n le. here.entries n (omega (arith, le)) ∙ ap (λ (x : List Entry). es ++ x) (a.entries (drop at (take n text)) (there n le) ∙ ap (λ (r : Reading). a.es ++ r.entries) (moved at (7 + length d) o' (take n text) fit.1))
-            ∙ sym (append_assoc es a.es (read_from page (left_at page (at + (7 + length d))) o' (drop (at + (7 + length d)) (take n text))).entries);
+            ∙ sym (append_assoc es a.es (read_from false page (left_at page (at + (7 + length d))) o' (drop (at + (7 + length d)) (take n text))).entries);
         stop = λ n le. here.stop n (omega (arith, le)) ∙ a.stop (drop at (take n text)) (there n le) ∙ ap (λ (r : Reading). r.stop) (moved at (7 + length d) o' (take n text) fit.1);
       }
 
@@ -252,14 +266,14 @@ module _ (page : ℕ) (text : List ℕ) (p : 0 < page) where
         so_far = None;
         es = es;
         here = here;
-        front = here.entries at (le_refl at) ∙ ap (λ (bs : List ℕ). es ++ (read_from page (left_at page at) None bs).entries) none ∙ append-nil es;
-        ended = here.stop at (le_refl at) ∙ ap (λ (bs : List ℕ). (read_from page (left_at page at) None bs).stop) none;
+        front = here.entries at (le_refl at) ∙ ap (λ (bs : List ℕ). es ++ (read_from false page (left_at page at) None bs).entries) none ∙ append-nil es;
+        ended = here.stop at (le_refl at) ∙ ap (λ (bs : List ℕ). (read_from false page (left_at page at) None bs).stop) none;
       }
 
   pub walked-zeros : (at whole : ℕ) → IsWalked page text at whole → item_of page text at ≡ zeros → IsWalked page text (at + left_at page at) whole
   walked-zeros at whole w e = record { so_far = w.so_far; es = w.es; here = at-zeros at w.so_far w.es w.here e; front = w.front; ended = w.ended }
 
-  pub walked-more : (at whole : ℕ) (w : IsWalked page text at whole) (kind : Kind) (d : List ℕ) (o' : Option (List ℕ)) → item_of page text at ≡ fragment kind d → opens w.so_far kind d ≡ Some o' → ends_with kind ≡ false
+  pub walked-more : (at whole : ℕ) (w : IsWalked page text at whole) (kind : Kind) (d : List ℕ) (o' : Option Record) → item_of page text at ≡ fragment kind d → opens w.so_far kind d ≡ Some o' → ends_with kind ≡ false
       → IsWalked page text (at + (7 + length d)) whole
   walked-more at whole w kind d o' e h more =
       let a = adds page (left_at page at) w.so_far kind d o' p (left_pos page at p) h in
@@ -271,15 +285,15 @@ module _ (page : ℕ) (text : List ℕ) (p : 0 < page) where
         ended = w.ended;
       }
 
-  pub walked-end : (at whole : ℕ) (w : IsWalked page text at whole) (kind : Kind) (d : List ℕ) (o' : Option (List ℕ)) → item_of page text at ≡ fragment kind d → opens w.so_far kind d ≡ Some o' → ends_with kind ≡ true
+  pub walked-end : (at whole : ℕ) (w : IsWalked page text at whole) (kind : Kind) (d : List ℕ) (o' : Option Record) → item_of page text at ≡ fragment kind d → opens w.so_far kind d ≡ Some o' → ends_with kind ≡ true
       → IsWalked page text (at + (7 + length d)) (at + (7 + length d))
   walked-end at whole w kind d o' e h end =
       let a = adds page (left_at page at) w.so_far kind d o' p (left_pos page at p) h in
-      ends_here (at + (7 + length d)) (w.es ++ a.es) (subst (λ (o : Option (List ℕ)). IsAt page text (at + (7 + length d)) o (w.es ++ a.es)) (a.ended end) (at-fragment at w.so_far o' w.es kind d w.here e h a))
+      ends_here (at + (7 + length d)) (w.es ++ a.es) (subst (λ (o : Option Record). IsAt page text (at + (7 + length d)) o (w.es ++ a.es)) (a.ended end) (at-fragment at w.so_far o' w.es kind d w.here e h a))
 
   -- before the place at which reading stops there is an item
   pub goes_further : (at whole : ℕ) (w : IsWalked page text at whole) → at < stop_offset page text
-      → (item_of page text at ≡ zeros) ⊎ ((kind : Kind) × (d : List ℕ) × (o' : Option (List ℕ)) × (item_of page text at ≡ fragment kind d) × (opens w.so_far kind d ≡ Some o'))
+      → (item_of page text at ≡ zeros) ⊎ ((kind : Kind) × (d : List ℕ) × (o' : Option Record) × (item_of page text at ≡ fragment kind d) × (opens w.so_far kind d ≡ Some o'))
   unfolding Further
   goes_further at whole w lt =
       further_from page (left_at page at) w.so_far (drop at text) p (left_pos page at p) (item_of page text at) refl (omega (arith, lt, w.here.stops))
@@ -287,20 +301,17 @@ module _ (page : ℕ) (text : List ℕ) (p : 0 < page) where
   -- at that place the walk has found the end of the last whole record
   pub clean_there : (at whole : ℕ) → IsWalked page text at whole → at ≤ length text → whole ≤ length text → (stop_offset page text ≤ at) ⊎ (length text ≤ at) → IsCleanCut page text whole
   clean_there at whole w within le end =
-      let none : read_count page (left_at page at) w.so_far (drop at text) ≡ 0 = elim end [
+      let none : read_count false page (left_at page at) w.so_far (drop at text) ≡ 0 = elim end [
         | inl s ↦ omega (arith, s, w.here.stops)
-        | inr s ↦ ap (read_count page (left_at page at) w.so_far) (drop_all at text s) ∙ empty_count page 0 (left_at page at) w.so_far
+        | inr s ↦ ap (read_count false page (left_at page at) w.so_far) (drop_all at text s) ∙ empty_count false page 0 (left_at page at) w.so_far
       ] in
-      let rest : (read_from page (left_at page at) w.so_far (drop at text)).entries ≡ [] = none_from page (left_at page at) w.so_far (drop at text) p (left_pos page at p) (item_of page text at) refl none in
+      let rest : (read_from false page (left_at page at) w.so_far (drop at text)).entries ≡ [] = none_from page (left_at page at) w.so_far (drop at text) p (left_pos page at p) (item_of page text at) refl none in
       let all : (segment page text).entries ≡ w.es =
       ap (λ (t : List ℕ). (segment page t).entries) (sym (take-length text)) ∙ w.here.entries (length text) within
-      ∙ ap (λ (t : List ℕ). w.es ++ (read_from page (left_at page at) w.so_far (drop at t)).entries) (take-length text) ∙ ap (λ (x : List Entry). w.es ++ x) rest ∙ append-nil w.es in
+      ∙ ap (λ (t : List ℕ). w.es ++ (read_from false page (left_at page at) w.so_far (drop at t)).entries) (take-length text) ∙ ap (λ (x : List Entry). w.es ++ x) rest ∙ append-nil w.es in
       record { within = le; keeps = w.front ∙ sym all; whole = w.ended }
 
 -- ---- what a header says of the next item
-
-true_false : (b : Bool) → b ≡ true → b ≡ false → ⊥
-true_false b t f = cc
 
 -- the walk goes on by the length in a header
 pub record GoesBy (page : ℕ) (text : List ℕ) (at whole : ℕ) (h : Header) : Type 0 where

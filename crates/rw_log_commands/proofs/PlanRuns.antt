@@ -7,10 +7,11 @@ use Rattle.rw_follow.specs.Meals.{Meal, no_meal}
 use Rattle.rw_follow.specs.Queues.{MayFailAlone}
 use Rattle.rw_types.specs.declared.entry.Entry.{Entry}
 use Rattle.rw_types.specs.declared.transfer.ReadFault.TheVariants.{Failed}
-use Rattle.rw_wal_format.specs.Pieces.{bytes, entries, fault}
+use Rattle.rw_wal_format.specs.Pieces.{entries, fault}
 use Rattle.rw_wal_format.specs.declared.tail_fault.TailFault.{TailFault}
 use Rattle.rw_text.specs.HexText.{read_text}
 use Rattle.rw_relabel.specs.declared.choice.Choice.{Choice}
+use Rattle.rw_log_read.specs.Logs.{log_in}
 use Rattle.rw_log_commands.specs.Plan.{plan_text}
 use Rattle.rw_log_commands.specs.Planning.{PlansLog, PlansLogPart, WritesPlan, WritesPlanPart}
 use Rattle.rw_log_commands.specs.Running.{ReadsFault, ReadsInput}
@@ -19,8 +20,8 @@ use Rattle.rw_log_commands.specs.inner.Taking.{ReadsSegment, all_of_one, of_one}
 use Rattle.rw_log_commands.proofs.TakingLemmas.{whole_segment}
 
 -- bytes that are read are an input that stands for itself
-pub bytes_read : (left_before left_after : Option (List ℕ)) (segment : List ℕ) → ReadsSegment None left_before left_after segment → ReadsInput false None left_before left_after segment
-bytes_read left_before left_after segment h = record {
+pub bytes_read : (c : Bool) (left_before left_after : Option (List ℕ)) (segment : List ℕ) → ReadsSegment c None left_before left_after segment → ReadsInput false c None left_before left_after segment
+bytes_read c left_before left_after segment h = record {
   input = segment;
   read = h.read;
   ended = h.ended;
@@ -29,39 +30,39 @@ bytes_read left_before left_after segment h = record {
 }
 
 -- what was made of a log was written, or a prefix of it
-pub plan_written : (choice now : Choice) (gave had_all : Meal → Type 0) (before after : Option (List ℕ)) (taken : List Entry) (plan written : List ℕ)
-    → ReadsWhole gave had_all taken → now ≡ choice → plan ≡ plan_text now taken → written ≡ plan → Appends before after written → PlansLog choice gave had_all before after
-plan_written choice now gave had_all before after taken plan written h same is out a =
-    record { entries = taken; read = h; written = subst (Appends before after) (out ∙ is ∙ ap (λ c. plan_text c taken) same) a }
+pub plan_written : (choice now : Choice) (c : Bool) (gave had_all : Meal → Type 0) (before after : Option (List ℕ)) (taken : List Entry) (plan written : List ℕ)
+    → ReadsWhole c gave had_all taken → now ≡ choice → plan ≡ plan_text now taken → written ≡ plan → Appends before after written → PlansLog choice c gave had_all before after
+plan_written choice now c gave had_all before after taken plan written h same is out a =
+    record { entries = taken; read = h; written = subst (Appends before after) (out ∙ is ∙ ap (λ k. plan_text k taken) same) a }
 
-pub plan_cut : (choice now : Choice) (gave had_all : Meal → Type 0) (before after : Option (List ℕ)) (taken : List Entry) (plan written : List ℕ)
-    → ReadsWhole gave had_all taken → now ≡ choice → plan ≡ plan_text now taken → written ≡ plan → (n : ℕ) × (n ≤ length written) × Appends before after (take n written) → PlansLogPart choice gave had_all before after
-plan_cut choice now gave had_all before after taken plan written h same is out a =
-    let made = out ∙ is ∙ ap (λ c. plan_text c taken) same in
+pub plan_cut : (choice now : Choice) (c : Bool) (gave had_all : Meal → Type 0) (before after : Option (List ℕ)) (taken : List Entry) (plan written : List ℕ)
+    → ReadsWhole c gave had_all taken → now ≡ choice → plan ≡ plan_text now taken → written ≡ plan → (n : ℕ) × (n ≤ length written) × Appends before after (take n written) → PlansLogPart choice c gave had_all before after
+plan_cut choice now c gave had_all before after taken plan written h same is out a =
+    let made = out ∙ is ∙ ap (λ k. plan_text k taken) same in
     record { entries = taken; read = h; count = a.0; within = subst (λ p. a.0 ≤ length p) made a.1; written = subst (λ p. Appends before after (take a.0 p)) made a.2 }
 
 -- the same of a log of one segment, of which nothing was read before
 pub begins_one : (a : Option (List ℕ)) → of_one a a no_meal
 begins_one a = (Consumes-nil a, refl)
 
-pub plans_segment : (choice : Choice) (a b before after : Option (List ℕ)) → PlansLog choice (of_one a b) (all_of_one a b) before after → WritesPlan choice false a b before after
-plans_segment choice a b before after h =
-    let s = whole_segment a b h.entries h.read in
-    (s.0, bytes_read a b s.0 s.1, subst (Appends before after) (ap (plan_text choice) s.2) h.written)
+pub plans_segment : (choice : Choice) (c : Bool) (a b before after : Option (List ℕ)) → PlansLog choice c (of_one a b) (all_of_one a b) before after → WritesPlan choice false c a b before after
+plans_segment choice c a b before after h =
+    let s = whole_segment c a b h.entries h.read in
+    (s.0, bytes_read c a b s.0 s.1, subst (Appends before after) (ap (plan_text choice) s.2) h.written)
 
-plans_segment_part : (choice : Choice) (a b before after : Option (List ℕ)) → PlansLogPart choice (of_one a b) (all_of_one a b) before after → WritesPlanPart choice false a b before after
-plans_segment_part choice a b before after h =
-    let s = whole_segment a b h.entries h.read in
+plans_segment_part : (choice : Choice) (c : Bool) (a b before after : Option (List ℕ)) → PlansLogPart choice c (of_one a b) (all_of_one a b) before after → WritesPlanPart choice false c a b before after
+plans_segment_part choice c a b before after h =
+    let s = whole_segment c a b h.entries h.read in
     let made = ap (plan_text choice) s.2 in
-    (s.0, bytes_read a b s.0 s.1, (h.count, subst (λ p. h.count ≤ length p) made h.within, subst (λ p. Appends before after (take h.count p)) made h.written))
+    (s.0, bytes_read c a b s.0 s.1, (h.count, subst (λ p. h.count ≤ length p) made h.within, subst (λ p. Appends before after (take h.count p)) made h.written))
 
 -- a device failed
-pub plan_failed : (choice : Choice) (a b before after : Option (List ℕ)) (sure failed : Bool) (same cut : Type 0)
-    → (CannotRead (MayFailAlone sure Failed) (failed ≡ true) (λ _. ⊥) × same) ⊎ (cut × ((start : Option (List ℕ)) → of_one start a no_meal → PlansLogPart choice (of_one start b) (all_of_one start b) before after))
-    → ((sure ≡ true → ⊥) × (failed ≡ true) × same) ⊎ (cut × WritesPlanPart choice false a b before after)
-plan_failed choice a b before after sure failed same cut (inl (inl may, still)) = inl (may.0, may.1, still)
-plan_failed choice a b before after sure failed same cut (inl (inr lacks, still)) = absurd lacks.1
-plan_failed choice a b before after sure failed same cut (inr h) = inr (h.0, plans_segment_part choice a b before after (h.1 a (begins_one a)))
+pub plan_failed : (choice : Choice) (c : Bool) (a b before after : Option (List ℕ)) (sure failed : Bool) (same cut : Type 0)
+    → (CannotRead (MayFailAlone sure Failed) (failed ≡ true) (λ _. ⊥) × same) ⊎ (cut × ((start : Option (List ℕ)) → of_one start a no_meal → PlansLogPart choice c (of_one start b) (all_of_one start b) before after))
+    → ((sure ≡ true → ⊥) × (failed ≡ true) × same) ⊎ (cut × WritesPlanPart choice false c a b before after)
+plan_failed choice c a b before after sure failed same cut (inl (inl may, still)) = inl (may.0, may.1, still)
+plan_failed choice c a b before after sure failed same cut (inl (inr lacks, still)) = absurd lacks.1
+plan_failed choice c a b before after sure failed same cut (inr h) = inr (h.0, plans_segment_part choice c a b before after (h.1 a (begins_one a)))
 
 -- bytes in memory that are read to their end
 whole_bytes : (held segment : List ℕ) (after : Option (List ℕ)) → Consumes (Some held) after segment → IsAtEnd after → segment ≡ held
@@ -69,8 +70,8 @@ whole_bytes held segment None read ended = absurd read
 whole_bytes held segment (Some rest) read ended = sym (read ∙ ap (λ r. segment ++ r) ended ∙ append-nil segment)
 
 -- digits that were read stand for the segment in memory
-digits_read : (has : Option TailFault) (a b : Option (List ℕ)) (text held segment : List ℕ) → Consumes a b text → IsAtEnd b → read_text text ≡ Ok held → segment ≡ held → fault (bytes segment ∷ []) ≡ has → ReadsInput true has a b segment
-digits_read has a b text held segment read ended stands is faulty = record {
+digits_read : (c : Bool) (has : Option TailFault) (a b : Option (List ℕ)) (text held segment : List ℕ) → Consumes a b text → IsAtEnd b → read_text text ≡ Ok held → segment ≡ held → fault (log_in c (segment ∷ [])) ≡ has → ReadsInput true c has a b segment
+digits_read c has a b text held segment read ended stands is faulty = record {
   input = text;
   read = read;
   ended = ended;
@@ -81,21 +82,21 @@ digits_read has a b text held segment read ended stands is faulty = record {
 pub stands_for : (text seen held slice : List ℕ) → read_text seen ≡ Ok held → seen ≡ text → slice ≡ held → read_text text ≡ Ok slice
 stands_for text seen held slice stands same is = ap read_text (sym same) ∙ stands ∙ ap (λ s. Ok s) (sym is)
 
-pub plans_digits : (choice : Choice) (a b left before after : Option (List ℕ)) (text held : List ℕ) → Consumes a b text → IsAtEnd b → read_text text ≡ Ok held → WritesPlan choice false (Some held) left before after → WritesPlan choice true a b before after
-plans_digits choice a b left before after text held read ended stands h =
+pub plans_digits : (choice : Choice) (c : Bool) (a b left before after : Option (List ℕ)) (text held : List ℕ) → Consumes a b text → IsAtEnd b → read_text text ≡ Ok held → WritesPlan choice false c (Some held) left before after → WritesPlan choice true c a b before after
+plans_digits choice c a b left before after text held read ended stands h =
     let input = h.1 in
-    (h.0, digits_read None a b text held h.0 read ended stands (sym input.stands ∙ whole_bytes held input.input left input.read input.ended) input.faulty, h.2)
+    (h.0, digits_read c None a b text held h.0 read ended stands (sym input.stands ∙ whole_bytes held input.input left input.read input.ended) input.faulty, h.2)
 
-pub plans_digits_part : (choice : Choice) (a b left before after : Option (List ℕ)) (text held : List ℕ) → Consumes a b text → IsAtEnd b → read_text text ≡ Ok held → WritesPlanPart choice false (Some held) left before after
-    → WritesPlanPart choice true a b before after
-plans_digits_part choice a b left before after text held read ended stands h =
+pub plans_digits_part : (choice : Choice) (c : Bool) (a b left before after : Option (List ℕ)) (text held : List ℕ) → Consumes a b text → IsAtEnd b → read_text text ≡ Ok held → WritesPlanPart choice false c (Some held) left before after
+    → WritesPlanPart choice true c a b before after
+plans_digits_part choice c a b left before after text held read ended stands h =
     let input = h.1 in
-    (h.0, digits_read None a b text held h.0 read ended stands (sym input.stands ∙ whole_bytes held input.input left input.read input.ended) input.faulty, h.2)
+    (h.0, digits_read c None a b text held h.0 read ended stands (sym input.stands ∙ whole_bytes held input.input left input.read input.ended) input.faulty, h.2)
 
-pub digits_to_fault : (f : TailFault) (a b left : Option (List ℕ)) (text held : List ℕ) → Consumes a b text → IsAtEnd b → read_text text ≡ Ok held → ReadsFault false f (Some held) left → ReadsFault true f a b
-digits_to_fault f a b None text held read ended stands h = absurd h.read
-digits_to_fault f a b (Some rest) text held read ended stands h =
-    (h.named, (held, digits_read (Some f) a b text held held read ended stands refl (ap (λ s. fault (bytes s ∷ [])) h.read ∙ h.stays rest)))
+pub digits_to_fault : (c : Bool) (f : TailFault) (a b left : Option (List ℕ)) (text held : List ℕ) → Consumes a b text → IsAtEnd b → read_text text ≡ Ok held → ReadsFault false c f (Some held) left → ReadsFault true c f a b
+digits_to_fault c f a b None text held read ended stands h = absurd h.read
+digits_to_fault c f a b (Some rest) text held read ended stands h =
+    (h.named, (held, digits_read c (Some f) a b text held held read ended stands refl (ap (λ s. fault (log_in c (s ∷ []))) h.read ∙ h.stays rest)))
 
 -- what follows of an answer that is `Ok`
 pub ok_so : {A E : Type 0} (r : Result A E) (P Q : Type 0) → (P → Q) → OnOk r P → OnOk r Q

@@ -4,7 +4,8 @@ use Rattle.rw_types.specs.Labels.{Labels, label_fault_number}
 use Rattle.rw_types.specs.declared.entry.Entry.{Entry}
 use Rattle.rw_types.specs.declared.entry.Entry.TheVariants.{Def, Sample}
 use Rattle.rw_types.specs.declared.label_fault.LabelFault.{LabelFault}
-use Rattle.rw_wal_format.specs.Pieces.{bytes, entries}
+use Rattle.rw_wal_format.specs.Pieces.{entries}
+use Rattle.rw_log_read.specs.Logs.{log_in}
 use Rattle.rw_relabel.specs.declared.choice.Choice.{Choice}
 use Rattle.rw_series_cache.specs.Known.{Standing, Unknown, Bad, Filtered, Kept, standing_of, known}
 use Rattle.rw_series_cache.specs.Numbers.{series_of, number_of}
@@ -87,6 +88,6 @@ counts_text c =
 unfoldable pub plan_text : Choice → List Entry → List ℕ
 plan_text choice es = plan_lines choice es ++ counts_text (counts_of (standings choice es))
 
--- the plan of a segment
-abbrev pub plan_of : Choice → List ℕ → List ℕ
-plan_of choice segment = plan_text choice (entries (bytes segment ∷ []))
+-- the plan of a segment, which may have Snappy blocks or has none
+abbrev pub plan_of : Choice → Bool → List ℕ → List ℕ
+plan_of choice compresses segment = plan_text choice (entries (log_in compresses (segment ∷ [])))

@@ -14,7 +14,7 @@ mod run;
 
 pub use labelling::Labelling;
 pub use log::{run_log, run_log_dir};
-pub use plan::{plan_log, run_plan};
+pub use plan::{plan_log, run_plan, run_plan_with};
 pub use planner::Planner;
-pub use run::run_body;
+pub use run::{run_body, run_body_with};
 pub use rw_text::ToolFault;

@@ -41,16 +41,18 @@ impl Taker for Planner {
 /// log order `REF kept NUMBER LABELS`, `REF filtered LABELS` or `REF bad FAULT`, and then `samples
 /// kept A filtered B bad C noseries D`, each line ended by LF. Nothing is written before the whole
 /// plan is made. If the log has a fault, the fault is returned with its place, and nothing is
-/// written. A log that lacks a segment cannot be read, as one whose device fails.
+/// written. With `may_compress` records may be Snappy blocks. A log that lacks a segment cannot be
+/// read, as one whose device fails.
 pub fn plan_log<L: Segments, W: Sink>(
     alloc: Global,
     log: &mut L,
     writer: &mut W,
     choice: Choice,
+    may_compress: bool,
 ) -> Result<Option<Damage>, ToolFault>
     ensures ok { result ≡ Ok None → (start : L.Start) → L.gave log.old start no_meal
-        → PlansLog choice (L.gave log.new start) (L.had_all log.new start) (W.contents writer.old)
-        (W.contents writer.new) }
+        → PlansLog choice may_compress (L.gave log.new start) (L.had_all log.new start)
+        (W.contents writer.old) (W.contents writer.new) }
     ensures log_sound { result ≡ Ok None → L.is_sound log.new }
     ensures writer_sound { OnOk result
         (W.has_failed writer.old ≡ false → W.has_failed writer.new ≡ false) }
@@ -59,7 +61,7 @@ pub fn plan_log<L: Segments, W: Sink>(
     ensures damaged { (d : Damage) → result ≡ Ok (Some d) → writer.new ≡ writer.old }
     ensures log { (d : Damage) → result ≡ Ok (Some d) → d.fault ≢ tail.OutOfMemory
         → (start : L.Start) → L.gave log.old start no_meal
-        → ReadsLogToFault d.fault (L.gave log.new start) }
+        → ReadsLogToFault may_compress d.fault (L.gave log.new start) }
     ensures no_log { (f : TailFault) → result ≡ Err (Log f) → ⊥ }
     ensures no_line { (n : ℕ) → result ≡ Err (Line n) → ⊥ }
     ensures no_full { result ≡ Err SegmentFull → ⊥ }
@@ -71,10 +73,10 @@ pub fn plan_log<L: Segments, W: Sink>(
         × (writer.new ≡ writer.old))
         ⊎ ((W.has_failed writer.new ≡ true)
         × ((start : L.Start) → L.gave log.old start no_meal
-        → PlansLogPart choice (L.gave log.new start) (L.had_all log.new start)
+        → PlansLogPart choice may_compress (L.gave log.new start) (L.had_all log.new start)
         (W.contents writer.old) (W.contents writer.new))) }
 {
-    let (read, planner) = read_log(alloc, log, Planner::new(alloc, choice))?;
+    let (read, planner) = read_log(alloc, log, may_compress, Planner::new(alloc, choice))?;
     if read.damage.is_some() {
         return Ok(read.damage);
     }
@@ -89,15 +91,16 @@ fn plan_segment<R: Source, W: Sink>(
     reader: &mut R,
     writer: &mut W,
     choice: Choice,
+    may_compress: bool,
 ) -> Result<(), ToolFault>
     ensures ok { OnOk result
-        (WritesPlan choice false (R.remaining reader.old) (R.remaining reader.new)
+        (WritesPlan choice false may_compress (R.remaining reader.old) (R.remaining reader.new)
         (W.contents writer.old) (W.contents writer.new)) }
     ensures reader_sound { OnOk result (R.has_failed reader.new ≡ false) }
     ensures writer_sound { OnOk result
         (W.has_failed writer.old ≡ false → W.has_failed writer.new ≡ false) }
     ensures log { (f : TailFault) → result ≡ Err (Log f)
-        → ReadsFault false f (R.remaining reader.old) (R.remaining reader.new) }
+        → ReadsFault false may_compress f (R.remaining reader.old) (R.remaining reader.new) }
     ensures line { (n : ℕ) → result ≡ Err (Line n)
         → ReadsLine false n (R.remaining reader.old) (R.remaining reader.new) }
     ensures no_full { result ≡ Err SegmentFull → ⊥ }
@@ -106,10 +109,10 @@ fn plan_segment<R: Source, W: Sink>(
         → ((R.is_sure reader.old ≡ true → ⊥) × (R.has_failed reader.new ≡ true)
         × (writer.new ≡ writer.old))
         ⊎ ((W.has_failed writer.new ≡ true)
-        × WritesPlanPart choice false (R.remaining reader.old) (R.remaining reader.new)
+        × WritesPlanPart choice false may_compress (R.remaining reader.old) (R.remaining reader.new)
         (W.contents writer.old) (W.contents writer.new)) }
 {
-    match plan_log(alloc, reader, writer, choice)? {
+    match plan_log(alloc, reader, writer, choice, may_compress)? {
         None => Ok(()),
         Some(damage) => Err(ToolFault::from(damage.fault)),
     }
@@ -121,15 +124,16 @@ fn plan_digits<R: Source, W: Sink>(
     reader: &mut R,
     writer: &mut W,
     choice: Choice,
+    may_compress: bool,
 ) -> Result<(), ToolFault>
     ensures ok { OnOk result
-        (WritesPlan choice true (R.remaining reader.old) (R.remaining reader.new)
+        (WritesPlan choice true may_compress (R.remaining reader.old) (R.remaining reader.new)
         (W.contents writer.old) (W.contents writer.new)) }
     ensures reader_sound { OnOk result (R.has_failed reader.new ≡ false) }
     ensures writer_sound { OnOk result
         (W.has_failed writer.old ≡ false → W.has_failed writer.new ≡ false) }
     ensures log { (f : TailFault) → result ≡ Err (Log f)
-        → ReadsFault true f (R.remaining reader.old) (R.remaining reader.new) }
+        → ReadsFault true may_compress f (R.remaining reader.old) (R.remaining reader.new) }
     ensures line { (n : ℕ) → result ≡ Err (Line n)
         → ReadsLine true n (R.remaining reader.old) (R.remaining reader.new) }
     ensures no_full { result ≡ Err SegmentFull → ⊥ }
@@ -137,13 +141,13 @@ fn plan_digits<R: Source, W: Sink>(
     ensures device { result ≡ Err Device
         → ((R.has_failed reader.new ≡ true) × (writer.new ≡ writer.old))
         ⊎ ((W.has_failed writer.new ≡ true)
-        × WritesPlanPart choice true (R.remaining reader.old) (R.remaining reader.new)
+        × WritesPlanPart choice true may_compress (R.remaining reader.old) (R.remaining reader.new)
         (W.contents writer.old) (W.contents writer.new)) }
 {
     let text = read_input(alloc, reader)?;
     let segment = rw_text::read_hex(alloc, &text)?;
     drop(text);
-    plan_segment(alloc, &mut segment.as_slice(), writer, choice)
+    plan_segment(alloc, &mut segment.as_slice(), writer, choice, may_compress)
 }
 
 /// Returns which series the settings send.
@@ -165,7 +169,7 @@ pub fn run_plan<R: Source, W: Sink>(
     hex: bool,
 ) -> Result<(), ToolFault>
     ensures ok { OnOk result
-        (WritesPlan (choice_of settings.config) hex (R.remaining reader.old)
+        (WritesPlan (choice_of settings.config) hex false (R.remaining reader.old)
         (R.remaining reader.new) (W.contents writer.old) (W.contents writer.new)) }
     ensures reader_sound { OnOk result (R.has_failed reader.new ≡ false) }
     ensures writer_sound { OnOk result
@@ -174,7 +178,7 @@ pub fn run_plan<R: Source, W: Sink>(
     // A fault of the data is the one that the input has. Then nothing is written, nor if memory ran
     // out.
     ensures log { (f : TailFault) → result ≡ Err (Log f)
-        → ReadsFault hex f (R.remaining reader.old) (R.remaining reader.new) }
+        → ReadsFault hex false f (R.remaining reader.old) (R.remaining reader.new) }
     ensures line { (n : ℕ) → result ≡ Err (Line n)
         → ReadsLine hex n (R.remaining reader.old) (R.remaining reader.new) }
     ensures no_full { result ≡ Err SegmentFull → ⊥ }
@@ -184,12 +188,48 @@ pub fn run_plan<R: Source, W: Sink>(
     ensures device { result ≡ Err Device
         → ((R.has_failed reader.new ≡ true) × (writer.new ≡ writer.old))
         ⊎ ((W.has_failed writer.new ≡ true)
-        × WritesPlanPart (choice_of settings.config) hex (R.remaining reader.old)
+        × WritesPlanPart (choice_of settings.config) hex false (R.remaining reader.old)
+        (R.remaining reader.new) (W.contents writer.old) (W.contents writer.new)) }
+{
+    run_plan_with(alloc, reader, writer, settings, hex, false)
+}
+
+/// Writes a plan as `run_plan` does. With `may_compress` records of the segment may be Snappy
+/// blocks, whatever the settings say.
+pub fn run_plan_with<R: Source, W: Sink>(
+    alloc: Global,
+    reader: &mut R,
+    writer: &mut W,
+    settings: Settings,
+    hex: bool,
+    may_compress: bool,
+) -> Result<(), ToolFault>
+    ensures ok { OnOk result
+        (WritesPlan (choice_of settings.config) hex may_compress (R.remaining reader.old)
+        (R.remaining reader.new) (W.contents writer.old) (W.contents writer.new)) }
+    ensures reader_sound { OnOk result (R.has_failed reader.new ≡ false) }
+    ensures writer_sound { OnOk result
+        (W.has_failed writer.old ≡ false → W.has_failed writer.new ≡ false) }
+
+    // A fault of the data is the one that the input has. Then nothing is written, nor if memory ran
+    // out.
+    ensures log { (f : TailFault) → result ≡ Err (Log f)
+        → ReadsFault hex may_compress f (R.remaining reader.old) (R.remaining reader.new) }
+    ensures line { (n : ℕ) → result ≡ Err (Line n)
+        → ReadsLine hex n (R.remaining reader.old) (R.remaining reader.new) }
+    ensures no_full { result ≡ Err SegmentFull → ⊥ }
+    ensures untouched { IfErr result (λ e. e ≢ Device → writer.new ≡ writer.old) }
+
+    // If a device fails, the writer holds a prefix of the plan.
+    ensures device { result ≡ Err Device
+        → ((R.has_failed reader.new ≡ true) × (writer.new ≡ writer.old))
+        ⊎ ((W.has_failed writer.new ≡ true)
+        × WritesPlanPart (choice_of settings.config) hex may_compress (R.remaining reader.old)
         (R.remaining reader.new) (W.contents writer.old) (W.contents writer.new)) }
 {
     let choice = choice_in(settings);
     if !hex {
-        return plan_segment(alloc, reader, writer, choice);
+        return plan_segment(alloc, reader, writer, choice, may_compress);
     }
-    plan_digits(alloc, reader, writer, choice)
+    plan_digits(alloc, reader, writer, choice, may_compress)
 }

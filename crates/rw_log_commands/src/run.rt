@@ -45,32 +45,41 @@ pub(crate) fn read_input<R: Source>(alloc: Global, reader: &mut R) -> Result<Vec
 
 /// Reads a log segment (wal.md) to its end, and returns the canonical body of its samples that have
 /// a label set (Remote-Write 1.0).
-fn read_body<R: Source>(alloc: Global, reader: &mut R) -> Result<Vec<u8>, ToolFault>
+fn read_body<R: Source>(
+    alloc: Global,
+    reader: &mut R,
+    may_compress: bool,
+) -> Result<Vec<u8>, ToolFault>
     ensures ok { IfOk result (λ v. (segment : List ℕ)
-        × ReadsSegment None (R.remaining reader.old) (R.remaining reader.new) segment
-        × (v.items ≡ body_of_segment segment)) }
+        × ReadsSegment may_compress None (R.remaining reader.old) (R.remaining reader.new) segment
+        × (v.items ≡ body_of_segment may_compress segment)) }
     ensures sound { OnOk result (R.has_failed reader.new ≡ false) }
     ensures err { IfErr result
-        (StopsReading (R.remaining reader.old) (R.remaining reader.new) (R.has_failed reader.new)) }
+        (StopsReading may_compress (R.remaining reader.old) (R.remaining reader.new)
+        (R.has_failed reader.new)) }
 {
-    let labelling = read_segment(alloc, reader, Labelling::new(alloc))?;
+    let labelling = read_segment(alloc, reader, may_compress, Labelling::new(alloc))?;
     Ok(encode(alloc, &labelling.into_message())?)
 }
 
 /// Reads the hexadecimal text of a segment to its end, and returns its body.
-fn read_hex_body<R: Source>(alloc: Global, reader: &mut R) -> Result<Vec<u8>, ToolFault>
+fn read_hex_body<R: Source>(
+    alloc: Global,
+    reader: &mut R,
+    may_compress: bool,
+) -> Result<Vec<u8>, ToolFault>
     ensures ok { IfOk result (λ v. (segment : List ℕ)
-        × ReadsInput true None (R.remaining reader.old) (R.remaining reader.new) segment
-        × (v.items ≡ body_of_segment segment)) }
+        × ReadsInput true may_compress None (R.remaining reader.old) (R.remaining reader.new)
+        segment × (v.items ≡ body_of_segment may_compress segment)) }
     ensures sound { OnOk result (R.has_failed reader.new ≡ false) }
     ensures err { IfErr result
-        (StopsInput true (R.remaining reader.old) (R.remaining reader.new)
+        (StopsInput true may_compress (R.remaining reader.old) (R.remaining reader.new)
         (R.has_failed reader.new)) }
 {
     let text = read_input(alloc, reader)?;
     let segment = rw_text::read_hex(alloc, &text)?;
     drop(text);
-    read_body(alloc, &mut segment.as_slice())
+    read_body(alloc, &mut segment.as_slice(), may_compress)
 }
 
 /// Returns the output for a text: itself, or its hexadecimal digits.
@@ -96,8 +105,8 @@ pub fn run_body<R: Source, W: Sink>(
     hex: bool,
 ) -> Result<(), ToolFault>
     ensures ok { OnOk result
-        (WritesBody hex (R.remaining reader.old) (R.remaining reader.new) (W.contents writer.old)
-        (W.contents writer.new)) }
+        (WritesBody hex false (R.remaining reader.old) (R.remaining reader.new)
+        (W.contents writer.old) (W.contents writer.new)) }
     ensures reader_sound { OnOk result (R.has_failed reader.new ≡ false) }
     ensures writer_sound { OnOk result
         (W.has_failed writer.old ≡ false → W.has_failed writer.new ≡ false) }
@@ -105,7 +114,7 @@ pub fn run_body<R: Source, W: Sink>(
     // A fault of the data is the one that the input has. Then nothing is written, nor if memory ran
     // out.
     ensures log { (f : TailFault) → result ≡ Err (Log f)
-        → ReadsFault hex f (R.remaining reader.old) (R.remaining reader.new) }
+        → ReadsFault hex false f (R.remaining reader.old) (R.remaining reader.new) }
     ensures line { (n : ℕ) → result ≡ Err (Line n)
         → ReadsLine hex n (R.remaining reader.old) (R.remaining reader.new) }
     ensures no_full { result ≡ Err SegmentFull → ⊥ }
@@ -115,13 +124,48 @@ pub fn run_body<R: Source, W: Sink>(
     ensures device { result ≡ Err Device
         → ((R.has_failed reader.new ≡ true) × (writer.new ≡ writer.old))
         ⊎ ((W.has_failed writer.new ≡ true)
-        × WritesPart hex (R.remaining reader.old) (R.remaining reader.new) (W.contents writer.old)
-        (W.contents writer.new)) }
+        × WritesPart hex false (R.remaining reader.old) (R.remaining reader.new)
+        (W.contents writer.old) (W.contents writer.new)) }
+{
+    run_body_with(alloc, reader, writer, hex, false)
+}
+
+/// Writes a body as `run_body` does. With `may_compress` records of the segment may be Snappy
+/// blocks.
+pub fn run_body_with<R: Source, W: Sink>(
+    alloc: Global,
+    reader: &mut R,
+    writer: &mut W,
+    hex: bool,
+    may_compress: bool,
+) -> Result<(), ToolFault>
+    ensures ok { OnOk result
+        (WritesBody hex may_compress (R.remaining reader.old) (R.remaining reader.new)
+        (W.contents writer.old) (W.contents writer.new)) }
+    ensures reader_sound { OnOk result (R.has_failed reader.new ≡ false) }
+    ensures writer_sound { OnOk result
+        (W.has_failed writer.old ≡ false → W.has_failed writer.new ≡ false) }
+
+    // A fault of the data is the one that the input has. Then nothing is written, nor if memory ran
+    // out.
+    ensures log { (f : TailFault) → result ≡ Err (Log f)
+        → ReadsFault hex may_compress f (R.remaining reader.old) (R.remaining reader.new) }
+    ensures line { (n : ℕ) → result ≡ Err (Line n)
+        → ReadsLine hex n (R.remaining reader.old) (R.remaining reader.new) }
+    ensures no_full { result ≡ Err SegmentFull → ⊥ }
+    ensures untouched { IfErr result (λ e. e ≢ Device → writer.new ≡ writer.old) }
+
+    // If a device fails, the writer holds a prefix of the output.
+    ensures device { result ≡ Err Device
+        → ((R.has_failed reader.new ≡ true) × (writer.new ≡ writer.old))
+        ⊎ ((W.has_failed writer.new ≡ true)
+        × WritesPart hex may_compress (R.remaining reader.old) (R.remaining reader.new)
+        (W.contents writer.old) (W.contents writer.new)) }
 {
     let body = if hex {
-        read_hex_body(alloc, reader)?
+        read_hex_body(alloc, reader, may_compress)?
     } else {
-        read_body(alloc, reader)?
+        read_body(alloc, reader, may_compress)?
     };
     let output = output_of(alloc, body, hex)?;
     write_all(writer, &output)?;

@@ -6,6 +6,7 @@ ghost use Rattle.rw_types.specs.declared.entry.Entry.{Entry};
 ghost use Rattle.rw_follow.specs.Meals.{no_meal};
 ghost use Rattle.rw_follow.specs.Queues.{AreSure};
 ghost use Rattle.rw_follow.specs.declared.follower.SegmentError.TheVariants.{Unreadable, Missing};
+ghost use Rattle.rw_wal_format.specs.Pieces.{begun_log, is_marked};
 ghost use Rattle.rw_wal_tail.specs.Taking.{HasTaken, HasTakenAll};
 ghost use Rattle.rw_log_read.specs.Logs.{ReadsInto, ReadsNamed, fault_in, source_of};
 ghost use Rattle.rw_log_read.specs.inner.Logs.{AreTaken, ReadsLog, ReadsSegment, begun};
@@ -28,6 +29,17 @@ fn zeros(alloc: Global, len: usize) -> Result<Vec<u8>, AllocError>
     ensures { IfOk result (λ v. vec_len v ≡ len) }
 {
     vec![in alloc; 0; len]
+}
+
+/// Returns a reader of a log that may have records that are Snappy blocks, or has none.
+fn new_tail(alloc: Global, may_compress: bool) -> Result<Tail, AllocError>
+    ensures { IfOk result (λ t. t
+        ≡ record { pieces = begun_log may_compress; given = 0; skipped = []; fault = None }) }
+{
+    if may_compress {
+        return Tail::for_compressed(alloc);
+    }
+    Ok(Tail::new(alloc))
 }
 
 /// Begins the next segment.
@@ -104,10 +116,11 @@ fn read_all<L: Segments, T: Taker>(
     taker: &mut Counting<T>,
     rows: &mut Vec<Segment>,
 ) -> Result<Option<TailFault>, SegmentError>
-    requires { AreTaken [] tail.old (T.taken taker.old.taker) rows.old.items None }
-    ensures ok { IfOk result (ReadsLog past_fault (L.gave log.old) (L.gave log.new)
-        (L.had_all log.new) (L.is_read log.new) tail.new (T.taken taker.new.taker)
-        rows.new.items) }
+    requires { AreTaken (is_marked tail.old.pieces) [] tail.old (T.taken taker.old.taker)
+        rows.old.items None }
+    ensures ok { IfOk result (ReadsLog past_fault (is_marked tail.old.pieces) (L.gave log.old)
+        (L.gave log.new) (L.had_all log.new) (L.is_read log.new) tail.new
+        (T.taken taker.new.taker) rows.new.items) }
     ensures fixed { OnOk result (T.fixed taker.new.taker ≡ T.fixed taker.old.taker) }
     ensures missing { (n : ℕ) → result ≡ Err (Missing n) → L.lacks log.new n }
     ensures sound { IfOk result (λ fault. fault ≡ None → L.is_sound log.new) }
@@ -149,12 +162,13 @@ fn read_rows<L: Segments, T: Taker + Drop>(
     alloc: Global,
     log: &mut L,
     past_fault: bool,
+    may_compress: bool,
     names: &[String],
     taker: T,
 ) -> Result<(LogRead, T), SegmentError>
     requires { T.taken taker ≡ [] }
     ensures ok { IfOk result (λ read. (start : L.Start) → L.gave log.old start no_meal
-        → ReadsInto past_fault (L.gave log.new start) (L.had_all log.new start)
+        → ReadsInto past_fault may_compress (L.gave log.new start) (L.had_all log.new start)
         (L.is_read log.new) (T.taken read.1) read.0.segments.items (fault_in read.0.damage)) }
     ensures fixed { IfOk result (λ read. T.fixed read.1 ≡ T.fixed taker) }
     ensures missing { (n : ℕ) → result ≡ Err (Missing n) → L.lacks log.new n }
@@ -162,7 +176,7 @@ fn read_rows<L: Segments, T: Taker + Drop>(
     ensures failed { result ≡ Err (Unreadable Failed) → L.has_failed log.new }
     ensures fails { result ≡ Err (Unreadable Failed) → L.may_fail log.old Failed }
 {
-    let mut tail = Tail::new(alloc);
+    let mut tail = new_tail(alloc, may_compress)?;
     let mut rows = Vec::new(alloc);
     let mut counting = Counting::new(taker);
     let fault = read_all(
@@ -186,16 +200,18 @@ fn read_rows<L: Segments, T: Taker + Drop>(
 /// Reads the segments of a log in order, to the present end of the last one or to the first fault,
 /// and lets a taker take their entries. Returns what was found, and the taker. If `past_fault` is
 /// set, a segment with a fault is read to its end, so that its row has the number of all its bytes.
-/// The rows have no names.
+/// If `may_compress` is set, records may be Snappy blocks; memory for one decoded record is taken
+/// first. The rows have no names.
 pub fn read_into<L: Segments, T: Taker + Drop>(
     alloc: Global,
     log: &mut L,
     past_fault: bool,
+    may_compress: bool,
     taker: T,
 ) -> Result<(LogRead, T), SegmentError>
     requires { T.taken taker ≡ [] }
     ensures ok { IfOk result (λ read. (start : L.Start) → L.gave log.old start no_meal
-        → ReadsInto past_fault (L.gave log.new start) (L.had_all log.new start)
+        → ReadsInto past_fault may_compress (L.gave log.new start) (L.had_all log.new start)
         (L.is_read log.new) (T.taken read.1) read.0.segments.items (fault_in read.0.damage)) }
     ensures fixed { IfOk result (λ read. T.fixed read.1 ≡ T.fixed taker) }
     ensures missing { (n : ℕ) → result ≡ Err (Missing n) → L.lacks log.new n }
@@ -203,7 +219,7 @@ pub fn read_into<L: Segments, T: Taker + Drop>(
     ensures failed { result ≡ Err (Unreadable Failed) → L.has_failed log.new }
     ensures fails { result ≡ Err (Unreadable Failed) → L.may_fail log.old Failed }
 {
-    read_rows(alloc, log, past_fault, &[], taker)
+    read_rows(alloc, log, past_fault, may_compress, &[], taker)
 }
 
 /// Returns what is found in a log without a segment.
@@ -220,15 +236,18 @@ fn nothing_read(alloc: Global) -> LogRead
 
 /// Reads named segments in order, to the end of the last one or of the first one with a fault, and
 /// lets a taker take their entries. Returns what was found, each row with the name of its segment,
-/// and the taker. An `Err` has the name of the segment whose device failed, if one did.
+/// and the taker. If `may_compress` is set, records may be Snappy blocks. An `Err` has the name of
+/// the segment whose device failed, if one did.
 pub fn read_named<S: Source + Drop, T: Taker + Drop>(
     alloc: Global,
     segments: Vec<Named<S>>,
+    may_compress: bool,
     taker: T,
 ) -> Result<(LogRead, T), Unread>
     requires { T.taken taker ≡ [] }
-    ensures ok { IfOk result (λ read. ReadsNamed (map (source_of S.remaining) segments.items)
-        (T.taken read.1) read.0.segments.items (fault_in read.0.damage)) }
+    ensures ok { IfOk result (λ read. ReadsNamed may_compress
+        (map (source_of S.remaining) segments.items) (T.taken read.1) read.0.segments.items
+        (fault_in read.0.damage)) }
     ensures fixed { IfOk result (λ read. T.fixed read.1 ≡ T.fixed taker) }
     ensures sure { AreSure (map (source_of S.is_sure) segments.items)
         → (u : Unread) → result ≡ Err u → u.error ≡ Failed → ⊥ }
@@ -238,7 +257,7 @@ pub fn read_named<S: Source + Drop, T: Taker + Drop>(
     }
     let names = names_of(alloc, &segments)?;
     let mut log = Queue::new(segments);
-    match read_rows(alloc, &mut log, true, &names, taker) {
+    match read_rows(alloc, &mut log, true, may_compress, &names, taker) {
         Ok(read) => Ok(read),
         Err(SegmentError::Unreadable(error)) => Err(unread_of(&log, error)),
         // Readers lack no segment.

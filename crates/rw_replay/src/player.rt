@@ -52,7 +52,11 @@ impl Player {
     pub(crate) fn new(alloc: Global, settings: Settings) -> Result<Player, AllocError>
         ensures { IfOk result (λ p. p ≡ beginning (setup_of settings.config settings.limits)) }
     {
-        let Settings { config, limits } = settings;
+        let Settings {
+            config,
+            limits,
+            may_compress: _,
+        } = settings;
         Ok(Player {
             alloc,
             world: World::new(alloc, config, limits)?,

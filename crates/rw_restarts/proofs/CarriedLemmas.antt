@@ -70,7 +70,7 @@ module _ (path : List ℕ) (limit : ℕ) (bytes body : List ℕ) (reads : ReadsB
       let given : Ok body ≡ Ok text = sym reads.holds ∙ ap (λ (k : Coding). text_of k reads.sent) coding ∙ ap (text_of one.coding) sent ∙ one.holds in
       cc
 
-  -- they are none that its head refuses
+  -- its head does not refuse them
   not_refused : (status : ℕ) → IsOneRefusal path intake bytes status → ⊥
   not_refused status r =
       let same = request_unique bytes reads.head r.head (reads.sent ++ reads.left) r.rest reads.begins.0 r.begins.0 in

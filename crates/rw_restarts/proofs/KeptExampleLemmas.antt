@@ -13,7 +13,7 @@ use Rattle.rw_codes.specs.Crc.{crc_bits}
 use Rattle.rw_codes.specs.Varint.{groups, number_in_groups}
 use Rattle.rw_wal_format.specs.Pieces.{bytes, page_size, reading}
 use Rattle.rw_wal_format.specs.Records.{record_entries, series_record}
-use Rattle.rw_wal_format.specs.Segments.{Kind, full, Reading, begun, between, inside, fragment, item_at, segment, stopped}
+use Rattle.rw_wal_format.specs.Segments.{Kind, full, Reading, begun, between, inside, fragment, item_at, stopped, segment_in}
 use Rattle.rw_wal_format.specs.Writing.{frame, log_bytes}
 use Rattle.rw_write_request.specs.Message.{WriteRequest}
 use Rattle.rw_write_request.specs.Canon.{canon}
@@ -54,19 +54,19 @@ abbrev entries : List Entry
 entries = Def 1 example_series ∷ Sample 1 first.0 first.1 ∷ []
 
 reading-of-written : reading page_size (bytes written ∷ []) ≡ record { entries = entries; skipped = []; stop = between }
-unfolding item_at segment record_entries number_in_groups reading crc_bits frame log_bytes groups
+unfolding item_at segment_in record_entries number_in_groups reading crc_bits frame log_bytes groups
 reading-of-written = refl
 
 reading-of-definition : reading page_size (bytes definition_written ∷ []) ≡ record { entries = defined; skipped = []; stop = between }
-unfolding item_at segment record_entries number_in_groups reading crc_bits frame log_bytes groups
+unfolding item_at segment_in record_entries number_in_groups reading crc_bits frame log_bytes groups
 reading-of-definition = refl
 
 reading-of-torn : reading page_size (bytes torn ∷ []) ≡ record { entries = defined; skipped = []; stop = inside }
-unfolding item_at segment record_entries number_in_groups reading crc_bits frame log_bytes groups
+unfolding item_at segment_in record_entries number_in_groups reading crc_bits frame log_bytes groups
 reading-of-torn = refl
 
 reading-of-nothing : reading page_size (bytes [] ∷ []) ≡ stopped between
-unfolding item_at segment reading
+unfolding item_at segment_in reading
 reading-of-nothing = refl
 
 -- a text without fault or begun record is a whole one

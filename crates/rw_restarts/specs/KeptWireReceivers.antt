@@ -42,8 +42,8 @@ abbrev pub wire_state : {J : Type 0} → KeptState J → WireState
 wire_state s = record { head = s.kept.head; acknowledged = s.acknowledged }
 
 -- The endpoint reads this body in the bytes of a request, as `serve` says of each request that it
--- answers (`IsRequestAnswered`): they begin with a head that refuses nothing and asks for so many
--- bytes, and these follow. They hold the body in a coding that the endpoint takes.
+-- answers (`IsRequestAnswered`): they begin with a head that refuses nothing and gives a length,
+-- and as many bytes follow. They hold the body in a coding that the endpoint takes.
 pub record ReadsBody (path : List ℕ) (limit : ℕ) (request body : List ℕ) : Type 0 where
   pub head : RequestHead
   pub sent : List ℕ

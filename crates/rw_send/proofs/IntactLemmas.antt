@@ -3,13 +3,13 @@ use Rattle.std.proofs.Common.{◌≡◌, ◌-◌, List, [], ◌∷◌, ◌++◌,
 use Rattle.std.proofs.lemmas.List.{length-append, take-append-drop}
 use Rattle.std.proofs.Math.Seq.{take-append_seam}
 use Rattle.rw_wal_format.specs.Laws.{Extends}
-use Rattle.rw_wal_format.specs.Pieces.{Piece, fault, fault_at, page_size, reading}
-use Rattle.rw_wal_format.specs.Segments.{Reading, Stop, between, inside, at_fault, segment}
+use Rattle.rw_wal_format.specs.Pieces.{Piece, bytes, next_segment, may_compress, fault, fault_at, page_size, reading}
+use Rattle.rw_wal_format.specs.Segments.{Reading, Stop, between, inside, at_fault, segment_in}
 use Rattle.rw_wal_format.proofs.shared.Growing.{reading-append}
 use Rattle.rw_sender.specs.Feeders.{Sorting}
 use Rattle.rw_sender.specs.Shipping.{Joins}
 use Rattle.rw_sender.specs.declared.shipper.FeedFault.{FeedFault}
-use Rattle.rw_send.specs.Segments.{AreSoundButLast}
+use Rattle.rw_send.specs.Segments.{AreSoundButLast, fed_of}
 use Rattle.rw_send.proofs.MealLemmas.{joins_or_not}
 
 none_before : (r s : Reading) → Extends r s → fault_at s.stop ≡ None → (stop : Stop) → r.stop ≡ stop → fault_at stop ≡ None
@@ -39,12 +39,19 @@ sound_fed old new p (Ok u) h = sound_so old new p (inr h)
 sound_fed old new p (Err e) h = sound_so old new p (joins_or_not old new p e h)
 
 no_pieces : fault [] ≡ None
-unfolding reading segment
+unfolding reading segment_in
 no_pieces = refl
 
--- before the first piece
-pub intact_at_first : (ps : List Piece) → ps ≡ [] → fault ps ≡ None
-intact_at_first ps e = subst (λ (qs : List Piece). fault qs ≡ None) (sym e) no_pieces
+no_piece_fed : fault (may_compress ∷ []) ≡ None
+unfolding reading segment_in
+no_piece_fed = refl
 
-pub sound_at_first : (ps : List Piece) → ps ≡ [] → AreSoundButLast ps
+-- before the first piece
+pub intact_at_first : (ps : List Piece) → fed_of ps ≡ [] → fault ps ≡ None
+intact_at_first [] e = no_pieces
+intact_at_first (may_compress ∷ ps) e = subst (λ (qs : List Piece). fault (may_compress ∷ qs) ≡ None) (sym e) no_piece_fed
+intact_at_first (bytes b ∷ ps) e = absurd cc
+intact_at_first (next_segment ∷ ps) e = absurd cc
+
+pub sound_at_first : (ps : List Piece) → fed_of ps ≡ [] → AreSoundButLast ps
 sound_at_first ps e = sound_intact ps (intact_at_first ps e)

@@ -1,5 +1,5 @@
 -- What a turn does to a shipper.
-use Rattle.std.proofs.Common.{◌≡◌, ◌⊎◌, inl, inr, ℕ, List, [], ◌∷◌, ◌++◌, ◌≤◌, length, map, take, None, Result, Ok, Err, IfErr, IfOk, OnOk, refl, sym, ap, ◌∙◌, subst, arith}
+use Rattle.std.proofs.Common.{◌≡◌, ◌⊎◌, inl, inr, ℕ, Bool, List, [], ◌∷◌, ◌++◌, ◌≤◌, length, map, take, None, Result, Ok, Err, IfErr, IfOk, OnOk, refl, sym, ap, ◌∙◌, subst, arith}
 use Rattle.std.proofs.lemmas.List.{append-nil, length-take-le}
 use Rattle.std.specs.Prelude.{IsSome, OnErr}
 use Rattle.rw_wal_format.specs.Pieces.{Piece, bytes, fault, next_segment}
@@ -17,7 +17,7 @@ use Rattle.rw_sender.specs.Feeders.{Sorting}
 use Rattle.rw_sender.specs.Shipping.{FailsBy, Feeds, HasCompared, Joins, PlacesAll, Shipping}
 use Rattle.rw_sender.specs.declared.shipper.FeedFault.{FeedFault}
 use Rattle.rw_send.specs.FeedErrors.{feed_error_of}
-use Rattle.rw_send.specs.Segments.{AreShortPieces, AreSoundButLast, meal_of}
+use Rattle.rw_send.specs.Segments.{IsShortLog, AreSoundButLast, meal_of}
 use Rattle.rw_send.specs.Steps.{HasBroken, HasPutAll, IsLap, IsSet, StaysOpen}
 use Rattle.rw_send.specs.declared.feed_error.FeedError.{FeedError}
 use Rattle.rw_send.specs.declared.feed_error.FeedError.TheVariants as error
@@ -47,7 +47,7 @@ pub record IsSame {T : Type 0} (sharding : Sharding) (old new : Shipping T) : Ty
   pub len : length new.fleet.current ≡ length old.fleet.current
   pub shards : length old.fleet.current ≡ sharding.shards
   pub limit : new.fault ≡ None → new.limit ≡ old.limit
-  pub short : AreShortPieces old.log.pieces → AreShortPieces new.log.pieces
+  pub short : (c : Bool) → IsShortLog c old.log.pieces → IsShortLog c new.log.pieces
   pub but_last : AreSoundButLast old.log.pieces → AreSoundButLast new.log.pieces
 
 -- the number of shards is set at the end of a segment, and then that is fed
@@ -105,7 +105,7 @@ module _ {T : Type 0} where
   -- ---- some bytes
 
   pub same_fed : (sharding : Sharding) (old new : Shipping T) (p : Piece) (r : Result (Unit {0}) FeedFault) → StaysOpen old new → length old.fleet.current ≡ sharding.shards
-      → (AreShortPieces old.log.pieces → AreShortPieces new.log.pieces) → Joins old.log new.log p r → IsIntact old → IsSame sharding old new
+      → ((c : Bool) → IsShortLog c old.log.pieces → IsShortLog c new.log.pieces) → Joins old.log new.log p r → IsIntact old → IsSame sharding old new
   same_fed sharding old new p r st shards short joins intact = record {
     choice = st.choice;
     fleet = st.fleet;
@@ -117,7 +117,7 @@ module _ {T : Type 0} where
   }
 
   same_stays : (sharding : Sharding) (s : Shipping T) → length s.fleet.current ≡ sharding.shards → IsSame sharding s s
-  same_stays sharding s shards = record { choice = refl; fleet = refl; len = refl; shards = shards; limit = λ _. refl; short = λ h. h; but_last = λ h. h }
+  same_stays sharding s shards = record { choice = refl; fleet = refl; len = refl; shards = shards; limit = λ _. refl; short = λ c h. h; but_last = λ h. h }
 
   -- there is no memory for them
   pub piece_refused : (n : ℕ) (buf : List ℕ) (sharding : Sharding) (s : Shipping T) → length s.fleet.current ≡ sharding.shards → Goes (turn.Piece n) buf sharding s s (Err error.Failed)
@@ -168,7 +168,7 @@ module _ {T : Type 0} where
     sizes = λ none. live_no_more new.fault failed none;
     live = tt;
     intact = tt;
-    short = λ h. subst (λ (l : Sorting). AreShortPieces l.pieces) (sym log) h;
+    short = λ c h. subst (λ (l : Sorting). IsShortLog c l.pieces) (sym log) h;
     but_last = λ h. subst (λ (l : Sorting). AreSoundButLast l.pieces) (sym log) h;
     last = λ done. last_compared old new done (count_so shards sharding.some sharding.few) placed log compared;
     resolved = λ _. tt;
@@ -205,8 +205,8 @@ module _ {T : Type 0} where
     ends = ap (λ (m : Meal). m.whole) (fed_next old.log.pieces mid.log.pieces new.log.pieces (ap (λ (l : Sorting). l.pieces) t.set.log) joined);
   }
 
-  turned_short : (sharding next : Sharding) (old mid new : Shipping T) (r : Result (Unit {0}) FeedFault) → IsTurning sharding next old mid new r → AreShortPieces old.log.pieces → AreShortPieces new.log.pieces
-  turned_short sharding next old mid new r t h = short_fed mid.log new.log next_segment r t.joins tt (subst (λ (l : Sorting). AreShortPieces l.pieces) (sym t.set.log) h)
+  turned_short : (sharding next : Sharding) (old mid new : Shipping T) (r : Result (Unit {0}) FeedFault) → IsTurning sharding next old mid new r → (c : Bool) → IsShortLog c old.log.pieces → IsShortLog c new.log.pieces
+  turned_short sharding next old mid new r t c h = short_fed mid.log new.log next_segment r t.joins tt c (subst (λ (l : Sorting). IsShortLog c l.pieces) (sym t.set.log) h)
 
   over_part : (sharding next : Sharding) (old mid new : Shipping T) (r : Result (Unit {0}) FeedFault) → IsTurning sharding next old mid new r → (new.log.pieces ≡ mid.log.pieces) ⊎ (new.log.pieces ≡ mid.log.pieces ++ next_segment ∷ [])
       → HasBroken sharding.fewest sharding.most old new ⊎ IsLap sharding.fewest sharding.most old new
@@ -278,7 +278,7 @@ module _ {T : Type 0} where
     len = len;
     shards = shards;
     limit = limit;
-    short = λ h. subst (λ (l : Sorting). AreShortPieces l.pieces) (sym log) h;
+    short = λ c h. subst (λ (l : Sorting). IsShortLog c l.pieces) (sym log) h;
     but_last = λ h. subst (λ (l : Sorting). AreSoundButLast l.pieces) (sym log) h;
   }
 
@@ -348,7 +348,7 @@ module _ {T : Type 0} where
           sizes = λ live. sizes_on sharding.fewest sharding.most next.fewest next.most old.fleet mid.fleet new.fleet range sizes (keeps.sizes live);
           live = keeps.live;
           intact = keeps.intact;
-          short = λ h. keeps.short (subst (λ (l : Sorting). AreShortPieces l.pieces) (sym log) h);
+          short = λ c h. keeps.short c (subst (λ (l : Sorting). IsShortLog c l.pieces) (sym log) h);
           but_last = λ h. keeps.but_last (subst (λ (l : Sorting). AreSoundButLast l.pieces) (sym log) h);
           last = λ done. keeps.last (compared_resolved old mid compared number.0 done);
           resolved = λ done. keeps.resolved (compared_resolved old mid compared number.0 done);

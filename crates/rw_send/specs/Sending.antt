@@ -24,7 +24,7 @@ use Rattle.rw_send.specs.declared.follow_fault.FollowFault.TheVariants as fault
 use Rattle.rw_send.specs.EpochSizes.{HasEpochSizes}
 use Rattle.rw_send.specs.Logs.{GaveNothing, HasGivenMore, IsAlmostRead, Seen}
 use Rattle.rw_send.specs.ReportText.{IsTextOf, WritesReportPart}
-use Rattle.rw_send.specs.Segments.{AreShortPieces, AreSoundButLast, meal_of}
+use Rattle.rw_send.specs.Segments.{IsShortLog, AreSoundButLast, meal_of}
 use Rattle.rw_send.specs.Steps.{HasComeTo, HasLapped, HasLastEpoch, HasStarted}
 
 -- the shards were ended in order; or at once, since the shipper failed or for this cause, and then
@@ -97,24 +97,25 @@ StopsAtOnce log said fed (Err (fault.Tool tool.SegmentFull)) = ⊥
 StopsAtOnce log said fed (Err (fault.Missing n)) = log.lacks n
 StopsAtOnce log said fed (Err fault.Stopped) = said ≡ request.Abort
 
--- What was read of this log was shipped in order, in short pieces, with the end of a segment
--- between two, and nothing else; with this report and this answer. While the shipper had not failed
--- each epoch had as many shards as are configured, and if the watch asked for nothing but to stop
--- (`quiet`), their number was set after each segment and at no other time, and nothing was done if
--- the log gave nothing. A run that was asked to end at once does not say that memory ran out.
+-- What was read of this log, which may have Snappy blocks or has none, was shipped in order, in
+-- short pieces, with the end of a segment between two, and nothing else; with this report and this
+-- answer. While the shipper had not failed each epoch had as many shards as are configured, and if
+-- the watch asked for nothing but to stop (`quiet`), their number was set after each segment and at
+-- no other time, and nothing was done if the log gave nothing. A run that was asked to end at once
+-- does not say that memory ran out.
 pub record IsSent {T : Type 0} (tells : T → Type 0) (seen : T → List Exchange)
-    (is_for : ℕ → ℕ → T → Type 0) (c : ConfigFields) (limit : Option ℕ) (log : Seen)
-    (quiet : Bool) (said : StopRequest) (r : Report T) (answer : Result (Unit {0}) FollowFault)
-    : Type 0 where
+    (is_for : ℕ → ℕ → T → Type 0) (c : ConfigFields) (limit : Option ℕ)
+    (compresses : Bool) (log : Seen) (quiet : Bool) (said : StopRequest) (r : Report T)
+    (answer : Result (Unit {0}) FollowFault) : Type 0 where
   pub pieces : List Piece
   pub begins : IsAlmostRead log.gave (meal_of pieces)
-  pub short : AreShortPieces pieces
+  pub short : IsShortLog compresses pieces
   pub report : IsReportOf tells seen is_for c limit (StopsAtOnce log said (meal_of pieces) answer)
       pieces r
   pub sizes : report.shipping.fault ≡ None
       → HasEpochSizes c.shards c.min_shards c.max_shards report.shipping.fleet
   pub started : Shipping T
-  pub start : HasStarted c limit started
+  pub start : HasStarted c limit compresses started
   pub laps : quiet ≡ true → HasComeTo c.min_shards c.max_shards log.gave (meal_of pieces)
       started report.shipping
   pub lapped : IsOk answer → quiet ≡ true → HasLapped c.min_shards c.max_shards
@@ -125,45 +126,47 @@ pub record IsSent {T : Type 0} (tells : T → Type 0) (seen : T → List Exchang
 
 -- and the text of the report was written
 pub record IsPrinted {T : Type 0} (tells : T → Type 0) (seen : T → List Exchange)
-    (is_for : ℕ → ℕ → T → Type 0) (c : ConfigFields) (limit : Option ℕ) (log : Seen)
-    (quiet : Bool) (said : StopRequest) (before after : Option (List ℕ))
-    (answer : Result (Unit {0}) FollowFault) : Type 0 where
+    (is_for : ℕ → ℕ → T → Type 0) (c : ConfigFields) (limit : Option ℕ)
+    (compresses : Bool) (log : Seen) (quiet : Bool) (said : StopRequest)
+    (before after : Option (List ℕ)) (answer : Result (Unit {0}) FollowFault) : Type 0 where
   pub report : Report T
-  pub sent : IsSent tells seen is_for c limit log quiet said report answer
+  pub sent : IsSent tells seen is_for c limit compresses log quiet said report answer
   pub text : List ℕ
   pub text_of : IsTextOf report text
   pub written : Appends before after text
 
 -- a prefix of it was written
 pub record IsPrintedPart {T : Type 0} (tells : T → Type 0) (seen : T → List Exchange)
-    (is_for : ℕ → ℕ → T → Type 0) (c : ConfigFields) (limit : Option ℕ) (log : Seen)
-    (quiet : Bool) (said : StopRequest) (before after : Option (List ℕ)) : Type 0 where
+    (is_for : ℕ → ℕ → T → Type 0) (c : ConfigFields) (limit : Option ℕ)
+    (compresses : Bool) (log : Seen) (quiet : Bool) (said : StopRequest)
+    (before after : Option (List ℕ)) : Type 0 where
   pub answer : Result (Unit {0}) FollowFault
   pub report : Report T
-  pub sent : IsSent tells seen is_for c limit log quiet said report answer
+  pub sent : IsSent tells seen is_for c limit compresses log quiet said report answer
   pub part : WritesReportPart report before after
 
 -- What a run that answers so has written: its report; nothing, if memory ran out before there was a
 -- report or for its text (`same`); or a prefix of it, if the writer has failed.
 abbrev pub Prints : {T : Type 0} (tells : T → Type 0) (seen : T → List Exchange)
-    (is_for : ℕ → ℕ → T → Type 0) (c : ConfigFields) (limit : Option ℕ) (log : Seen)
-    (quiet : Bool) (said : StopRequest) (before after : Option (List ℕ)) (same failed : Type 0)
+    (is_for : ℕ → ℕ → T → Type 0) (c : ConfigFields) (limit : Option ℕ)
+    (compresses : Bool) (log : Seen) (quiet : Bool) (said : StopRequest)
+    (before after : Option (List ℕ)) (same failed : Type 0)
     → Result (Unit {0}) FollowFault → Type 0
-Prints tells seen is_for c limit log quiet said before after same failed (Ok u) =
-    IsPrinted tells seen is_for c limit log quiet said before after (Ok u)
-Prints tells seen is_for c limit log quiet said before after same failed (Err (fault.Tool (tool.Log f))) =
-    IsPrinted tells seen is_for c limit log quiet said before after (Err (fault.Tool (tool.Log f)))
-Prints tells seen is_for c limit log quiet said before after same failed (Err (fault.Tool tool.OutOfMemory)) =
-    same ⊎ IsPrinted tells seen is_for c limit log quiet said before after (Err (fault.Tool tool.OutOfMemory))
-Prints tells seen is_for c limit log quiet said before after same failed (Err (fault.Tool tool.Device)) =
-    IsPrinted tells seen is_for c limit log quiet said before after (Err (fault.Tool tool.Device))
-    ⊎ (failed × IsPrintedPart tells seen is_for c limit log quiet said before after)
-Prints tells seen is_for c limit log quiet said before after same failed (Err (fault.Tool (tool.Line n))) = ⊥
-Prints tells seen is_for c limit log quiet said before after same failed (Err (fault.Tool tool.SegmentFull)) = ⊥
-Prints tells seen is_for c limit log quiet said before after same failed (Err (fault.Missing n)) =
-    IsPrinted tells seen is_for c limit log quiet said before after (Err (fault.Missing n))
-Prints tells seen is_for c limit log quiet said before after same failed (Err fault.Stopped) =
-    IsPrinted tells seen is_for c limit log quiet said before after (Err fault.Stopped)
+Prints tells seen is_for c limit compresses log quiet said before after same failed (Ok u) =
+    IsPrinted tells seen is_for c limit compresses log quiet said before after (Ok u)
+Prints tells seen is_for c limit compresses log quiet said before after same failed (Err (fault.Tool (tool.Log f))) =
+    IsPrinted tells seen is_for c limit compresses log quiet said before after (Err (fault.Tool (tool.Log f)))
+Prints tells seen is_for c limit compresses log quiet said before after same failed (Err (fault.Tool tool.OutOfMemory)) =
+    same ⊎ IsPrinted tells seen is_for c limit compresses log quiet said before after (Err (fault.Tool tool.OutOfMemory))
+Prints tells seen is_for c limit compresses log quiet said before after same failed (Err (fault.Tool tool.Device)) =
+    IsPrinted tells seen is_for c limit compresses log quiet said before after (Err (fault.Tool tool.Device))
+    ⊎ (failed × IsPrintedPart tells seen is_for c limit compresses log quiet said before after)
+Prints tells seen is_for c limit compresses log quiet said before after same failed (Err (fault.Tool (tool.Line n))) = ⊥
+Prints tells seen is_for c limit compresses log quiet said before after same failed (Err (fault.Tool tool.SegmentFull)) = ⊥
+Prints tells seen is_for c limit compresses log quiet said before after same failed (Err (fault.Missing n)) =
+    IsPrinted tells seen is_for c limit compresses log quiet said before after (Err (fault.Missing n))
+Prints tells seen is_for c limit compresses log quiet said before after same failed (Err fault.Stopped) =
+    IsPrinted tells seen is_for c limit compresses log quiet said before after (Err fault.Stopped)
 
 -- an answer of `run_send` as one of a log that may grow
 abbrev pub as_answer : Result (Unit {0}) ToolFault → Result (Unit {0}) FollowFault

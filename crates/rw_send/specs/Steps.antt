@@ -1,7 +1,7 @@
 -- How the segments of a log are shipped one after another, and how many shards there are for each.
-use Rattle.std.specs.Prelude.{◌≡◌, ◌⊎◌, ℕ, zero, suc, ◌≤◌, ◌+◌, ◌-◌, [], ◌∷◌, ◌++◌, Option, None, length, map}
+use Rattle.std.specs.Prelude.{◌≡◌, ◌⊎◌, ℕ, zero, suc, ◌≤◌, ◌+◌, ◌-◌, Bool, [], ◌∷◌, ◌++◌, Option, None, length, map}
 use Rattle.rw_types.specs.Beginnings.{Begins}
-use Rattle.rw_wal_format.specs.Pieces.{entries, next_segment}
+use Rattle.rw_wal_format.specs.Pieces.{begun_log, entries, next_segment}
 use Rattle.rw_follow.specs.Meals.{Meal, with_next}
 use Rattle.rw_fleet.specs.Fleets.{Shards, AreAll}
 use Rattle.rw_fleet.specs.ShardHistories.{AreFresh, marks_of}
@@ -93,9 +93,11 @@ HasComeTo {T} fewest most gave fed old new = HasLapped fewest most (length fed.w
     ⊎ (gave (with_next fed) × ((last : Shipping T)
     × HasLapped fewest most (length fed.whole) old last × HasBroken fewest most last new))
 
--- a shipper with as many shards as are configured and this limit in bytes, which was fed nothing
-pub record HasStarted {T : Type 0} (c : ConfigFields) (limit : Option ℕ) (s : Shipping T) : Type 0 where
-  pub pieces : s.log.pieces ≡ []
+-- a shipper with as many shards as are configured and this limit in bytes, which was fed nothing of
+-- a log that may have Snappy blocks or has none
+pub record HasStarted {T : Type 0} (c : ConfigFields) (limit : Option ℕ) (compresses : Bool)
+    (s : Shipping T) : Type 0 where
+  pub pieces : s.log.pieces ≡ begun_log compresses
   pub ended : s.fleet.ended ≡ []
   pub epoch : s.fleet.epoch ≡ 0
   pub shards : length s.fleet.current ≡ c.shards

@@ -1,10 +1,13 @@
 //! The command `send`, over any segments, connections, watch and writer.
 
-ghost use Rattle.std.specs.Prelude.{◌≡◌, ◌⊎◌, [], true, false, Err, IfOk, OnOk};
+ghost use Rattle.std.specs.Prelude.{◌≡◌, ◌⊎◌, [], true, false, length, None, Err, IfOk, OnOk};
+ghost use Rattle.rw_fleet.specs.ShardHistories.{AreFresh};
 ghost use Rattle.rw_follow.specs.declared.signal.StopRequest.TheVariants as StopRequest;
 ghost use Rattle.rw_send.specs.Logs.{seen_of};
 ghost use Rattle.rw_send.specs.RunFaults.{answer_of};
+ghost use Rattle.rw_wal_format.specs.Pieces.{begun_log};
 ghost use Rattle.rw_send.specs.Segments.{meal_of};
+ghost use Rattle.rw_shard_core.specs.Configs.{choice_of};
 ghost use Rattle.rw_send.specs.Sending.{IsSent, Prints};
 ghost use Rattle.rw_send.specs.inner.Sending.{left_undone};
 ghost use Rattle.rw_send.specs.declared.follow_fault.FollowFault.TheVariants.{Stopped};
@@ -22,6 +25,7 @@ use rw_settings::Settings;
 use rw_shard_core::Config;
 use rw_text::ToolFault;
 use rw_types::Sink;
+use rw_worker::StopFlag;
 use std::alloc::{AllocError, Global};
 use std::sync::Wait;
 use std::thread::Threads;
@@ -44,6 +48,36 @@ fn or_stopped<W: Watch>(watch: &mut W, answer: Result<(), FollowFault>) -> Resul
     answer
 }
 
+/// Starts a shipper for a log that may have Snappy blocks, or has none.
+fn start_shipper<R: Threads + Wait + Clock + Copy + Send + 'static, C: Connect + Drop>(
+    rt: &R,
+    alloc: Global,
+    config: Config,
+    connect: C,
+    may_compress: bool,
+    limit: Option<u64>,
+    stop: StopFlag,
+) -> Result<Shipper<C>, AllocError>
+    ensures log { IfOk result (λ s. s.log
+        ≡ record {
+          choice = choice_of config;
+          pieces = begun_log may_compress;
+          placed = [];
+          hand = [];
+        }) }
+    ensures config { IfOk result (λ s. s.fleet.config ≡ record config { rules = [] }) }
+    ensures opened { IfOk result (λ s. (s.fleet.epoch ≡ 0) × (s.fleet.ended ≡ [])
+        × (length s.fleet.current ≡ config.shards) × AreFresh 0 s.fleet.current) }
+    ensures fault { IfOk result (λ s. s.fault ≡ None) }
+    ensures limit { IfOk result (λ s. s.limit ≡ limit) }
+{
+    if may_compress {
+        Shipper::start_compressed(rt, alloc, config, connect, limit, stop)
+    } else {
+        Shipper::start_within(rt, alloc, config, connect, limit, stop)
+    }
+}
+
 /// Ships a log, and stops.
 fn ship<
     R: Threads + Wait + Clock + Copy + Send + 'static,
@@ -60,6 +94,7 @@ fn ship<
 ) -> Result<Sent<C::T>, AllocError>
     ensures { IfOk result (λ sent. (start : S.Start) → S.gave segments.old start (meal_of [])
         → IsSent C.T.tells C.T.seen C.T.is_for config options.entry.max_batch_bytes
+        options.entry.may_compress
         (seen_of (S.gave segments.new start) (S.had_all segments.new start)
         (S.lacks segments.new) (S.may_fail segments.old))
         (W.is_quiet watch.old) (W.said watch.new) sent.report sent.answer) }
@@ -70,9 +105,18 @@ fn ship<
         connect,
         counters,
         max_batch_bytes,
+        may_compress,
         stop,
     } = options;
-    let mut shipper = Shipper::start_within(rt, alloc, config, connect, max_batch_bytes, stop)?;
+    let mut shipper = start_shipper(
+        rt,
+        alloc,
+        config,
+        connect,
+        may_compress,
+        max_batch_bytes,
+        stop,
+    )?;
     let context = FeedContext { alloc, counters };
     let ended = ship_live(
         rt,
@@ -133,6 +177,7 @@ pub fn run_follow<
 ) -> Result<(), RunFault>
     ensures prints { (start : S.Start) → S.gave segments.old start (meal_of [])
         → Prints C.T.tells C.T.seen C.T.is_for settings.config options.entry.max_batch_bytes
+        options.entry.may_compress
         (seen_of (S.gave segments.new start) (S.had_all segments.new start)
         (S.lacks segments.new) (S.may_fail segments.old))
         (W.is_quiet watch.old) (W.said watch.new) (K.contents writer.old)
@@ -141,7 +186,11 @@ pub fn run_follow<
     ensures sound { OnOk result
         (K.has_failed writer.old ≡ false → K.has_failed writer.new ≡ false) }
 {
-    let Settings { config, limits: _ } = settings;
+    let Settings {
+        config,
+        limits: _,
+        may_compress: _,
+    } = settings;
     let Sent {
         report,
         answer,

@@ -8,7 +8,8 @@ ghost use Rattle.rw_fleet.specs.Work.{AreResolved};
 ghost use Rattle.rw_fleet.specs.Loads.{IsLoad};
 ghost use Rattle.rw_fleet.specs.declared.load.Load.{Load};
 ghost use Rattle.rw_send.specs.Logs.{GaveNothing, IsAlmostRead, seen_of};
-ghost use Rattle.rw_send.specs.Segments.{AreShortPieces, AreSoundButLast, meal_of};
+ghost use Rattle.rw_wal_format.specs.Pieces.{is_marked};
+ghost use Rattle.rw_send.specs.Segments.{IsShortLog, AreSoundButLast, fed_of, meal_of};
 ghost use Rattle.rw_send.specs.Steps.{HasComeTo, HasLapped, KeepsSetup, HasLastEpoch};
 ghost use Rattle.rw_send.specs.inner.Turns.{Goes, IsCut, Reshards};
 ghost use Rattle.rw_send.specs.inner.EpochSizes.{KeepsEpochSizes};
@@ -167,7 +168,7 @@ pub(crate) fn ship_live<
     watch: &mut W,
     buf: &mut [u8],
 ) -> Result<(), FeedError>
-    requires begun { shipper.old.log.pieces ≡ [] }
+    requires begun { fed_of shipper.old.log.pieces ≡ [] }
     requires live { shipper.old.fault ≡ None }
     requires shards { length shipper.old.fleet.current ≡ sharding.shards }
     requires buffer { 0 < length buf.old }
@@ -186,7 +187,7 @@ pub(crate) fn ship_live<
     ensures idle { W.is_quiet watch.old ≡ true → (start : S.Start)
         → S.gave segments.old start (meal_of []) → GaveNothing (S.gave segments.new start)
         → shipper.new ≡ shipper.old }
-    ensures short { AreShortPieces shipper.new.log.pieces }
+    ensures short { IsShortLog (is_marked shipper.old.log.pieces) shipper.new.log.pieces }
     ensures but_last { AreSoundButLast shipper.new.log.pieces }
     ensures live { OnOk result (shipper.new.fault ≡ None) }
     ensures begins { (start : S.Start) → S.gave segments.old start (meal_of [])

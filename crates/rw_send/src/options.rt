@@ -4,13 +4,16 @@ use rw_metrics::SendCounters;
 use rw_worker::StopFlag;
 
 /// The connections to a receiver, the counters, the greatest number of bytes in the body of a
-/// batch, and the flag that stops the workers at once. No clause says anything about the counters.
+/// batch, how the log is read, and the flag that stops the workers at once. No clause says anything
+/// about the counters.
 #[derive(Drop)]
 pub struct SendOptions<'a, C> {
     pub connect: C,
     pub counters: &'a SendCounters,
     /// `None` for no limit.
     pub max_batch_bytes: Option<u64>,
+    /// Whether records of the log may be Snappy blocks.
+    pub may_compress: bool,
     /// If another thread sets it, the workers abandon what is not sent, and nothing waits for them
     /// any more.
     pub stop: StopFlag,

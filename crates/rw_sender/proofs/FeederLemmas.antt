@@ -7,8 +7,7 @@ use Rattle.std.specs.Ordering.{nat_cmp}
 use Rattle.std.specs.FinMap.{FinMap, empty, get, insert, get-insert, get-empty}
 use Rattle.rw_types.specs.declared.entry.Entry.{Entry}
 use Rattle.rw_types.specs.declared.entry.Entry.TheVariants.{Def, Sample}
-use Rattle.rw_wal_format.specs.Pieces.{Piece, entries, reading}
-use Rattle.rw_wal_format.specs.Segments.{segment}
+use Rattle.rw_wal_format.specs.Pieces.{Piece, entries}
 use Rattle.rw_wal_format.specs.declared.tail_fault.TailFault.{TailFault}
 use Rattle.rw_ledger.specs.declared.ledger.Reason.{Reason}
 use Rattle.rw_relabel.specs.declared.choice.Choice.{Choice}
@@ -176,10 +175,9 @@ pub no_more : (fc : ℕ) (fs : List ℕ) → fs ≡ [] → fc ≡ fc + length fs
 no_more fc fs is = sym (ap (λ l. fc + length l) is ∙ add-zero fc)
 
 -- before the first piece
-pub feeder_begun : (tail : Fed) (router : Routing) (names : FinMap nat_cmp Reason) (r : List Entry) → tail ≡ record { pieces = []; given = 0; skipped = []; fault = None } → Knows [] router.cache → router.filtered ≡ 0 → names ≡ empty → r ≡ [] → IsFeeder tail router names 0 (take 0 r) (drop 0 r)
-unfolding reading segment
+pub feeder_begun : (tail : Fed) (router : Routing) (names : FinMap nat_cmp Reason) (r : List Entry) → HasTaken tail [] → Knows [] router.cache → router.filtered ≡ 0 → names ≡ empty → r ≡ [] → IsFeeder tail router names 0 (take 0 r) (drop 0 r)
 feeder_begun tail router names r t knows none m is = subst (IsFeeder tail router names 0 []) (sym is) (record {
-  taken = record { count = ap (λ (x : Fed). x.given) t; rest = []; begins = ap (λ (x : Fed). entries x.pieces) t };
+  taken = t;
   counted = refl;
   knows = knows;
   names_are = m;

@@ -8,6 +8,7 @@ ghost use Rattle.rw_wal_tail.specs.Fed.{piece_of, size_of};
 ghost use Rattle.rw_wal_tail.specs.Places.{fault_place};
 ghost use Rattle.rw_series_cache.specs.Routing.{TakesMemory};
 ghost use Rattle.rw_sender.specs.Logs.{named, dropped, filtered};
+ghost use Rattle.rw_wal_tail.specs.Taking.{HasTaken};
 ghost use Rattle.rw_sender.specs.Feeders.{ReadsNext, IsDropped, IsDroppedSample, IsToBeSent, Judges, HasPlaced};
 
 use rw_history::History;
@@ -70,8 +71,18 @@ impl Feeder {
     pub fn new(alloc: Global, choice: Choice) -> Feeder
         ensures { result ≡ record { choice = choice; pieces = []; placed = []; hand = [] } }
     {
+        Feeder::with_tail(alloc, choice, Tail::new(alloc))
+    }
+
+    /// Returns a feeder that reads a log with this reader, of which nothing was taken. This takes
+    /// no memory.
+    pub(crate) fn with_tail(alloc: Global, choice: Choice, tail: Tail) -> Feeder
+        requires { HasTaken tail [] }
+        ensures { result
+            ≡ record { choice = choice; pieces = tail.pieces; placed = []; hand = [] } }
+    {
         Feeder {
-            tail: Tail::new(alloc),
+            tail,
             router: Router::new(alloc, choice),
             part: Ledger::new(alloc),
             count: 0,

@@ -1,14 +1,15 @@
 //! The shipper.
 
-ghost use Rattle.std.specs.Prelude.{◌≡◌, ◌⊎◌, List, true, false, ◌+◌, ◌≤◌, ◌<◌, [], ◌++◌, length, map, None, Some, Err, IfOk, IfErr, IfSome, OnOk, is_some};
+ghost use Rattle.std.specs.Prelude.{◌≡◌, ◌⊎◌, List, true, false, ◌+◌, ◌≤◌, ◌<◌, [], ◌∷◌, ◌++◌, length, map, None, Some, Err, IfOk, IfErr, IfSome, OnOk, is_some};
 ghost use Rattle.rw_wal_tail.specs.Fed.{piece_of};
 ghost use Rattle.rw_wal_tail.specs.Places.{fault_place};
+ghost use Rattle.rw_wal_tail.specs.Taking.{HasTaken, HasRead};
 ghost use Rattle.rw_fleet.specs.ShardHistories.{AreFresh, AreSame, marked, marks_of};
 ghost use Rattle.rw_fleet.specs.Work.{AreResolved, HasCut};
 ghost use Rattle.rw_fleet.specs.Fleets.{EndBy};
 ghost use Rattle.rw_fleet.specs.Loads.{IsLoad};
 ghost use Rattle.rw_types.specs.declared.entry.Entry.{Entry};
-ghost use Rattle.rw_wal_format.specs.Pieces.{entries};
+ghost use Rattle.rw_wal_format.specs.Pieces.{may_compress, entries};
 ghost use Rattle.rw_sender.specs.Logs.{named, dropped, filtered};
 ghost use Rattle.rw_shard_core.specs.Configs.{choice_of};
 ghost use Rattle.rw_sender.specs.Cutting.{AreCutBy};
@@ -27,7 +28,7 @@ use rw_ledger::Ledger;
 use rw_relabel::{Choice, Rules};
 use rw_shard_core::{Config, ConfigFields, Outcome};
 use rw_shard_queue::Kind;
-use rw_wal_tail::{FaultPlace, Piece, SkippedType, TailFault};
+use rw_wal_tail::{FaultPlace, Piece, SkippedType, Tail, TailFault};
 use rw_worker::StopFlag;
 use std::alloc::{AllocError, Global};
 use std::error::Error;
@@ -227,6 +228,61 @@ impl<C: Connect + Drop> Shipper<C> {
         ensures fault { IfOk result (λ s. s.fault ≡ None) }
         ensures limit { IfOk result (λ s. s.limit ≡ limit) }
     {
+        Shipper::start_at(rt, alloc, config, connect, limit, stop, Tail::new(alloc))
+    }
+
+    /// Opens epoch 0 as `start_within` does, for a log that may have records that are Snappy
+    /// blocks. Memory may also run out for one decoded record.
+    pub fn start_compressed<R: Threads + Wait + Copy + Send + 'static>(
+        rt: &R,
+        alloc: Global,
+        config: Config,
+        connect: C,
+        limit: Option<u64>,
+        stop: StopFlag,
+    ) -> Result<Shipper<C>, AllocError>
+        ensures log { IfOk result (λ s. s.log
+            ≡ record {
+              choice = choice_of config;
+              pieces = may_compress ∷ [];
+              placed = [];
+              hand = [];
+            }) }
+        ensures config { IfOk result (λ s. s.fleet.config ≡ record config { rules = [] }) }
+        ensures opened { IfOk result (λ s. (s.fleet.epoch ≡ 0) × (s.fleet.ended ≡ [])
+            × (length s.fleet.current ≡ config.shards) × AreFresh 0 s.fleet.current) }
+        ensures fault { IfOk result (λ s. s.fault ≡ None) }
+        ensures limit { IfOk result (λ s. s.limit ≡ limit) }
+    {
+        let tail = Tail::for_compressed(alloc)?;
+        Shipper::start_at(rt, alloc, config, connect, limit, stop, tail)
+    }
+
+    /// Opens epoch 0, and reads the log with this reader, of which nothing was taken.
+    fn start_at<R: Threads + Wait + Copy + Send + 'static>(
+        rt: &R,
+        alloc: Global,
+        config: Config,
+        connect: C,
+        limit: Option<u64>,
+        stop: StopFlag,
+        tail: Tail,
+    ) -> Result<Shipper<C>, AllocError>
+        requires taken { HasTaken tail [] }
+        requires read { HasRead tail.pieces [] None }
+        ensures log { IfOk result (λ s. s.log
+            ≡ record {
+              choice = choice_of config;
+              pieces = tail.pieces;
+              placed = [];
+              hand = [];
+            }) }
+        ensures config { IfOk result (λ s. s.fleet.config ≡ record config { rules = [] }) }
+        ensures opened { IfOk result (λ s. (s.fleet.epoch ≡ 0) × (s.fleet.ended ≡ [])
+            × (length s.fleet.current ≡ config.shards) × AreFresh 0 s.fleet.current) }
+        ensures fault { IfOk result (λ s. s.fault ≡ None) }
+        ensures limit { IfOk result (λ s. s.limit ≡ limit) }
+    {
         let shards = config.fields().shards.get() as u32;
         let (config, choice) = split_choice(alloc, config);
         let cuts = Cuts::within(alloc, limit)?;
@@ -237,7 +293,7 @@ impl<C: Connect + Drop> Shipper<C> {
             return Err(AllocError);
         }
         Ok(Shipper {
-            feeder: Feeder::new(alloc, choice),
+            feeder: Feeder::with_tail(alloc, choice, tail),
             fleet,
             samples,
             cuts,

@@ -1,5 +1,5 @@
 -- What one receiver holds of a shipper that was stopped, by its report.
-use Rattle.std.proofs.Common.{◌≡◌, ◌⊎◌, inl, inr, ℕ, suc, ◌≤◌, List, [], ◌∷◌, ◌++◌, length, map, Option, None, Some, refl, sym, ap, ◌∙◌, subst, append-nil, arith}
+use Rattle.std.proofs.Common.{◌≡◌, ◌⊎◌, inl, inr, ℕ, suc, ◌≤◌, List, [], ◌∷◌, ◌++◌, length, map, Option, None, Some, refl, true, false, sym, ap, ◌∙◌, subst, append-nil, arith}
 use Rattle.std.specs.Prelude.{IsSome}
 use Rattle.std.specs.Global.{Global}
 use Rattle.std.specs.Vec.{vec_allocator}
@@ -40,7 +40,7 @@ use Rattle.rw_restarts.specs.Arrivals.{Arrival, Receives}
 use Rattle.rw_simulation.specs.OneReceivers.{IsOneReceiver}
 use Rattle.rw_simulation.specs.Received.{IsHeld, ReceivesAbandoned, ReceivesInOrder}
 use Rattle.rw_simulation.specs.StoppedRuns.{IsMachineOf, first_number}
-use Rattle.rw_send.specs.Segments.{AreShortPieces, IsShortPiece}
+use Rattle.rw_send.specs.Segments.{AreShortPieces, IsShortPiece, IsShortLog}
 use Rattle.rw_send.specs.Sending.{EndsFor, IsReportOf}
 use Rattle.rw_sent_held.specs.Held.{ComesToOne, Holds, HoldsAllOf, machine_of}
 
@@ -60,6 +60,7 @@ with_bytes g (pieces.bytes b) short = (
   refl,
 )
 with_bytes g pieces.next_segment short = (piece.NextSegment, refl)
+with_bytes g pieces.may_compress short = absurd short
 
 fed_as : Global → (ps : List pieces.Piece) → AreShortPieces ps → (qs : List Piece) × (ps ≡ map piece_of qs)
 fed_as g [] short = ([], refl)
@@ -67,6 +68,13 @@ fed_as g (p ∷ ps) short =
     let first = with_bytes g p short.0 in
     let later = fed_as g ps short.1 in
     (first.0 ∷ later.0, ap (λ (x : pieces.Piece). x ∷ ps) first.1 ∙ ap (λ (xs : List pieces.Piece). piece_of first.0 ∷ xs) later.1)
+
+-- all of a log without Snappy blocks was fed
+pub all_fed : (ps : List pieces.Piece) → IsShortLog false ps → AreShortPieces ps
+all_fed [] short = tt
+all_fed (pieces.bytes b ∷ ps) short = short.1
+all_fed (pieces.next_segment ∷ ps) short = short.1
+all_fed (pieces.may_compress ∷ ps) short = absurd (let never : true ≡ false = short.0 in cc)
 
 -- ---- the machine's first epoch has a shard
 

@@ -85,6 +85,6 @@ abbrev pub SentIsHeld : {T : Type 0} → (T → Type 0) → (T → List Exchange
     → ConfigFields → Option ℕ → Seen → Bool → StopRequest → Report T
     → Result (Unit {0}) FollowFault → Type 0
 SentIsHeld tells seen is_for c limit log quiet said r answer =
-    (sent : IsSent tells seen is_for c limit log quiet said r answer)
+    (sent : IsSent tells seen is_for c limit false log quiet said r answer)
     → ReportIsHeld tells seen is_for c limit (StopsAtOnce log said (meal_of sent.pieces) answer)
     sent.pieces r sent.report

@@ -61,7 +61,7 @@ abbrev pub SentIsRun : {T : Type 0} → (T → Type 0) → (T → List Exchange)
     → ConfigFields → Option ℕ → Seen → Bool → StopRequest → Report T
     → Result (Unit {0}) FollowFault → Type 0
 SentIsRun tells seen is_for c limit log quiet said r answer =
-    (sent : IsSent tells seen is_for c limit log quiet said r answer)
+    (sent : IsSent tells seen is_for c limit false log quiet said r answer)
     → IsRunOverFed tells seen is_for c sent.pieces sent.report.shipping r sent.report.stopped
 
 -- ---- what it adds to a receiver
@@ -112,5 +112,5 @@ abbrev pub SentAdds : {T : Type 0} → (T → Type 0) → (T → List Exchange) 
     → ConfigFields → Option ℕ → Seen → Bool → StopRequest → Report T
     → Result (Unit {0}) FollowFault → Type 0
 SentAdds tells seen is_for c limit log quiet said r answer =
-    (sent : IsSent tells seen is_for c limit log quiet said r answer)
+    (sent : IsSent tells seen is_for c limit false log quiet said r answer)
     → AddsFed tells seen is_for c sent.pieces sent.report.shipping r sent.report.stopped

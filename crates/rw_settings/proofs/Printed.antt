@@ -9,7 +9,7 @@ use Rattle.rw_head.specs.declared.limits.Limits.{Limits}
 use Rattle.rw_settings.specs.Keys.{Row, snappy}
 use Rattle.rw_settings.specs.Values.{switch_values}
 use Rattle.rw_settings.specs.declared.settings.Settings.{Settings}
-use Rattle.rw_settings.proofs.Written.{text_items, pairs_of, send_expressions, receive_expressions, rule_expressions}
+use Rattle.rw_settings.proofs.Written.{text_items, pairs_of, send_expressions, receive_expressions, log_expressions, rule_expressions}
 use Rattle.rw_settings.proofs.Defined.{settings_expressions}
 
 -- what a number or a text has: no path, no depth, no date
@@ -28,6 +28,10 @@ send_printed send = (omega arith, (scalar, (scalar, (scalar, (scalar, (scalar, (
 
 receive_printed : (limits : Limits) → AllPrinted (receive_expressions limits)
 receive_printed limits = (omega arith, (scalar, (scalar, (scalar, (scalar, (scalar, (scalar, switch_printed snappy limits.snappy)))))))
+
+log_printed : (on : Bool) → AllPrinted (log_expressions on)
+log_printed true = (omega arith, (scalar, tt))
+log_printed false = tt
 
 items_depth-texts : (ts : List (List ℕ)) → items_depth (text_items ts) ≡ 0
 items_depth-texts [] = refl
@@ -51,5 +55,8 @@ rules_printed (rule ∷ rules) = printed-append (rule_expressions rule) (flat_ma
 
 pub settings_printed : (s : Settings) → AllPrinted (settings_expressions s)
 settings_printed s =
-    printed-append (send_expressions s.config) (receive_expressions s.limits ++ flat_map rule_expressions s.config.rules) (send_printed s.config)
-    (printed-append (receive_expressions s.limits) (flat_map rule_expressions s.config.rules) (receive_printed s.limits) (rules_printed s.config.rules))
+    let rules = flat_map rule_expressions s.config.rules in
+    let more = log_expressions s.may_compress ++ rules in
+    printed-append (send_expressions s.config) (receive_expressions s.limits ++ more) (send_printed s.config)
+    (printed-append (receive_expressions s.limits) more (receive_printed s.limits)
+    (printed-append (log_expressions s.may_compress) rules (log_printed s.may_compress) (rules_printed s.config.rules)))

@@ -8,11 +8,12 @@ use Rattle.toml.specs.Text.{breaks_lines, IsValueText, IsItemsText, IsLineText, 
 use Rattle.rw_relabel.specs.Rules.{RuleConfig}
 use Rattle.rw_shard_core.specs.declared.config.ConfigFields.{ConfigFields}
 use Rattle.rw_head.specs.declared.limits.Limits.{Limits}
-use Rattle.rw_settings.specs.Keys.{Row, send_keys, receive_keys, rule_keys}
+use Rattle.rw_settings.specs.Keys.{Row, send_keys, receive_keys, log_keys, rule_keys}
+use Rattle.rw_settings.specs.LogTable.{log_values}
 use Rattle.rw_settings.specs.Receiving.{receive_values}
 use Rattle.rw_settings.specs.RuleTables.{rule_values}
 use Rattle.rw_settings.specs.Sending.{send_values}
-use Rattle.rw_settings.specs.SettingsText.{setting_value_text, pair_line, list_text, lines_of, send_lines, send_text, receive_lines, receive_text, rule_lines, rule_text}
+use Rattle.rw_settings.specs.SettingsText.{setting_value_text, pair_line, list_text, lines_of, send_lines, send_text, receive_lines, receive_text, log_lines, log_text, rule_lines, rule_text}
 use Rattle.rw_settings.specs.Values.{Setting, of_number, of_true, of_text, of_texts}
 
 -- a line of a table
@@ -39,6 +40,10 @@ send_expressions send = (([], codes "send"), std_table) ∷ pairs_of send_keys (
 
 abbrev pub receive_expressions : Limits → List Expression
 receive_expressions limits = (([], codes "receive"), std_table) ∷ pairs_of receive_keys (receive_values limits)
+
+abbrev pub log_expressions : Bool → List Expression
+log_expressions true = (([], codes "log"), std_table) ∷ pairs_of log_keys (log_values true)
+log_expressions false = []
 
 abbrev pub rule_expressions : RuleConfig → List Expression
 rule_expressions rule = (([], codes "rule"), array_table) ∷ pairs_of rule_keys (rule_values rule)
@@ -133,6 +138,13 @@ unfolding receive_text key_text
 receive_written limits fits =
     let bare : AllByRecursion IsBare receive_keys = (refl, (refl, (refl, (refl, (refl, (refl, (refl, tt))))))) in
     lines_text true (receive_expressions limits) (receive_lines limits) (refl, pairs_written receive_keys (receive_values limits) bare fits)
+
+pub log_written : (on : Bool) → IsLinesText false true (log_expressions on) (log_text on)
+unfolding log_text key_text
+log_written true =
+    let bare : AllByRecursion IsBare log_keys = (refl, tt) in
+    lines_text true (log_expressions true) (log_lines true) (refl, pairs_written log_keys (log_values true) bare (tt, tt))
+log_written false = refl
 
 rule_written : (rule : RuleConfig) → IsLinesText false true (rule_expressions rule) (rule_text rule)
 unfolding rule_text key_text

@@ -21,7 +21,8 @@ Row = List ℕ × Kind
 -- ---- the tables
 
 abbrev pub document_keys : List Row
-document_keys = (codes "send", Kind.Part) ∷ (codes "receive", Kind.Part) ∷ (codes "rule", Kind.Part) ∷ []
+document_keys =
+    (codes "send", Kind.Part) ∷ (codes "receive", Kind.Part) ∷ (codes "log", Kind.Part) ∷ (codes "rule", Kind.Part) ∷ []
 
 abbrev pub host : Row
 host = (codes "host", Kind.Host)
@@ -78,6 +79,12 @@ busy_first = (codes "busy_first", Kind.Number 0 1000000 0)
 
 abbrev pub receive_keys : List Row
 receive_keys = path ∷ max_body_bytes ∷ max_labels ∷ max_label_bytes ∷ busy_first ∷ names ∷ snappy ∷ []
+
+abbrev pub compression : Row
+compression = (codes "compression", Kind.Switch)
+
+abbrev pub log_keys : List Row
+log_keys = compression ∷ []
 
 abbrev pub rule_keys : List Row
 rule_keys =

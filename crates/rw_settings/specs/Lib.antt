@@ -1,5 +1,6 @@
 pub mod Faults
 pub mod Keys
+pub mod LogTable
 pub mod Notes
 pub mod Receiving
 pub mod RuleTables

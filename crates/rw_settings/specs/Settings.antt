@@ -7,6 +7,7 @@ use Rattle.rw_relabel.specs.Patterns.{HasReadablePattern, IsRefusedPattern}
 use Rattle.rw_relabel.specs.Rules.{RuleConfig}
 use Rattle.rw_settings.specs.Faults.{least}
 use Rattle.rw_settings.specs.Keys.{document_keys, keys_fault}
+use Rattle.rw_settings.specs.LogTable.{may_compress_of, log_fault}
 use Rattle.rw_settings.specs.Receiving.{receive_limits, receive_fault}
 use Rattle.rw_settings.specs.RuleTables.{with_rules_fault, rules_of}
 use Rattle.rw_settings.specs.Sending.{send_fields, send_fault}
@@ -22,6 +23,7 @@ document_fault document = least (
     ∷ part_fault send_fault (section (get_member (codes "send") document))
     ∷ part_fault receive_fault (section (get_member (codes "receive") document))
     ∷ part_fault (with_rules_fault None) (list_at (get_member (codes "rule") document))
+    ∷ part_fault log_fault (section (get_member (codes "log") document))
     ∷ []
     )
 
@@ -31,6 +33,7 @@ settings_of document = record {
   config = send_fields (part_or no_members (section (get_member (codes "send") document)))
       (rules_of (part_or no_items (list_at (get_member (codes "rule") document))));
   limits = receive_limits (part_or no_members (section (get_member (codes "receive") document)));
+  may_compress = may_compress_of (part_or no_members (section (get_member (codes "log") document)));
 }
 
 -- what was read, unless there is a fault

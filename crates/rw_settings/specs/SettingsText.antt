@@ -1,11 +1,12 @@
 -- The text of settings: a TOML document that gives each key.
-use Rattle.std.specs.Prelude.{ℕ, List, [], ◌∷◌, ◌++◌, flat_map, codes, decimal}
+use Rattle.std.specs.Prelude.{ℕ, Bool, true, false, List, [], ◌∷◌, ◌++◌, flat_map, codes, decimal}
 use Rattle.std.specs.List.{concat, join_by}
 use Rattle.toml_writer.specs.Text.{string_text}
 use Rattle.rw_relabel.specs.Rules.{RuleConfig}
 use Rattle.rw_shard_core.specs.declared.config.ConfigFields.{ConfigFields}
 use Rattle.rw_head.specs.declared.limits.Limits.{Limits}
-use Rattle.rw_settings.specs.Keys.{Row, send_keys, receive_keys, rule_keys}
+use Rattle.rw_settings.specs.Keys.{Row, send_keys, receive_keys, log_keys, rule_keys}
+use Rattle.rw_settings.specs.LogTable.{log_values}
 use Rattle.rw_settings.specs.Receiving.{receive_values}
 use Rattle.rw_settings.specs.RuleTables.{rule_values}
 use Rattle.rw_settings.specs.Sending.{send_values}
@@ -43,12 +44,21 @@ receive_lines limits = codes "\n[receive]\n" ∷ lines_of receive_keys (receive_
 unfoldable pub receive_text : Limits → List ℕ
 receive_text limits = concat (receive_lines limits)
 
+-- a log without Snappy blocks has no table
+abbrev pub log_lines : Bool → List (List ℕ)
+log_lines true = codes "\n[log]\n" ∷ lines_of log_keys (log_values true)
+log_lines false = []
+
+unfoldable pub log_text : Bool → List ℕ
+log_text may_compress = concat (log_lines may_compress)
+
 abbrev pub rule_lines : RuleConfig → List (List ℕ)
 rule_lines rule = codes "\n[[rule]]\n" ∷ lines_of rule_keys (rule_values rule)
 
 unfoldable pub rule_text : RuleConfig → List ℕ
 rule_text rule = concat (rule_lines rule)
 
--- the tables `send` and `receive`, and then the rules in their order
+-- the tables `send`, `receive` and `log`, and then the rules in their order
 unfoldable pub settings_text : Settings → List ℕ
-settings_text s = send_text s.config ++ (receive_text s.limits ++ flat_map rule_text s.config.rules)
+settings_text s =
+    send_text s.config ++ (receive_text s.limits ++ (log_text s.may_compress ++ flat_map rule_text s.config.rules))

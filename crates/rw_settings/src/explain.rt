@@ -6,6 +6,7 @@ ghost use Rattle.toml.specs.Data.{get_member, no_members, as_table};
 ghost use Rattle.toml.specs.Parse.{parse_document};
 ghost use Rattle.toml.specs.View.{view, items_view, table_view};
 ghost use Rattle.rw_settings.specs.Faults.{lesser};
+ghost use Rattle.rw_settings.specs.LogTable.{log_fault};
 ghost use Rattle.rw_settings.specs.Notes.{noted, IsLeastNoted};
 ghost use Rattle.rw_settings.specs.Receiving.{receive_fault};
 ghost use Rattle.rw_settings.specs.RuleTables.{rule_fault_of, with_rules_fault};
@@ -15,7 +16,7 @@ ghost use Rattle.rw_settings.specs.Values.{part_fault, section, list_at};
 ghost use Rattle.rw_settings.specs.declared.fault.SettingsFault.TheVariants.{NotToml, WrongType, BadRule};
 
 use crate::fault::SettingsFault;
-use crate::keys::{REGEX, document_keys, receive_keys, rule_keys, send_keys};
+use crate::keys::{REGEX, document_keys, log_keys, receive_keys, rule_keys, send_keys};
 use crate::notes::{SettingsNote, note_keys, note_table, push_note};
 use crate::order_text::order_text;
 use crate::read::text_in;
@@ -140,6 +141,23 @@ fn note_receive_part(
     }
 }
 
+/// Adds a note on each fault of what is at `log`.
+fn note_log_part(
+    alloc: Global,
+    notes: &mut Vec<SettingsNote>,
+    document: &Table,
+    empty: &Table,
+) -> Result<(), AllocError>
+    requires { table_view empty.now ≡ no_members }
+    ensures { OnOk result (noted notes.new.items ≡ lesser (noted notes.old.items)
+        (part_fault log_fault (section (get_member (codes "log") (table_view document.now))))) }
+{
+    match section(document, "log", empty) {
+        None => note_part(alloc, notes, "log", "a table, [log]"),
+        Some(log) => note_table(alloc, notes, "log.", log, log_keys()),
+    }
+}
+
 /// Adds a note on each fault of what is at `rule`, except that a pattern is refused.
 fn note_rules_part(
     alloc: Global,
@@ -171,6 +189,7 @@ fn note_document(
     note_send_part(alloc, notes, document, empty)?;
     note_receive_part(alloc, notes, document, empty)?;
     note_rules_part(alloc, notes, document)?;
+    note_log_part(alloc, notes, document, empty)?;
     Ok(())
 }
 

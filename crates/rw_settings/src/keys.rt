@@ -2,7 +2,7 @@
 //! of docs/SETTINGS.md, whose tables `tools/settings_tables.py` writes.
 
 ghost use Rattle.std.specs.Prelude.{◌≡◌, map};
-ghost use Rattle.rw_settings.specs.Keys.{document_keys, send_keys, receive_keys, rule_keys};
+ghost use Rattle.rw_settings.specs.Keys.{document_keys, send_keys, receive_keys, log_keys, rule_keys};
 ghost use Rattle.rw_settings.specs.inner.Keys.{row_of};
 
 /// What a key takes.
@@ -122,6 +122,12 @@ static RECEIVE: [Key; 7] = [
     RECEIVE_SNAPPY,
 ];
 
+/// Whether records of the log may be Snappy blocks, as Prometheus writes them by default.
+/// [`--wal-compression`](OPERATING.md#the-log-that-send-reads) sets it.
+pub(crate) const COMPRESSION: Key = Key("compression", Kind::Switch);
+
+static LOG: [Key; 1] = [COMPRESSION];
+
 /// What the rule does with the series that it matches.
 pub(crate) const ACTION: Key = Key("action", Kind::Action);
 
@@ -137,9 +143,10 @@ pub(crate) const REGEX: Key = Key("regex", Kind::Text);
 
 static RULE: [Key; 4] = [ACTION, SOURCE_LABELS, SEPARATOR, REGEX];
 
-static DOCUMENT: [Key; 3] = [
+static DOCUMENT: [Key; 4] = [
     Key("send", Kind::Part),
     Key("receive", Kind::Part),
+    Key("log", Kind::Part),
     Key("rule", Kind::Part),
 ];
 
@@ -155,6 +162,13 @@ pub(crate) fn receive_keys() -> &'static [Key]
     ensures { map row_of result.now ≡ receive_keys }
 {
     &RECEIVE
+}
+
+/// The keys of the table `log`, in the order in which they are printed.
+pub(crate) fn log_keys() -> &'static [Key]
+    ensures { map row_of result.now ≡ log_keys }
+{
+    &LOG
 }
 
 /// The keys of a rule, in the order in which they are printed.

@@ -4,6 +4,7 @@
 mod explain;
 mod fault;
 mod keys;
+mod log_table;
 mod notes;
 mod order_text;
 mod print;

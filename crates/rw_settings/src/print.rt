@@ -5,6 +5,7 @@ ghost use Rattle.rw_settings.specs.RuleTables.{written_rule};
 ghost use Rattle.rw_settings.specs.Settings.{settings_in, IsFaultOf};
 ghost use Rattle.rw_settings.specs.SettingsText.{settings_text};
 
+use crate::log_table::push_log;
 use crate::receive_table::push_receive;
 use crate::rule_tables::push_rules;
 use crate::send_table::push_send;
@@ -20,6 +21,7 @@ fn text_of(alloc: Global, settings: &Settings, rules: &[RuleFields]) -> Result<S
     let mut out = String::new(alloc);
     push_send(alloc, &mut out, settings.config.fields())?;
     push_receive(alloc, &mut out, &settings.limits)?;
+    push_log(&mut out, settings.may_compress)?;
     push_rules(alloc, &mut out, rules)?;
     Ok(out)
 }

@@ -12,7 +12,8 @@ ghost use Rattle.rw_settings.specs.Settings.{document_fault, settings_if, settin
 ghost use Rattle.rw_settings.specs.declared.fault.SettingsFault.TheVariants.{OutOfMemory, NotToml};
 
 use crate::fault::{SettingsFault, least};
-use crate::keys::{document_keys, receive_keys};
+use crate::keys::{document_keys, log_keys, receive_keys};
+use crate::log_table::may_compress_of;
 use crate::receive_table::receive_limits;
 use crate::rule_tables::{RuleFields, rules_fault, rules_of, written_rules};
 use crate::send_table::{send_fault, send_fields};
@@ -60,8 +61,12 @@ fn document_fault(document: &Table, empty: &Table) -> Option<SettingsFault>
         None => Some(SettingsFault::WrongType),
         Some(rules) => rules_fault(rules),
     };
+    let log = match section(document, "log", empty) {
+        None => Some(SettingsFault::WrongType),
+        Some(log) => table_fault(log, log_keys()),
+    };
     let keys = keys_fault(document, document_keys());
-    least(&[keys, send, receive, rules])
+    least(&[keys, send, receive, rules, log])
 }
 
 /// Returns what a table `send` without a fault sets.
@@ -91,10 +96,12 @@ fn settings_of(alloc: Global, document: &Table) -> Result<Settings, SettingsFaul
     }
     let send = section_or(document, "send", &empty);
     let receive = section_or(document, "receive", &empty);
+    let log = section_or(document, "log", &empty);
     let rules = rules_of(alloc, list_or_none(document, "rule"), &empty)?;
     Ok(Settings {
         config: config_of(alloc, send, rules)?,
         limits: receive_limits(alloc, receive)?,
+        may_compress: may_compress_of(log),
     })
 }
 

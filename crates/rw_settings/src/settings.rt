@@ -10,4 +10,6 @@ pub struct Settings {
     pub config: Config,
     /// What the program receives: the table `receive`.
     pub limits: Limits,
+    /// Whether records of a log that is read may be Snappy blocks: the table `log`.
+    pub may_compress: bool,
 }

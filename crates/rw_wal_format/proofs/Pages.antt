@@ -4,7 +4,7 @@ use Rattle.rw_codes.specs.Crc.{crc_bits}
 use Rattle.rw_wal_format.specs.Records.{record_entries}
 use Rattle.rw_wal_format.specs.Skipped.{type_of_byte}
 use Rattle.rw_wal_format.specs.declared.skipped_type.SkippedType.TheVariants.{Tombstones}
-use Rattle.rw_wal_format.specs.Segments.{full, first, last, between, segment, item_at}
+use Rattle.rw_wal_format.specs.Segments.{full, first, last, between, segment_in, item_at}
 use Rattle.rw_wal_format.specs.Pieces.{bytes, reading}
 use Rattle.rw_wal_format.specs.Writing.{frame, log_bytes}
 
@@ -17,7 +17,7 @@ unfolding log_bytes frame
 page_passed = refl
 
 read-page_passed : reading 32768 (bytes (log_bytes 32768 0 (replicate 32762 3)) ∷ []) ≡ record { entries = []; skipped = Tombstones ∷ []; stop = between }
-unfolding log_bytes frame reading segment item_at record_entries type_of_byte crc_bits
+unfolding log_bytes frame reading segment_in item_at record_entries type_of_byte crc_bits
 read-page_passed = refl
 
 -- seven bytes left: a fragment without data, and the data on the next page

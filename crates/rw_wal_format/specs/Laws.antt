@@ -1,5 +1,5 @@
 -- Words that the laws of the log's grammar are stated in.
-use Rattle.std.specs.Prelude.{◌≡◌, ℕ, ◌+◌, ◌^◌, ◌<◌, ℤ, List, [], ◌∷◌, ◌++◌, length, Option, Some, FitsSigned}
+use Rattle.std.specs.Prelude.{◌≡◌, ℕ, ◌+◌, ◌^◌, ◌<◌, ℤ, false, List, [], ◌∷◌, ◌++◌, length, Option, Some, FitsSigned}
 use Rattle.std.proofs.Common.{w64}
 use Rattle.rw_types.specs.declared.entry.Entry.{Entry}
 use Rattle.rw_types.specs.declared.entry.Entry.TheVariants.{Sample}
@@ -33,7 +33,7 @@ log_all page offset (d ∷ ds) = log_bytes page offset d ++ log_all page (offset
 -- what is read of whole records, and no fault or begun record after them
 abbrev pub reading_of_records : List (List ℕ) → Reading
 reading_of_records [] = stopped between
-reading_of_records (d ∷ ds) = with_record d (reading_of_records ds)
+reading_of_records (d ∷ ds) = with_record (false, d) (reading_of_records ds)
 
 -- the entries of records, if each is of its type's form
 abbrev pub entries_of_records : List (List ℕ) → Option (List Entry)

@@ -1,12 +1,14 @@
 -- One segment of a write-ahead log (wal.md, "Segment encoding"): fragments in pages, and the
 -- records that they make. No fragment crosses the end of its page. If a page has no room for a
 -- header of 7 bytes, its rest is zeros. The text is what has come so far, so an item that is not
--- whole at its end is not a fault.
-use Rattle.std.specs.Prelude.{ℕ, zero, suc, ◌+◌, ◌-◌, List, [], ◌∷◌, ◌++◌, length, take, drop, Option, Some, None, not, nat_lt, nat_le, ◌==◌, ◌||◌, if◌then◌else◌}
+-- whole at its end is not a fault. Records may be Snappy blocks only in a log that is read so: the
+-- first parameter of what follows says whether it is.
+use Rattle.std.specs.Prelude.{ℕ, zero, suc, ◌+◌, ◌-◌, List, [], ◌∷◌, ◌++◌, length, take, drop, Bool, true, false, Option, Some, None, not, nat_lt, nat_le, ◌==◌, ◌||◌, if◌then◌else◌}
 use Rattle.std.specs.List.{list_all}
 use Rattle.byteorder.specs.Endian.{big_number}
 use Rattle.rw_codes.specs.Crc.{crc32c_of}
-use Rattle.rw_wal_format.specs.Records.{record_entries}
+use Rattle.rw_snappy.specs.Snappy.{decoded_within}
+use Rattle.rw_wal_format.specs.Records.{◌then◌, found, record_entries}
 use Rattle.rw_wal_format.specs.Skipped.{skips_of}
 use Rattle.rw_wal_format.specs.declared.skipped_type.SkippedType.{SkippedType}
 use Rattle.rw_types.specs.declared.entry.Entry.{Entry}
@@ -16,6 +18,18 @@ use Rattle.rw_wal_format.specs.declared.tail_fault.TailFault.TheVariants.{BadTyp
 -- the type of a fragment: a whole record, or the first, a middle or the last part of one
 pub data Kind : Type 0 where
   full first middle last : Kind
+  -- the same of a record that is a Snappy block
+  snappy : Kind → Kind
+
+-- a type without the flag of Snappy
+abbrev pub IsPlain : Kind → Type 0
+IsPlain (snappy kind) = ⊥
+IsPlain _ = Unit {0}
+
+-- the type of a fragment of a record that is a Snappy block, or is not one
+abbrev pub flagged : Bool → Kind → Kind
+flagged true kind = snappy kind
+flagged false kind = kind
 
 -- what comes at a fragment's place
 pub data Item : Type 0 where
@@ -66,6 +80,18 @@ item_at left (b ∷ bytes) =
     else if nat_le 8 b then (if nat_lt b 32 then wrong Compressed else wrong BadType)
     else wrong BadType
 
+-- The same in a log that may have Snappy blocks: their fragments have the flag 8 in the type byte.
+abbrev pub item_in : Bool → ℕ → List ℕ → Item
+item_in false left bytes = item_at left bytes
+item_in true left [] = nothing
+item_in true left (b ∷ bytes) =
+    if nat_lt left 7 then item_at left (b ∷ bytes)
+    else if b == 9 then fragment_at (snappy full) left bytes
+    else if b == 10 then fragment_at (snappy first) left bytes
+    else if b == 11 then fragment_at (snappy middle) left bytes
+    else if b == 12 then fragment_at (snappy last) left bytes
+    else item_at left (b ∷ bytes)
+
 -- where reading stops: at the end of what has come, between records or inside one, or at a fault
 pub data Stop : Type 0 where
   between : Stop
@@ -95,9 +121,9 @@ from_item page left bytes next (fragment kind d) = with_fragment kind d (next (l
 from_item page left bytes next (wrong f) = record { fragments = []; stop = at_fault f }
 
 -- the items one after the other, of which there are at most k, with `left` bytes of the first page
-abbrev pub layout_of : ℕ → ℕ → ℕ → List ℕ → Layout
-layout_of page zero left bytes = record { fragments = []; stop = between }
-layout_of page (suc k) left bytes = from_item page left bytes (λ l rest. layout_of page k l rest) (item_at left bytes)
+abbrev pub layout_of : Bool → ℕ → ℕ → ℕ → List ℕ → Layout
+layout_of c page zero left bytes = record { fragments = []; stop = between }
+layout_of c page (suc k) left bytes = from_item page left bytes (λ l rest. layout_of c page k l rest) (item_in c left bytes)
 
 -- the entries of whole records before the first fault, the types of those that were passed over,
 -- and where it stops
@@ -115,32 +141,78 @@ abbrev pub with_entries : List ℕ → Option (List Entry) → Reading → Readi
 with_entries bytes None r = stopped (at_fault BadRecord)
 with_entries bytes (Some es) r = record { entries = es ++ r.entries; skipped = skips_of bytes ++ r.skipped; stop = r.stop }
 
+-- a record: whether it is a Snappy block, and its data
+abbrev pub Record : Type 0
+Record = Bool × List ℕ
+
+-- a Snappy block has at most 16 MiB of decoded bytes
+abbrev pub most_decoded : ℕ
+most_decoded = 16777216
+
+-- what a record holds: its data, or what these decode to
+abbrev pub text_of : Record → Option (List ℕ)
+text_of (false, d) = Some d
+text_of (true, d) = found (decoded_within most_decoded d)
+
+-- the entries of a record, if its block can be decoded and it is of its type's form
+abbrev pub entries_in : Record → Option (List Entry)
+entries_in d = text_of d then λ text. record_entries text
+
+-- first what a record holds, if its block can be decoded, and then the rest
+abbrev pub with_text : Option (List ℕ) → Reading → Reading
+with_text None r = stopped (at_fault BadRecord)
+with_text (Some d) r = with_entries d (record_entries d) r
+
 -- first a whole record, and then the rest
-abbrev pub with_record : List ℕ → Reading → Reading
-with_record bytes r = with_entries bytes (record_entries bytes) r
+abbrev pub with_record : Record → Reading → Reading
+with_record d r = with_text (text_of d) r
+
+-- what a fragment makes of the record that is open, if one is
+pub data Joined : Type 0 where
+  -- a record that goes on
+  still_open : Record → Joined
+  -- a whole record
+  complete : Record → Joined
+  out_of_sequence : Joined
+
+-- A record is the data of a full fragment, or of a first, any middles and a last. Either all of
+-- them are fragments of a Snappy block, or none is. Another fragment is out of sequence.
+abbrev pub joined : Option Record → Kind → List ℕ → Joined
+joined None full d = complete (false, d)
+joined None first d = still_open (false, d)
+joined None (snappy full) d = complete (true, d)
+joined None (snappy first) d = still_open (true, d)
+joined (Some (false, o)) middle d = still_open (false, o ++ d)
+joined (Some (false, o)) last d = complete (false, o ++ d)
+joined (Some (true, o)) (snappy middle) d = still_open (true, o ++ d)
+joined (Some (true, o)) (snappy last) d = complete (true, o ++ d)
+joined _ _ d = out_of_sequence
+
+-- the reading from a fragment on, if `next` reads what follows it
+abbrev pub from_joined : (Option Record → Reading) → Joined → Reading
+from_joined next (still_open d) = next (Some d)
+from_joined next (complete d) = with_record d (next None)
+from_joined next out_of_sequence = stopped (at_fault Sequence)
 
 -- the end of the fragments, if a record may be open
-abbrev pub end_of : Option (List ℕ) → Stop → Stop
+abbrev pub end_of : Option Record → Stop → Stop
 end_of (Some d) between = inside
 end_of _ s = s
 
--- A record is the data of a full fragment, or of a first, any middles and a last. `so_far` is the
--- data of the record that is open, if one is. A fragment that begins a record while one is open, or
--- goes on with one while none is, is out of sequence.
-abbrev pub reading_of : Option (List ℕ) → List (Kind × List ℕ) → Stop → Reading
+-- the records of the fragments; `so_far` is the record that is open, if one is
+abbrev pub reading_of : Option Record → List (Kind × List ℕ) → Stop → Reading
 reading_of so_far [] s = stopped (end_of so_far s)
-reading_of None ((full, d) ∷ fs) s = with_record d (reading_of None fs s)
-reading_of None ((first, d) ∷ fs) s = reading_of (Some d) fs s
-reading_of None ((_, d) ∷ fs) s = stopped (at_fault Sequence)
-reading_of (Some o) ((middle, d) ∷ fs) s = reading_of (Some (o ++ d)) fs s
-reading_of (Some o) ((last, d) ∷ fs) s = with_record (o ++ d) (reading_of None fs s)
-reading_of (Some o) ((_, d) ∷ fs) s = stopped (at_fault Sequence)
+reading_of so_far ((kind, d) ∷ fs) s = from_joined (λ o. reading_of o fs s) (joined so_far kind d)
 
 -- the reading of what is left of a segment, if a record may be open, with `left` bytes of the
 -- first page
-abbrev pub read_from : ℕ → ℕ → Option (List ℕ) → List ℕ → Reading
-read_from page left so_far rest = let l = layout_of page (length rest) left rest in reading_of so_far l.fragments l.stop
+abbrev pub read_from : Bool → ℕ → ℕ → Option Record → List ℕ → Reading
+read_from c page left so_far rest = let l = layout_of c page (length rest) left rest in reading_of so_far l.fragments l.stop
 
 -- the reading of a segment's text, in pages of `page` bytes
-unfoldable pub segment : ℕ → List ℕ → Reading
-segment page text = read_from page page None text
+unfoldable pub segment_in : Bool → ℕ → List ℕ → Reading
+segment_in c page text = read_from c page page None text
+
+-- the same of a segment without Snappy blocks
+abbrev pub segment : ℕ → List ℕ → Reading
+segment page text = segment_in false page text

@@ -2,7 +2,7 @@
 use Rattle.std.specs.Prelude.{ℕ, zero, suc, ◌+◌, ◌-◌, ◌*◌, ◌/◌, ◌%◌, List, [], ◌∷◌, ◌++◌, length, take, drop, replicate, Bool, true, false, nat_lt, nat_le, if◌then◌else◌}
 use Rattle.byteorder.specs.Endian.{big_bytes}
 use Rattle.rw_codes.specs.Crc.{crc32c_of}
-use Rattle.rw_wal_format.specs.Segments.{Kind, full, first, middle, last}
+use Rattle.rw_wal_format.specs.Segments.{Kind, full, first, middle, last, snappy}
 
 -- the byte of a fragment's type
 abbrev pub type_byte : Kind → ℕ
@@ -10,6 +10,7 @@ type_byte full = 1
 type_byte first = 2
 type_byte middle = 3
 type_byte last = 4
+type_byte (snappy kind) = 8 + type_byte kind
 
 -- a fragment: type, length, CRC, data
 unfoldable pub frame : Kind → List ℕ → List ℕ

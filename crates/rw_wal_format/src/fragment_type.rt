@@ -1,7 +1,7 @@
 //! The pages and fragments of a segment (wal.md, "Segment encoding").
 
 ghost use Rattle.std.specs.Prelude.{◌≡◌, ◌≢◌, None, IfSome, if◌then◌else◌};
-ghost use Rattle.rw_wal_format.specs.Segments.{full, first, middle, last};
+ghost use Rattle.rw_wal_format.specs.Segments.{full, first, middle, last, snappy};
 ghost use Rattle.rw_wal_format.specs.Types.{kind_of};
 ghost use Rattle.rw_wal_format.specs.Writing.{type_byte};
 
@@ -10,6 +10,9 @@ pub const PAGE_BYTES: usize = 32 * 1024;
 
 /// The bytes of a fragment before its data: type, length, CRC.
 pub const HEADER_BYTES: usize = 7;
+
+/// The most bytes that a record which is a Snappy block decodes to: 16 MiB.
+pub const MOST_DECODED: usize = 16 * 1024 * 1024;
 
 /// Which part of a record a fragment is. Cast to a number, it is the type byte.
 #[derive(Clone, Copy, Debug, PartialEq, Eq, Drop)]
@@ -49,6 +52,20 @@ impl FragmentType {
             2 => Some(FragmentType::First),
             3 => Some(FragmentType::Middle),
             4 => Some(FragmentType::Last),
+            _ => None,
+        }
+    }
+
+    /// Returns the type that a byte with the flag of Snappy stands for, or `None` if there is none.
+    pub fn from_snappy_byte(byte: u8) -> Option<FragmentType>
+        ensures byte { IfSome result (λ part. byte ≡ type_byte (snappy (kind_of part))) }
+        ensures none { result ≡ None → (byte ≢ 9) × (byte ≢ 10) × (byte ≢ 11) × (byte ≢ 12) }
+    {
+        match byte {
+            9 => Some(FragmentType::Full),
+            10 => Some(FragmentType::First),
+            11 => Some(FragmentType::Middle),
+            12 => Some(FragmentType::Last),
             _ => None,
         }
     }

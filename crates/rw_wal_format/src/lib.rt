@@ -8,7 +8,7 @@ mod record_type;
 mod skipped_type;
 mod tail_fault;
 
-pub use fragment_type::{FragmentType, HEADER_BYTES, PAGE_BYTES};
+pub use fragment_type::{FragmentType, HEADER_BYTES, MOST_DECODED, PAGE_BYTES};
 pub use record_type::RecordType;
 pub use skipped_type::SkippedType;
 pub use tail_fault::TailFault;

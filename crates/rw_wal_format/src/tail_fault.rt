@@ -18,13 +18,16 @@ pub enum TailFault {
     BadLength,
     /// The CRC-32C in the header of a fragment is not that of its data.
     BadCrc,
-    /// The type byte of a fragment is from 8 to 31: it has a flag of compressed data.
+    /// The type byte of a fragment is from 8 to 31: it has a flag of compressed data. In a log that
+    /// may have Snappy blocks, this is not a type byte with their flag.
     Compressed,
     /// A byte is not zero in the rest of a page, where only zeros are allowed.
     NonzeroPadding,
-    /// A fragment begins a record while one is open, or continues one while none is open.
+    /// A fragment begins a record while one is open, or continues one while none is open; or it has
+    /// the flag of a Snappy block and the record that is open has not, or the other way round.
     Sequence,
-    /// A record of series or of samples is not well-formed.
+    /// A record of series or of samples is not well-formed, or one that is a Snappy block cannot be
+    /// decoded, or to more than `MOST_DECODED` bytes.
     BadRecord,
     /// A segment ends inside a record, and the next segment begins.
     TornSegment,

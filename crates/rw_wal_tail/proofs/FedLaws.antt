@@ -5,49 +5,89 @@ use Rattle.rw_types.specs.declared.entry.Entry.{Entry}
 use Rattle.rw_wal_format.specs.declared.skipped_type.SkippedType.{SkippedType}
 use Rattle.rw_wal_format.specs.declared.tail_fault.TailFault.{TailFault}
 use Rattle.rw_wal_format.specs.declared.tail_fault.TailFault.TheVariants.{OutOfMemory, BadType, BadLength, BadCrc, Compressed, NonzeroPadding, Sequence, BadRecord, TornSegment}
-use Rattle.rw_wal_format.specs.Segments.{Reading, Stop, between, inside, at_fault, stopped}
-use Rattle.rw_wal_format.specs.Pieces.{Piece, bytes, page_size, reading, entries, skipped, fault, fault_at}
+use Rattle.rw_wal_format.specs.Segments.{Reading, Record, Stop, between, inside, at_fault, stopped}
+use Rattle.rw_wal_format.specs.Pieces.{Piece, bytes, next_segment, may_compress, page_size, reading, reading_in, entries, skipped, fault, fault_at}
 use Rattle.rw_wal_format.proofs.shared.Growing.{reading-append, reading-cut}
 use Rattle.rw_wal_format.specs.Laws.{Extends}
-use Rattle.rw_wal_format.proofs.shared.Tailing.{read_on, read_on-start}
+use Rattle.rw_wal_format.proofs.shared.Tailing.{unmarked, read_on, read_on-start}
 use Rattle.rw_wal_tail.specs.declared.reader.Reader.{Reader}
 use Rattle.rw_wal_tail.specs.inner.Held.{Held, waiting}
-use Rattle.rw_wal_tail.specs.inner.Still.{after, still, from_here, open_data}
-use Rattle.rw_wal_tail.specs.inner.Steps.{still_read, still_place, waiting_of, IsOfLog, IsReader, IsUnfed, Same, Takes, Ends}
-use Rattle.rw_wal_tail.specs.Places.{stop_after, place_of, fault_place}
+use Rattle.rw_wal_tail.specs.inner.Still.{after, still, from_here}
+use Rattle.rw_wal_tail.specs.inner.Steps.{compresses, open_of, still_read, still_place, waiting_of, IsOfLog, IsReader, IsUnfed, Same, Takes, Ends}
+use Rattle.rw_wal_tail.specs.Places.{stop_in, stop_after, place_of, fault_place}
 use Rattle.rw_wal_tail.specs.inner.Placed.{ends_with, ends_after, front_of, place_from}
 use Rattle.rw_wal_tail.proofs.shared.PlaceLaws.{place_start}
 use Rattle.rw_wal_tail.specs.Fed.{Fed, CutsDoNotMatter, next_of, after_answer, answer_at_end}
 use Rattle.rw_wal_tail.specs.inner.Fed.{Follows, IsStuck}
 use Rattle.rw_wal_tail.proofs.StepLaws.{known_as}
-use Rattle.rw_wal_tail.proofs.StillLaws.{NoFault, still_waits}
+use Rattle.rw_wal_tail.proofs.StillLaws.{NoFault, still_fields, still_waits}
 use Rattle.rw_wal_tail.proofs.WaitingLaws.{none_waiting}
 
 after_none : (r : Reading) → r ≡ after [] [] r
 after_none r = refl
 
-still_start : (d : List ℕ) (later : List Piece) → read_on page_size page_size None [] later ≡ after [] [] (still [] [] None page_size false d [] [] later)
+still_start : (c : Bool) (later : List Piece) → read_on c page_size page_size None [] later ≡ after [] [] (still [] [] None c page_size None [] [] later)
 unfolding still
-still_start d later = after_none (read_on page_size page_size None [] later) ∙ after_none _
+still_start c later = after_none (read_on c page_size page_size None [] later) ∙ after_none _
 
-pub follows_start : (r : Reader) → IsReader r → IsUnfed r → Follows [] [] r
+-- the pieces at the start of a log that may have Snappy blocks, or of one that has none
+abbrev pub at_start : Bool → List Piece
+at_start true = may_compress ∷ []
+at_start false = []
+
+start_reads : (c : Bool) (later : List Piece) → reading page_size (at_start c ++ unmarked later) ≡ reading_in c page_size [] (unmarked later)
 unfolding reading
-follows_start r i u =
+start_reads true later = refl
+start_reads false later = refl
+
+start_stops : (c : Bool) (later : List Piece) → stop_after page_size 0 [] (at_start c ++ unmarked later) ≡ stop_in c page_size 0 [] (unmarked later)
+start_stops true later = refl
+start_stops false later = refl
+
+start_ends : (c : Bool) → ends_after 0 (at_start c) ≡ 0
+start_ends true = refl
+start_ends false = refl
+
+place_fields : (f f' : Option TailFault) (c c' : Bool) (left left' : ℕ) (o o' : Option Record) (h h' : Held) (n n' : ℕ) (later : List Piece)
+    → f ≡ f' → c ≡ c' → left ≡ left' → o ≡ o' → h ≡ h' → n ≡ n' → place_from f c left o h n later ≡ place_from f' c' left' o' h' n' later
+place_fields f f' c c' left left' o o' h h' n n' later a b d e g i = rw (a, b, d, e, g, i) refl
+
+pub follows_start : (c : Bool) (r : Reader) → IsReader r → IsUnfed c r → Follows (at_start c) [] r
+follows_start c r i u =
     let rest : r.input.rest ≡ [] = ap (λ (h : Held). h.rest) u.input in
     let w : waiting_of r ≡ [] = ap (λ (h : Held). waiting h.later h.ended) u.input in
+    let none : open_of r ≡ None = rw u.is_open refl in
+    let n = start_ends c in
     record {
       reader = i;
-      reads = λ later. rw (u.left, u.is_open, u.ready, u.passed, u.fault, rest, w) (read_on-start page_size [] later ∙ still_start r.begun.items later);
-      counts = λ s. ap (λ (h : Held). h.ends) u.input;
-      stops = λ later. rw (u.left, u.is_open, u.fault, u.input) (place_start 0 [] later);
+      reads = λ later.
+          start_reads c later ∙ read_on-start c page_size [] later ∙ still_start c later
+          ∙ ap (after [] []) (still_fields _ _ _ _ _ _ _ _ _ _ _ _ _ _ _ _ later (sym u.ready) (sym u.passed) (sym u.fault) (sym u.compresses_is) (sym u.left) (sym none) (sym rest) (sym w));
+      counts = λ s. ap (λ (h : Held). h.ends) u.input ∙ sym n;
+      stops = λ later.
+          start_stops c later ∙ place_start c 0 [] later
+          ∙ place_fields _ _ _ _ _ _ _ _ _ _ _ _ later (sym u.fault) (sym u.compresses_is) (sym u.left) (sym none) (sym u.input) (sym n);
     }
 
-give_one : (given es : List Entry) (e : Entry) (n : List SkippedType) (f : Option TailFault) (left : ℕ) (o : Bool) (d rest : List ℕ) (w later : List Piece)
-    → after given [] (still (e ∷ es) n f left o d rest w later) ≡ after (given ++ e ∷ []) [] (still es n f left o d rest w later)
+give_one : (given es : List Entry) (e : Entry) (n : List SkippedType) (f : Option TailFault) (c : Bool) (left : ℕ) (o : Option Record) (rest : List ℕ) (w later : List Piece)
+    → after given [] (still (e ∷ es) n f c left o rest w later) ≡ after (given ++ e ∷ []) [] (still es n f c left o rest w later)
 unfolding still
-give_one given es e n f left o d rest w later =
-    let x = from_here f left (open_data o d) rest (w ++ later) in
+give_one given es e n f c left o rest w later =
+    let x = from_here f c left o rest (w ++ later) in
     ap (λ (l : List Entry). record { entries = l; skipped = n ++ x.skipped; stop = x.stop }) (sym (append_assoc given (e ∷ []) (es ++ x.entries)))
+
+-- a piece that is bytes or the end of a segment
+abbrev pub IsUnmarked : Piece → Type 0
+IsUnmarked may_compress = ⊥
+IsUnmarked _ = Unit {0}
+
+unmarked-cons : (ps : List Piece) (p : Piece) (later : List Piece) → IsUnmarked p → (ps ++ p ∷ []) ++ unmarked later ≡ ps ++ unmarked (p ∷ later)
+unmarked-cons ps (bytes b) later u = append_assoc ps (bytes b ∷ []) (unmarked later)
+unmarked-cons ps next_segment later u = append_assoc ps (next_segment ∷ []) (unmarked later)
+unmarked-cons ps may_compress later u = absurd u
+
+unmarked-none : (ps : List Piece) → ps ++ unmarked [] ≡ ps
+unmarked-none ps = append-nil ps
 
 ends_more : (n : ℕ) (ps : List Piece) (p : Piece) → ends_after n (ps ++ p ∷ []) ≡ ends_with (ends_after n ps) p
 ends_more n [] p = refl
@@ -62,15 +102,15 @@ module _ (ps : List Piece) (given : List Entry) (old new : Reader) (f : Follows 
     stops = λ later. f.stops later ∙ s.place.still_there (ends_after 0 ps) f.counts later;
   }
 
-  pub follows_taken : (p : Piece) → Takes p old new → Follows (ps ++ p ∷ []) given new
-  follows_taken p t =
+  pub follows_taken : (p : Piece) → IsUnmarked p → Takes p old new → Follows (ps ++ p ∷ []) given new
+  follows_taken p u t =
       let e : ends_after 0 (ps ++ p ∷ []) ≡ ends_with (ends_after 0 ps) p = ends_more 0 ps p in
       record {
         reader = t.reader;
-        reads = λ later. ap (reading page_size) (append_assoc ps (p ∷ []) later) ∙ f.reads (p ∷ later) ∙ ap (after given []) (t.still_more later);
+        reads = λ later. ap (reading page_size) (unmarked-cons ps p later u) ∙ f.reads (p ∷ later) ∙ ap (after given []) (t.still_more later);
         counts = λ b. t.place.counts (ends_after 0 ps) f.counts b ∙ sym e;
         stops = λ later.
-            ap (stop_after page_size 0 []) (append_assoc ps (p ∷ []) later) ∙ f.stops (p ∷ later) ∙ t.place.still_there (ends_after 0 ps) f.counts later
+            ap (stop_after page_size 0 []) (unmarked-cons ps p later u) ∙ f.stops (p ∷ later) ∙ t.place.still_there (ends_after 0 ps) f.counts later
             ∙ ap (λ (n : ℕ). still_place new n later) (sym e);
       }
 
@@ -79,20 +119,23 @@ module _ (ps : List Piece) (given : List Entry) (old new : Reader) (f : Follows 
       let i : new.input ≡ old.input = ap (λ (x : Reader). x.input) q in
       let l : new.left ≡ old.left = ap (λ (x : Reader). x.left) q in
       let z : new.zeros ≡ old.zeros = ap (λ (x : Reader). x.zeros) q in
-      let o : new.is_open ≡ old.is_open = ap (λ (x : Reader). x.is_open) q in
-      let d : new.begun.items ≡ old.begun.items = ap (λ (x : Reader). x.begun.items) q in
+      let o : open_of new ≡ open_of old = ap (λ (x : Reader). open_of x) q in
+      let m : compresses new ≡ compresses old = ap (λ (x : Reader). compresses x) q in
       let p : new.passed ≡ old.passed = ap (λ (x : Reader). x.passed) q in
       let t : new.fault ≡ old.fault = ap (λ (x : Reader). x.fault) q in
       record {
         reader = record { page = omega (arith, l, f.reader.page); count = omega (arith, ap length p, f.reader.count); fault = subst IsOfLog (sym t) f.reader.fault; zeros = known_as old new l z (ap (λ (h : Held). h.rest) i) f.reader.zeros };
         reads = λ later.
-            let g = give_one given new.ready.items e old.passed old.fault old.left old.is_open old.begun.items old.input.rest (waiting_of old) later in
+            let g = give_one given new.ready.items e old.passed old.fault (compresses old) old.left (open_of old) old.input.rest (waiting_of old) later in
             let rest : new.input.rest ≡ old.input.rest = ap (λ (h : Held). h.rest) i in
             let w : waiting_of new ≡ waiting_of old = ap (λ (h : Held). waiting h.later h.ended) i in
             let a = f.reads later in
-            cc;
+            a
+            ∙ ap (after given []) (still_fields _ _ _ _ _ _ _ _ _ _ _ _ _ _ _ _ later r refl refl refl refl refl refl refl)
+            ∙ g
+            ∙ ap (after (given ++ e ∷ []) []) (still_fields _ _ _ _ _ _ _ _ _ _ _ _ _ _ _ _ later refl (sym p) (sym t) (sym m) (sym l) (sym o) (sym rest) (sym w));
         counts = λ b. ap (λ (h : Held). h.ends) i ∙ f.counts (omega (arith, b, ap (λ (h : Held). h.ends) i));
-        stops = λ later. rw (t, l, o, d, i) (f.stops later);
+        stops = λ later. f.stops later ∙ place_fields _ _ _ _ _ _ _ _ _ _ (ends_after 0 ps) (ends_after 0 ps) later (sym t) (sym m) (sym l) (sym o) (sym i) refl;
       }
 
 -- ---- the answers
@@ -127,13 +170,13 @@ no_fault_at between n = refl
 no_fault_at inside n = refl
 no_fault_at (at_fault f) n = absurd n
 
-still_failed : (n : List SkippedType) (left : ℕ) (o : Bool) (d rest : List ℕ) (w : List Piece) (x : TailFault) → still [] n (Some x) left o d rest w [] ≡ after [] n (stopped (at_fault x))
+still_failed : (n : List SkippedType) (c : Bool) (left : ℕ) (o : Option Record) (rest : List ℕ) (w : List Piece) (x : TailFault) → still [] n (Some x) c left o rest w [] ≡ after [] n (stopped (at_fault x))
 unfolding still
-still_failed n left o d rest w x = refl
+still_failed n c left o rest w x = refl
 
 module _ (ps : List Piece) (given : List Entry) (r : Reader) (f : Follows ps given r) where
   pub all_read : reading page_size ps ≡ after given [] (still_read r [])
-  all_read = ap (reading page_size) (sym (append-nil ps)) ∙ f.reads []
+  all_read = ap (reading page_size) (sym (unmarked-none ps)) ∙ f.reads []
 
   pub given_within : length given ≤ length (entries ps)
   given_within =
@@ -143,7 +186,7 @@ module _ (ps : List Piece) (given : List Entry) (r : Reader) (f : Follows ps giv
   pub gives_entry : (e : Entry) (es : List Entry) → r.ready.items ≡ e ∷ es → next_of ps (length given) ≡ Ok (Some e)
   unfolding next_of still
   gives_entry e es q =
-      let x = from_here r.fault r.left (open_data r.is_open r.begun.items) r.input.rest (waiting_of r ++ []) in
+      let x = from_here r.fault (compresses r) r.left (open_of r) r.input.rest (waiting_of r ++ []) in
       let a : entries ps ≡ given ++ (e ∷ (es ++ x.entries)) = ap (λ (y : Reading). y.entries) all_read ∙ ap (λ (l : List Entry). given ++ (l ++ x.entries)) q in
       next_front given (es ++ x.entries) (entries ps) e (answer_at_end (fault ps)) a
 
@@ -151,15 +194,15 @@ module _ (ps : List Piece) (given : List Entry) (r : Reader) (f : Follows ps giv
   ends_at e =
       let w : waiting_of r ≡ [] = none_waiting r.input.later r.input.ended e.none_waits in
       let none : r.ready.items ≡ [] = e.can_step.none_ready in
-      let z = still_waits r.left e.can_step.reader.page r.input.rest r.ready.items r.passed r.is_open r.begun.items e.ends in
+      let z = still_waits (compresses r) r.left e.can_step.reader.page r.input.rest r.ready.items r.passed (open_of r) e.ends in
       let q : r.fault ≡ None = e.can_step.no_fault in
-      let b : still_read r [] ≡ after [] r.passed (stopped z.0) = (let zz = z.1 in cc) in
+      let b : still_read r [] ≡ after [] r.passed (stopped z.0) = still_fields _ _ _ _ _ _ _ _ _ _ _ _ _ _ _ _ [] refl refl q refl refl refl refl w ∙ z.1 ∙ ap (λ (es : List Entry). after es r.passed (stopped z.0)) none in
       (z.0, all_read ∙ ap (after given []) b, z.2)
 
   fails_at : (x : TailFault) → r.fault ≡ Some x → r.ready.items ≡ [] → reading page_size ps ≡ after given [] (after [] r.passed (stopped (at_fault x)))
   fails_at x e n =
-      let z = still_failed r.passed r.left r.is_open r.begun.items r.input.rest (waiting_of r) x in
-      let b : still_read r [] ≡ after [] r.passed (stopped (at_fault x)) = cc in
+      let z = still_failed r.passed (compresses r) r.left (open_of r) r.input.rest (waiting_of r) x in
+      let b : still_read r [] ≡ after [] r.passed (stopped (at_fault x)) = still_fields _ _ _ _ _ _ _ _ _ _ _ _ _ _ _ _ [] n refl e refl refl refl refl refl ∙ z in
       all_read ∙ ap (after given []) b
 
   pub gives_none : Ends r → next_of ps (length given) ≡ Ok None
@@ -182,7 +225,7 @@ module _ (ps : List Piece) (given : List Entry) (r : Reader) (f : Follows ps giv
   unfolding fault_place
   places_fault x e n =
       let s : stop_after page_size 0 [] ps ≡ front_of r.input =
-      ap (stop_after page_size 0 []) (sym (append-nil ps)) ∙ f.stops [] ∙ ap (λ (o : Option TailFault). place_from o r.left (open_data r.is_open r.begun.items) r.input (ends_after 0 ps) []) e in
+      ap (stop_after page_size 0 []) (sym (unmarked-none ps)) ∙ f.stops [] ∙ ap (λ (o : Option TailFault). place_from o (compresses r) r.left (open_of r) r.input (ends_after 0 ps) []) e in
       ap (λ (o : Option TailFault). place_of o ps) (has_fault x e n) ∙ ap Some s
 
 -- what a reader is after a fault

@@ -1,5 +1,5 @@
 -- What comes at a fragment's place, by its first byte.
-use Rattle.std.proofs.Common.{◌≡◌, ℕ, ◌<◌, ◌≤◌, List, [], ◌∷◌, length, take, drop, ◌+◌, ◌-◌, ◌++◌, subst, inl, inr, min, get_or, Bool, true, false, ltb, eqb, cond, refl, sym, ap, ◌∙◌, arith, lt-ltb, le-ltb, take_all}
+use Rattle.std.proofs.Common.{◌≡◌, ℕ, ◌<◌, ◌≤◌, List, [], ◌∷◌, length, take, drop, ◌+◌, ◌-◌, ◌++◌, subst, inl, inr, min, get_or, Bool, true, false, ltb, eqb, cond, refl, sym, ap, ◌∙◌, arith, lt-ltb, le-ltb, take_all, length-take, length-drop}
 use Rattle.std.proofs.lemmas.Bool.{ne_eqb}
 use Rattle.std.specs.List.{list_all}
 use borrow.Author.Tests.{ltb-true}
@@ -11,11 +11,16 @@ use Rattle.byteorder.specs.Endian.{big_number}
 use Rattle.rw_codes.specs.Crc.{crc32c_of}
 use Rattle.rw_wal_format.specs.declared.tail_fault.TailFault.{TailFault}
 use Rattle.rw_wal_tail.specs.inner.Steps.{IsOfLog}
-use Rattle.rw_wal_format.specs.Segments.{Kind, full, first, middle, last, Item, nothing, begun, zeros, fragment, wrong, zeros_at, data_at, fragment_at, item_at}
+use Rattle.rw_wal_format.specs.Segments.{Kind, full, first, middle, last, snappy, flagged, Item, nothing, begun, zeros, fragment, wrong, zeros_at, data_at, fragment_at, item_at, item_in}
 use Rattle.rw_wal_format.specs.Writing.{type_byte}
+use Rattle.rw_wal_format.specs.Types.{kind_of}
+use Rattle.rw_wal_format.specs.declared.fragment_type.FragmentType.{FragmentType}
+use Rattle.rw_wal_format.specs.declared.fragment_type.FragmentType.TheVariants.{Full, First, Middle, Last}
 use Rattle.rw_wal_format.specs.declared.tail_fault.TailFault.TheVariants.{NonzeroPadding, BadLength, BadCrc, Compressed, BadType}
-use Rattle.rw_wal_tail.specs.inner.Found.{wrong_type_of, item_of, KnownZeros}
+use Rattle.rw_wal_tail.specs.LayoutItems.{MayBe}
+use Rattle.rw_wal_tail.specs.inner.Found.{wrong_type_of, item_of, Fits, FragmentFits, KnownZeros}
 use Rattle.rw_wal_tail.specs.declared.item.Found.{Found}
+use Rattle.rw_wal_tail.specs.declared.item.Found.TheVariants as found
 use Rattle.rw_wal_tail.proofs.ItemLaws.{after_first}
 
 -- the zeros that are known need not be looked at again
@@ -48,41 +53,73 @@ module _ (left : ℕ) (bs : List ℕ) (b : Bool) (e : list_all (λ x. x == 0) (t
       let s : ltb (length bs) left ≡ false = le-ltb (length bs) left l in
       rw (z, s) refl
 
-pub item_none : (left : ℕ) (bs : List ℕ) → length bs ≡ 0 → item_at left bs ≡ nothing
+pub item_none : (c : Bool) (left : ℕ) (bs : List ℕ) → length bs ≡ 0 → item_in c left bs ≡ nothing
 unfolding item_at
-item_none left [] e = refl
-item_none left (b ∷ bs) e = absurd (omega arith)
+item_none false left [] e = refl
+item_none true left [] e = refl
+item_none c left (b ∷ bs) e = absurd (omega arith)
 
-pub item_little : (left : ℕ) (bs : List ℕ) → 0 < length bs → left < 7 → item_at left bs ≡ zeros_at left bs
+pub item_little : (c : Bool) (left : ℕ) (bs : List ℕ) → 0 < length bs → left < 7 → item_in c left bs ≡ zeros_at left bs
 unfolding item_at
-item_little left [] h l = absurd (omega arith)
-item_little left (b ∷ bs) h l = let s : ltb left 7 ≡ true = lt-ltb left 7 l in rw s refl
+item_little c left [] h l = absurd (omega arith)
+item_little false left (b ∷ bs) h l = let s : ltb left 7 ≡ true = lt-ltb left 7 l in rw s refl
+item_little true left (b ∷ bs) h l = let s : ltb left 7 ≡ true = lt-ltb left 7 l in rw s refl
 
-pub item_zero : (left : ℕ) (bs : List ℕ) → 0 < length bs → 7 ≤ left → get_or bs 0 0 ≡ 0 → item_at left bs ≡ zeros_at left bs
+pub item_zero : (c : Bool) (left : ℕ) (bs : List ℕ) → 0 < length bs → 7 ≤ left → get_or bs 0 0 ≡ 0 → item_in c left bs ≡ zeros_at left bs
 unfolding item_at
-item_zero left [] h l e = absurd (omega arith)
-item_zero left (b ∷ bs) h l e = let s : ltb left 7 ≡ false = le-ltb left 7 l in rw (s, e) refl
+item_zero c left [] h l e = absurd (omega arith)
+item_zero false left (b ∷ bs) h l e = let s : ltb left 7 ≡ false = le-ltb left 7 l in rw (s, e) refl
+item_zero true left (b ∷ bs) h l e = let s : ltb left 7 ≡ false = le-ltb left 7 l in rw (s, e) refl
 
 drop_header : (bs : List ℕ) → 0 < length bs → drop 6 (drop 1 bs) ≡ drop 7 bs
 drop_header [] h = absurd (omega arith)
 drop_header (b ∷ bs) h = refl
 
-pub item_kind : (kind : Kind) (left : ℕ) (bs : List ℕ) → 0 < length bs → 7 ≤ left → get_or bs 0 0 ≡ type_byte kind → item_at left bs ≡ fragment_at kind left (drop 1 bs)
+pub item_kind : (c : Bool) (kind : Kind) (left : ℕ) (bs : List ℕ) → MayBe c kind → 0 < length bs → 7 ≤ left → get_or bs 0 0 ≡ type_byte kind → item_in c left bs ≡ fragment_at kind left (drop 1 bs)
 unfolding item_at
-item_kind kind left [] h l e = absurd (omega arith)
-item_kind full left (b ∷ bs) h l e = let s : ltb left 7 ≡ false = le-ltb left 7 l in rw (s, e) refl
-item_kind first left (b ∷ bs) h l e = let s : ltb left 7 ≡ false = le-ltb left 7 l in rw (s, e) refl
-item_kind middle left (b ∷ bs) h l e = let s : ltb left 7 ≡ false = le-ltb left 7 l in rw (s, e) refl
-item_kind last left (b ∷ bs) h l e = let s : ltb left 7 ≡ false = le-ltb left 7 l in rw (s, e) refl
+item_kind c kind left [] m h l e = absurd (omega arith)
+item_kind false full left (b ∷ bs) m h l e = let s : ltb left 7 ≡ false = le-ltb left 7 l in rw (s, e) refl
+item_kind false first left (b ∷ bs) m h l e = let s : ltb left 7 ≡ false = le-ltb left 7 l in rw (s, e) refl
+item_kind false middle left (b ∷ bs) m h l e = let s : ltb left 7 ≡ false = le-ltb left 7 l in rw (s, e) refl
+item_kind false last left (b ∷ bs) m h l e = let s : ltb left 7 ≡ false = le-ltb left 7 l in rw (s, e) refl
+item_kind false (snappy kind) left (b ∷ bs) m h l e = absurd (let x : false ≡ true = m.0 in cc)
+item_kind true full left (b ∷ bs) m h l e = let s : ltb left 7 ≡ false = le-ltb left 7 l in rw (s, e) refl
+item_kind true first left (b ∷ bs) m h l e = let s : ltb left 7 ≡ false = le-ltb left 7 l in rw (s, e) refl
+item_kind true middle left (b ∷ bs) m h l e = let s : ltb left 7 ≡ false = le-ltb left 7 l in rw (s, e) refl
+item_kind true last left (b ∷ bs) m h l e = let s : ltb left 7 ≡ false = le-ltb left 7 l in rw (s, e) refl
+item_kind true (snappy full) left (b ∷ bs) m h l e = let s : ltb left 7 ≡ false = le-ltb left 7 l in rw (s, e) refl
+item_kind true (snappy first) left (b ∷ bs) m h l e = let s : ltb left 7 ≡ false = le-ltb left 7 l in rw (s, e) refl
+item_kind true (snappy middle) left (b ∷ bs) m h l e = let s : ltb left 7 ≡ false = le-ltb left 7 l in rw (s, e) refl
+item_kind true (snappy last) left (b ∷ bs) m h l e = let s : ltb left 7 ≡ false = le-ltb left 7 l in rw (s, e) refl
+item_kind true (snappy (snappy kind)) left (b ∷ bs) m h l e = absurd m.1
 
 -- the fragment of the bytes after the type byte, as a slice has them
-pub item_fragment : (kind : Kind) (left : ℕ) (bs : List ℕ) (r : Found) → 0 < length bs → 7 ≤ left → get_or bs 0 0 ≡ type_byte kind
-    → fragment_at kind left (take (length bs - 1) (drop 1 bs)) ≡ item_of (drop 6 (take (length bs - 1) (drop 1 bs))) r → item_at left bs ≡ item_of (drop 7 bs) r
-item_fragment kind left bs r h l e f =
+pub item_fragment : (c : Bool) (kind : Kind) (left : ℕ) (bs : List ℕ) (r : Found) → MayBe c kind → 0 < length bs → 7 ≤ left → get_or bs 0 0 ≡ type_byte kind
+    → fragment_at kind left (take (length bs - 1) (drop 1 bs)) ≡ item_of (drop 6 (take (length bs - 1) (drop 1 bs))) r → item_in c left bs ≡ item_of (drop 7 bs) r
+item_fragment c kind left bs r m h l e f =
     let t : take (length bs - 1) (drop 1 bs) ≡ drop 1 bs = after_first bs in
     let g : fragment_at kind left (drop 1 bs) ≡ item_of (drop 6 (drop 1 bs)) r =
     sym (ap (fragment_at kind left) t) ∙ f ∙ ap (λ (x : List ℕ). item_of (drop 6 x) r) t in
-    item_kind kind left bs h l e ∙ g ∙ ap (λ (x : List ℕ). item_of x r) (drop_header bs h)
+    item_kind c kind left bs m h l e ∙ g ∙ ap (λ (x : List ℕ). item_of x r) (drop_header bs h)
+
+-- the types of fragments of the program, with the flag of Snappy or without
+pub may_be_kind : (c b : Bool) (kind : FragmentType) → (b ≡ true → c ≡ true) → MayBe c (flagged b (kind_of kind))
+may_be_kind c false Full h = tt
+may_be_kind c false First h = tt
+may_be_kind c false Middle h = tt
+may_be_kind c false Last h = tt
+may_be_kind c true Full h = (h refl, tt)
+may_be_kind c true First h = (h refl, tt)
+may_be_kind c true Middle h = (h refl, tt)
+may_be_kind c true Last h = (h refl, tt)
+
+-- what was found after the type byte is within the bytes
+pub fits_after : (c b : Bool) (left : ℕ) (bs : List ℕ) (r : Found) → (b ≡ true → c ≡ true) → 0 < length bs → FragmentFits b left (take (length bs - 1) (drop 1 bs)) r → Fits c left bs r
+fits_after c b left bs found.Nothing h l f = tt
+fits_after c b left bs found.Begun h l f = tt
+fits_after c b left bs found.Zeros h l f = absurd f
+fits_after c b left bs (found.Fragment kind is_block n) h l f = (omega (arith, f.0, l, length-take (length bs - 1) (drop 1 bs), length-drop 1 bs), f.1, λ e. h (sym f.2 ∙ e))
+fits_after c b left bs (found.Wrong w) h l f = tt
 
 -- a number other than 0 to 4
 pub record NoType (b : ℕ) : Type 0 where
@@ -92,10 +129,17 @@ pub record NoType (b : ℕ) : Type 0 where
   pub three : b ≡ 3 → ⊥
   pub four : b ≡ 4 → ⊥
 
-pub item_wrong : (left : ℕ) (bs : List ℕ) → 0 < length bs → 7 ≤ left → NoType (get_or bs 0 0) → item_at left bs ≡ wrong (wrong_type_of (get_or bs 0 0))
+-- a number other than the types with the flag of Snappy
+pub record NoSnappyType (b : ℕ) : Type 0 where
+  pub nine : b ≡ 9 → ⊥
+  pub ten : b ≡ 10 → ⊥
+  pub eleven : b ≡ 11 → ⊥
+  pub twelve : b ≡ 12 → ⊥
+
+plain_wrong : (left : ℕ) (bs : List ℕ) → 0 < length bs → 7 ≤ left → NoType (get_or bs 0 0) → item_at left bs ≡ wrong (wrong_type_of (get_or bs 0 0))
 unfolding item_at
-item_wrong left [] h l n = absurd (omega arith)
-item_wrong left (b ∷ bs) h l n =
+plain_wrong left [] h l n = absurd (omega arith)
+plain_wrong left (b ∷ bs) h l n =
     let s : ltb left 7 ≡ false = le-ltb left 7 l in
     let e0 : eqb b 0 ≡ false = ne_eqb b 0 n.zero in
     let e1 : eqb b 1 ≡ false = ne_eqb b 1 n.one in
@@ -106,6 +150,18 @@ item_wrong left (b ∷ bs) h l n =
       | true ↦ (elim (nat_lt b 32) as (λ y. cond y (wrong Compressed) (wrong BadType) ≡ wrong (cond y Compressed BadType)) [ true ↦ refl | false ↦ refl ])
       | false ↦ refl
     ])
+
+pub item_wrong : (c : Bool) (left : ℕ) (bs : List ℕ) → 0 < length bs → 7 ≤ left → NoType (get_or bs 0 0) → (c ≡ true → NoSnappyType (get_or bs 0 0)) → item_in c left bs ≡ wrong (wrong_type_of (get_or bs 0 0))
+item_wrong false left bs h l n m = plain_wrong left bs h l n
+item_wrong true left [] h l n m = absurd (omega arith)
+item_wrong true left (b ∷ bs) h l n m =
+    let s : ltb left 7 ≡ false = le-ltb left 7 l in
+    let e9 : eqb b 9 ≡ false = ne_eqb b 9 (m refl).nine in
+    let e10 : eqb b 10 ≡ false = ne_eqb b 10 (m refl).ten in
+    let e11 : eqb b 11 ≡ false = ne_eqb b 11 (m refl).eleven in
+    let e12 : eqb b 12 ≡ false = ne_eqb b 12 (m refl).twelve in
+    let p : item_in true left (b ∷ bs) ≡ item_at left (b ∷ bs) = rw (s, e9, e10, e11, e12) refl in
+    p ∙ plain_wrong left (b ∷ bs) h l n
 
 -- ---- what holds of whatever comes there
 
@@ -131,22 +187,33 @@ module _ (P : Item → Type 0) (at_begun : P begun) (at_fragment : (k : Kind) (d
       (either P (b == 4) _ _ (holds_of_fragment last bs)
       (either P (nat_le 8 b) _ _ (either P (nat_lt b 32) _ _ at_compressed at_type) at_type)))))
 
+  holds_of_item_in : (c : Bool) (b : ℕ) (bs : List ℕ) → P (zeros_at left (b ∷ bs)) → P (item_in c left (b ∷ bs))
+  holds_of_item_in false b bs z = holds_of_item b bs z
+  holds_of_item_in true b bs z =
+      let plain = holds_of_item b bs z in
+      either P (nat_lt left 7) _ _ plain
+      (either P (b == 9) _ _ (holds_of_fragment (snappy full) bs)
+      (either P (b == 10) _ _ (holds_of_fragment (snappy first) bs)
+      (either P (b == 11) _ _ (holds_of_fragment (snappy middle) bs)
+      (either P (b == 12) _ _ (holds_of_fragment (snappy last) bs) plain))))
+
 -- ---- it is never out of memory
 
 IsItemOfLog : Item → Type 0
 IsItemOfLog (wrong f) = IsOfLog (Some f)
 IsItemOfLog _ = Unit {0}
 
-item_of_log : (left : ℕ) (bs : List ℕ) → IsItemOfLog (item_at left bs)
+item_of_log : (c : Bool) (left : ℕ) (bs : List ℕ) → IsItemOfLog (item_in c left bs)
 unfolding IsItemOfLog item_at
-item_of_log left [] = tt
-item_of_log left (b ∷ bs) =
-    holds_of_item IsItemOfLog tt (λ k d. tt) tt tt tt tt left b bs
+item_of_log false left [] = tt
+item_of_log true left [] = tt
+item_of_log c left (b ∷ bs) =
+    holds_of_item_in IsItemOfLog tt (λ k d. tt) tt tt tt tt left c b bs
     (either IsItemOfLog (not (list_all (λ x. x == 0) (take left (b ∷ bs)))) _ _ tt (either IsItemOfLog (nat_lt (length (b ∷ bs)) left) nothing zeros tt tt))
 
-pub wrong_of_log : (left : ℕ) (bs : List ℕ) (f : TailFault) → item_at left bs ≡ wrong f → IsOfLog (Some f)
+pub wrong_of_log : (c : Bool) (left : ℕ) (bs : List ℕ) (f : TailFault) → item_in c left bs ≡ wrong f → IsOfLog (Some f)
 unfolding IsItemOfLog
-wrong_of_log left bs f e = subst IsItemOfLog e (item_of_log left bs)
+wrong_of_log c left bs f e = subst IsItemOfLog e (item_of_log c left bs)
 
 -- ---- if nothing comes there, the bytes are zeros
 
@@ -164,13 +231,14 @@ zeros_known left bs true true e f =
     let a : take (length bs) bs ≡ take left bs = take_all (length bs) bs (omega arith) ∙ sym (take_all left bs (omega arith)) in
     (omega arith, omega arith, ap (list_all (λ x. x == 0)) a ∙ e)
 
-item_known : (left : ℕ) (bs : List ℕ) → NothingIsZeros left bs (item_at left bs)
+item_known : (c : Bool) (left : ℕ) (bs : List ℕ) → NothingIsZeros left bs (item_in c left bs)
 unfolding NothingIsZeros item_at
-item_known left [] = (omega arith, omega arith, refl)
-item_known left (b ∷ bs) =
-    holds_of_item (NothingIsZeros left (b ∷ bs)) tt (λ k d. tt) tt tt tt tt left b bs
+item_known false left [] = (omega arith, omega arith, refl)
+item_known true left [] = (omega arith, omega arith, refl)
+item_known c left (b ∷ bs) =
+    holds_of_item_in (NothingIsZeros left (b ∷ bs)) tt (λ k d. tt) tt tt tt tt left c b bs
     (zeros_known left (b ∷ bs) (list_all (λ x. x == 0) (take left (b ∷ bs))) (ltb (length (b ∷ bs)) left) refl refl)
 
-pub nothing_known : (left : ℕ) (bs : List ℕ) → item_at left bs ≡ nothing → KnownZeros left (length bs) bs
+pub nothing_known : (c : Bool) (left : ℕ) (bs : List ℕ) → item_in c left bs ≡ nothing → KnownZeros left (length bs) bs
 unfolding NothingIsZeros
-nothing_known left bs e = subst (NothingIsZeros left bs) e (item_known left bs)
+nothing_known c left bs e = subst (NothingIsZeros left bs) e (item_known c left bs)

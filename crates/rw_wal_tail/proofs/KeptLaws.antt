@@ -1,27 +1,28 @@
 -- The room for a record in fragments, and the bound of all counts, as a reader goes on.
 use Rattle.std.proofs.Common.{◌≡◌, ℕ, ◌+◌, ◌<◌, ◌≤◌, ◌^◌, List, [], ◌∷◌, ◌++◌, length, take, drop, Option, Some, None, Result, Ok, Err, Bool, true, false, ◌&&◌, refl, sym, ap, ◌∙◌, arith, subst, length-append, length-drop, inl, inr, ◌⊎◌, ltb, cond, take_all}
-use Rattle.std.specs.Prelude.{vec_capacity, OnOk, OnErr, MatchResult}
+use Rattle.std.specs.Prelude.{vec_capacity, IfOk, OnOk, OnErr, MatchResult}
 use Rattle.std.proofs.lemmas.Bool.{ltb-false}
 use Rattle.std.proofs.lemmas.List.{take-append-le}
 use Rattle.rw_types.specs.declared.entry.Entry.{Entry}
-use Rattle.rw_wal_format.specs.Records.{is_skipped}
-use Rattle.rw_wal_format.specs.Segments.{Reading, full, last}
-use Rattle.rw_wal_format.specs.Pieces.{Piece, bytes, next_segment, entries}
+use Rattle.rw_wal_format.specs.Records.{◌then◌, record_entries, is_skipped}
+use Rattle.rw_wal_format.specs.Segments.{Kind, Reading, Record, text_of, flagged, complete, joined, fragment, full, last}
+use Rattle.rw_wal_format.specs.Pieces.{Piece, bytes, next_segment, may_compress, entries}
 use Rattle.rw_wal_format.specs.declared.tail_fault.TailFault.{TailFault}
 use Rattle.rw_wal_tail.specs.declared.reader.Reader.{Reader}
-use Rattle.rw_wal_tail.specs.inner.Held.{Held, has_ended, begun_with, extend_last, fed_with, fed, passed, marked, one_more, can_count, later_bytes, unread}
+use Rattle.rw_wal_tail.specs.inner.Held.{Held, waiting, has_ended, begun_with, extend_last, fed_with, fed, passed, marked, one_more, can_count, later_bytes, unread}
 use Rattle.rw_wal_format.specs.Skipped.{skips_of, skipped_type}
 use Rattle.rw_wal_format.specs.declared.skipped_type.SkippedType.{SkippedType}
 use Rattle.rw_wal_tail.specs.inner.Still.{still, from_here, open_data}
-use Rattle.rw_wal_tail.specs.inner.Form.{HasEntries}
+use Rattle.rw_wal_tail.specs.inner.Form.{HasEntries, StoresEntries}
 use Rattle.rw_wal_tail.specs.Fed.{Fed, size_of}
 use Rattle.rw_wal_tail.specs.inner.Fed.{Follows, IsStuck, IsTail}
-use Rattle.rw_wal_tail.specs.inner.Steps.{still_read, waiting_of, CanStep, FoundAt, IsKept, GivesNext, MayLack, Same, IsOfLog, IsReader}
+use Rattle.rw_wal_tail.specs.inner.Steps.{compresses, open_of, item_of, data_at_front, still_read, waiting_of, CanStep, FoundAt, IsKept, GivesNext, IsRead, IsTextRead, MayLack, Same, IsOfLog, IsReader}
 use Rattle.rw_wal_tail.proofs.HeldLaws.{later_bytes-append}
-use Rattle.rw_wal_tail.proofs.StepLaws.{data_length, known_as}
+use Rattle.rw_wal_tail.proofs.StepLaws.{data_length, known_as, joins_full, joins_last, read_of_text}
 use Rattle.rw_wal_format.specs.declared.tail_fault.TailFault.TheVariants.{OutOfMemory}
+use Rattle.rw_wal_tail.proofs.PlaceSteps.{place_same}
 use Rattle.rw_wal_tail.proofs.FedLaws.{all_read, follows_same}
-use Rattle.rw_wal_tail.proofs.StillLaws.{still_full, still_last}
+use Rattle.rw_wal_tail.proofs.StillLaws.{still_fields, still_whole}
 
 -- ---- bytes that are not read
 
@@ -167,42 +168,61 @@ lacks_count r n h k = elim (cannot_by r.input.offset r.input.ends (ltb r.input.o
   | inr b ↦ omega (arith, b, k.ends)
 ]
 
-starts_with : (es : List Entry) (n : List SkippedType) (f : Option TailFault) (left : ℕ) (o : Bool) (d rest : List ℕ) (w later : List Piece) → 0 < length es → 0 < length (still es n f left o d rest w later).entries
+starts_with : (es : List Entry) (n : List SkippedType) (f : Option TailFault) (c : Bool) (left : ℕ) (o : Option Record) (rest : List ℕ) (w later : List Piece) → 0 < length es → 0 < length (still es n f c left o rest w later).entries
 unfolding still
-starts_with es n f left o d rest w later h = omega (arith, h, length-append es (from_here f left (open_data o d) rest (w ++ later)).entries)
+starts_with es n f c left o rest w later h = omega (arith, h, length-append es (from_here f c left o rest (w ++ later)).entries)
 
 pub gives_ready : (r : Reader) → 0 < length r.ready.items → GivesNext r
-gives_ready r h = starts_with r.ready.items r.passed r.fault r.left r.is_open r.begun.items r.input.rest (waiting_of r) [] h
+gives_ready r h = starts_with r.ready.items r.passed r.fault (compresses r) r.left (open_of r) r.input.rest (waiting_of r) [] h
 
-read_at : (r : Reader) (b : Bool) → CanStep r → r.is_open ≡ b → still_read r [] ≡ still [] r.passed None r.left b r.begun.items r.input.rest (waiting_of r) []
-read_at r b can o = rw (can.none_ready, can.no_fault, o) refl
+read_at : (r : Reader) → CanStep r → still_read r [] ≡ still [] r.passed None (compresses r) r.left (open_of r) r.input.rest (waiting_of r) []
+read_at r can = still_fields _ _ _ _ _ _ _ _ _ _ _ _ _ _ _ _ [] can.none_ready refl can.no_fault refl refl refl refl refl
 
 pub gives_same : (old new : Reader) → Same old new → GivesNext old → GivesNext new
 gives_same old new s g = subst (λ (x : Reading). 0 < length x.entries) (s.still_same []) g
 
-gives_full : (r : Reader) (n : ℕ) → FoundAt full n r → HasEntries (take n (drop 7 r.input.rest)) → GivesNext r
-gives_full r n f h =
-    let s = still_full r.left f.can_step.reader.page r.input.rest r.passed (waiting_of r) [] r.begun.items [] (take n (drop 7 r.input.rest)) h.0 f.found h.1 in
-    subst (λ (x : Reading). 0 < length x.entries) (sym (read_at r false f.can_step f.in_order ∙ s)) (starts_with h.0 _ _ _ _ _ _ _ _ h.2)
+-- a record that stores entries has a text
+stored_text : (found : Option (List ℕ)) (es : List Entry) → (found then λ d. record_entries d) ≡ Some es → (d : List ℕ) × (found ≡ Some d) × (record_entries d ≡ Some es)
+stored_text None es e = absurd cc
+stored_text (Some d) es e = (d, refl, e)
 
-gives_last : (r : Reader) (n : ℕ) → FoundAt last n r → HasEntries (r.begun.items ++ take n (drop 7 r.input.rest)) → GivesNext r
-gives_last r n f h =
-    let s = still_last r.left f.can_step.reader.page r.input.rest r.passed (waiting_of r) [] r.begun.items [] (take n (drop 7 r.input.rest)) h.0 f.found h.1 in
-    subst (λ (x : Reading). 0 < length x.entries) (sym (read_at r true f.can_step f.in_order ∙ s)) (starts_with h.0 _ _ _ _ _ _ _ _ h.2)
+gives_whole : (r : Reader) (n : ℕ) (kind : Kind) (x : Record) → CanStep r → item_of r ≡ fragment kind (data_at_front n r) → joined (open_of r) kind (data_at_front n r) ≡ complete x → StoresEntries x → GivesNext r
+gives_whole r n kind x can found j h =
+    let t = stored_text (text_of x) h.0 h.1 in
+    let s = still_whole (compresses r) r.left can.reader.page r.input.rest r.passed (waiting_of r) [] (open_of r) kind (data_at_front n r) x found j t.0 h.0 t.1 t.2 in
+    subst (λ (y : Reading). 0 < length y.entries) (sym (read_at r can ∙ s)) (starts_with h.0 _ _ _ _ _ _ _ _ h.2)
 
--- a record of the bytes d may lack memory to be read
-lacks_by : (old new : Reader) (n k : ℕ) (d : List ℕ) → Same old new → 7 + n ≤ length old.input.rest → (HasEntries d → GivesNext old) → IsKept k old → HasEntries d ⊎ (2 ^ 60 ≤ length old.passed + 1) → MayLack k new
-lacks_by old new n k d s le f kept h = elim h [
+-- a record may lack memory to be read
+lacks_by : (old new : Reader) (n k : ℕ) (x : Record) → Same old new → 7 + n ≤ length old.input.rest → (StoresEntries x → GivesNext old) → IsKept k old → StoresEntries x ⊎ (2 ^ 60 ≤ length old.passed + 1) → MayLack k new
+lacks_by old new n k x s le f kept h = elim h [
   | inl e ↦ inl (gives_same old new s (f e))
   | inr c ↦ inr (omega (arith, c, le, kept.passed))
 ]
 
-pub lacks_full : (old new : Reader) (n k : ℕ) (d : List ℕ) → Same old new → FoundAt full n old → IsKept k old → d ≡ take n (drop 7 old.input.rest) → HasEntries d ⊎ (2 ^ 60 ≤ length old.passed + 1) → MayLack k new
-lacks_full old new n k d s f kept q h = lacks_by old new n k d s f.whole (λ e. gives_full old n f (subst HasEntries q e)) kept h
+pub lacks_full : (old new : Reader) (is_block : Bool) (n k : ℕ) (d : List ℕ) → Same old new → FoundAt is_block full n old → IsKept k old → d ≡ data_at_front n old → StoresEntries (is_block, d) ⊎ (2 ^ 60 ≤ length old.passed + 1) → MayLack k new
+lacks_full old new is_block n k d s f kept q h =
+    lacks_by old new n k (is_block, d) s f.whole
+    (λ e. gives_whole old n (flagged is_block full) (is_block, data_at_front n old) f.can_step f.found (joins_full old is_block n f) (subst (λ (y : List ℕ). StoresEntries (is_block, y)) q e)) kept h
 
-pub lacks_last : (old new : Reader) (n k : ℕ) (d : List ℕ) → Same old new → FoundAt last n old → IsKept k old → d ≡ old.begun.items ++ take n (drop 7 old.input.rest) → HasEntries d ⊎ (2 ^ 60 ≤ length old.passed + 1)
+pub lacks_last : (old new : Reader) (n k : ℕ) (d : List ℕ) → Same old new → FoundAt old.is_block last n old → IsKept k old → d ≡ old.begun.items ++ data_at_front n old → StoresEntries (old.is_block, d) ⊎ (2 ^ 60 ≤ length old.passed + 1)
     → MayLack k new
-lacks_last old new n k d s f kept q h = lacks_by old new n k d s f.whole (λ e. gives_last old n f (subst HasEntries q e)) kept h
+lacks_last old new n k d s f kept q h =
+    lacks_by old new n k (old.is_block, d) s f.whole
+    (λ e. gives_whole old n (flagged old.is_block last) (old.is_block, old.begun.items ++ data_at_front n old) f.can_step f.found (joins_last old n f) (subst (λ (y : List ℕ). StoresEntries (old.is_block, y)) q e)) kept h
+
+-- the entries of a record's text are the record's
+pub stores_of_text : (r : Record) (d : List ℕ) → text_of r ≡ Some d → HasEntries d → StoresEntries r
+stores_of_text r d t h = (h.0, ap (λ (o : Option (List ℕ)). o then λ x. record_entries x) t ∙ h.1, h.2)
+
+-- what came of a record's text comes of the record
+pub read_if : {E : Type 0} (r : Record) (d : List ℕ) (p : List SkippedType) (es : List Entry) (p' : List SkippedType) (res : Result Bool E) → text_of r ≡ Some d → IfOk res (λ b. IsTextRead d p es p' b) → IfOk res (λ b. IsRead r p es p' b)
+read_if r d p es p' (Ok b) t h = read_of_text r d p es p' b t h
+read_if r d p es p' (Err e) t h = tt
+
+pub lacks_if : {E : Type 0} (r : Record) (d : List ℕ) (n : ℕ) (res : Result Bool E) → text_of r ≡ Some d → OnErr res (HasEntries d ⊎ (2 ^ 60 ≤ n)) → OnErr res (StoresEntries r ⊎ (2 ^ 60 ≤ n))
+lacks_if r d n (Ok b) t h = tt
+lacks_if r d n (Err e) t (inl s) = inl (stores_of_text r d t s)
+lacks_if r d n (Err e) t (inr s) = inr s
 
 -- there is room for the data of a fragment
 pub has_room : (old : Reader) (n k : ℕ) (d : List ℕ) → 7 + n ≤ length old.input.rest → d ≡ take n (drop 7 old.input.rest) → IsKept k old → length old.begun.items + length d ≤ vec_capacity old.begun
@@ -216,6 +236,7 @@ pub size_of-push : (ps : List Piece) (p : Piece) → size_of (ps ++ p ∷ []) �
 size_of-push [] p = omega arith
 size_of-push (bytes b ∷ ps) p = omega (arith, size_of-push ps p)
 size_of-push (next_segment ∷ ps) p = omega (arith, size_of-push ps p)
+size_of-push (may_compress ∷ ps) p = size_of-push ps p
 
 pub kept_bytes : (ps : List Piece) (b : List ℕ) (r : Reader) → IsKept (size_of ps + length b) r → IsKept (size_of (ps ++ bytes b ∷ [])) r
 kept_bytes ps b r k = let n : size_of ps + length b ≡ size_of (ps ++ bytes b ∷ []) = omega (arith, size_of-push ps (bytes b)) in subst (λ m. IsKept m r) n k
@@ -255,14 +276,18 @@ pub back_again : (xs ys zs ws : List ℕ) (n : ℕ) → ws ≡ take n zs → zs 
 back_again xs ys zs ws n e f g = e ∙ ap (take n) f ∙ take-append-le n xs ys (omega (arith, g)) ∙ take_all n xs (omega (arith, g))
 
 -- the same bytes and entries in other memory
-pub same_data : (old new : Reader) → IsReader old → new.input ≡ old.input → new.left ≡ old.left → new.zeros ≡ old.zeros → new.ready.items ≡ old.ready.items → new.begun.items ≡ old.begun.items → new.passed ≡ old.passed
-    → new.fault ≡ old.fault → new.is_open ≡ old.is_open → Same old new
-unfolding still
-same_data old new r i l z e d p f o = record {
+pub same_data : (old new : Reader) → IsReader old → new.input ≡ old.input → new.left ≡ old.left → new.zeros ≡ old.zeros → new.ready.items ≡ old.ready.items → new.passed ≡ old.passed
+    → new.fault ≡ old.fault → open_of new ≡ open_of old → compresses new ≡ compresses old → Same old new
+same_data old new r i l z e p f o m = record {
   reader = record { page = omega (arith, l, r.page); count = omega (arith, ap length p, r.count); fault = subst IsOfLog (sym f) r.fault; zeros = known_as old new l z (ap (λ (h : Held). h.rest) i) r.zeros };
-  place = record { counts = ap (λ (h : Held). h.ends) i; still_there = λ ends c later. rw (f, l, o, d, i) refl };
-  still_same = λ later. rw (o, i, l, e, d, p, f) refl;
+  place = place_same old new m o i l f;
+  still_same = λ later.
+      still_fields _ _ _ _ _ _ _ _ _ _ _ _ _ _ _ _ later (sym e) (sym p) (sym f) (sym m) (sym l) (sym o) (sym (ap (λ (h : Held). h.rest) i)) (sym (ap (λ (h : Held). waiting h.later h.ended) i));
 }
+
+-- the record that is open, of equal data
+pub open_as : (old : Reader) (d : List ℕ) → d ≡ old.begun.items → open_data old.is_open old.is_block d ≡ open_of old
+open_as old d e = ap (open_data old.is_open old.is_block) e
 
 pub same_self : (r : Reader) → IsReader r → Same r r
 same_self r i = record { reader = i; place = record { counts = refl; still_there = λ ends c later. refl }; still_same = λ later. refl }

@@ -1,71 +1,74 @@
 -- A log is read as its segments are laid out, one after the other.
-use Rattle.std.proofs.Common.{◌≡◌, ◌↔◌, ℕ, ◌+◌, ◌<◌, Option, Some, List, [], ◌∷◌, ◌++◌, length, refl, sym, ap, ◌∙◌, subst, arith, append_assoc, flat_map}
+use Rattle.std.proofs.Common.{◌≡◌, ◌↔◌, ℕ, ◌+◌, ◌<◌, false, Option, Some, List, [], ◌∷◌, ◌++◌, length, refl, sym, ap, ◌∙◌, subst, arith, append_assoc, flat_map}
 use Rattle.std.proofs.lemmas.List.Concat.{flat_map-cons}
 use Rattle.rw_types.specs.declared.entry.Entry.{Entry}
-use Rattle.rw_wal_format.specs.Segments.{Stop, between, inside, at_fault, Reading, stopped, segment}
-use Rattle.rw_wal_format.specs.Pieces.{Piece, bytes, next_segment, then_after, then_next, reading_after, reading, fault_at, page_size, fault}
+use Rattle.rw_wal_format.specs.Segments.{Stop, between, inside, at_fault, Reading, stopped, segment_in}
+use Rattle.rw_wal_format.specs.Pieces.{Piece, bytes, next_segment, may_compress, then_after, then_next, compresses_after, reading_in, reading_after, reading, fault_at, page_size, fault}
 use Rattle.rw_wal_format.specs.declared.skipped_type.SkippedType.{SkippedType}
 use Rattle.rw_wal_format.specs.declared.tail_fault.TailFault.{TailFault}
 use Rattle.rw_wal_format.specs.declared.tail_fault.TailFault.TheVariants.{TornSegment}
-use Rattle.rw_wal_tail.specs.Places.{stop_offset, place_then, stop_after, place_of, fault_place}
+use Rattle.rw_wal_tail.specs.Places.{stop_offset_in, place_then, stop_in, stop_after, place_of, fault_place}
 use Rattle.rw_wal_tail.specs.declared.place.FaultPlace.{FaultPlace}
 use Rattle.rw_wal_tail.specs.LayoutSegment.{IsSegment}
-use Rattle.rw_wal_tail.specs.LayoutLog.{segments_after, AllEndBetween, LogStops, IsLog, HasFirstFault}
+use Rattle.rw_wal_tail.specs.LayoutLog.{SegmentText, segments_after, AllEndBetween, LogStops, IsLog, HasFirstFault}
 use Rattle.rw_wal_tail.proofs.LayoutReading.{segment_read}
 use Rattle.rw_wal_tail.proofs.LayoutWriting.{IsLaidOut, segment_is_laid_out}
 
 -- ---- the reader's definitions over the texts of segments
 
-log_reading : ℕ → List (List ℕ) → Reading
+log_reading : ℕ → List SegmentText → Reading
 log_reading page [] = stopped between
-log_reading page (t ∷ []) = segment page t
-log_reading page (t ∷ u ∷ ts) = then_next (segment page t) (log_reading page (u ∷ ts))
+log_reading page (t ∷ []) = segment_in t.0 page t.1
+log_reading page (t ∷ u ∷ ts) = then_next (segment_in t.0 page t.1) (log_reading page (u ∷ ts))
 
-log_stop : ℕ → ℕ → List (List ℕ) → FaultPlace
+log_stop : ℕ → ℕ → List SegmentText → FaultPlace
 log_stop page n [] = record { segment = n; offset = 0 }
-log_stop page n (t ∷ []) = record { segment = n; offset = stop_offset page t }
-log_stop page n (t ∷ u ∷ ts) = place_then (segment page t).stop n (stop_offset page t) (log_stop page (n + 1) (u ∷ ts))
+log_stop page n (t ∷ []) = record { segment = n; offset = stop_offset_in t.0 page t.1 }
+log_stop page n (t ∷ u ∷ ts) = place_then (segment_in t.0 page t.1).stop n (stop_offset_in t.0 page t.1) (log_stop page (n + 1) (u ∷ ts))
 
 -- there is a first one
-abbrev IsCons : List (List ℕ) → Type 0
-IsCons l = (u : List ℕ) × (us : List (List ℕ)) × (l ≡ u ∷ us)
+abbrev IsCons : List SegmentText → Type 0
+IsCons l = (u : SegmentText) × (us : List SegmentText) × (l ≡ u ∷ us)
 
-after_cons : (text : List ℕ) (ps : List Piece) → IsCons (segments_after text ps)
+after_cons : (text : SegmentText) (ps : List Piece) → IsCons (segments_after text ps)
 after_cons text [] = (text, [], refl)
-after_cons text (bytes b ∷ ps) = after_cons (text ++ b) ps
-after_cons text (next_segment ∷ ps) = (text, segments_after [] ps, refl)
+after_cons text (bytes b ∷ ps) = after_cons (text.0, text.1 ++ b) ps
+after_cons text (next_segment ∷ ps) = (text, segments_after (text.0, []) ps, refl)
+after_cons text (may_compress ∷ ps) = after_cons (compresses_after text.0 text.1, text.1) ps
 
-append_cons : (ws : List (List ℕ)) (t : List ℕ) (ts : List (List ℕ)) → IsCons (ws ++ t ∷ ts)
+append_cons : (ws : List SegmentText) (t : SegmentText) (ts : List SegmentText) → IsCons (ws ++ t ∷ ts)
 append_cons [] t ts = (t, ts, refl)
 append_cons (w ∷ ws) t ts = (w, ws ++ t ∷ ts, refl)
 
 module _ (page : ℕ) where
-  next_reads : (t : List ℕ) (l : List (List ℕ)) → IsCons l
-      → log_reading page (t ∷ l) ≡ then_next (segment page t) (log_reading page l)
+  next_reads : (t : SegmentText) (l : List SegmentText) → IsCons l
+      → log_reading page (t ∷ l) ≡ then_next (segment_in t.0 page t.1) (log_reading page l)
   unfolding log_reading
-  next_reads t l c = ap (λ (x : List (List ℕ)). log_reading page (t ∷ x)) c.2
-      ∙ ap (λ (x : List (List ℕ)). then_next (segment page t) (log_reading page x)) (sym c.2)
+  next_reads t l c = ap (λ (x : List SegmentText). log_reading page (t ∷ x)) c.2
+      ∙ ap (λ (x : List SegmentText). then_next (segment_in t.0 page t.1) (log_reading page x)) (sym c.2)
 
-  next_stops : (n : ℕ) (t : List ℕ) (l : List (List ℕ)) → IsCons l
-      → log_stop page n (t ∷ l) ≡ place_then (segment page t).stop n (stop_offset page t) (log_stop page (n + 1) l)
+  next_stops : (n : ℕ) (t : SegmentText) (l : List SegmentText) → IsCons l
+      → log_stop page n (t ∷ l) ≡ place_then (segment_in t.0 page t.1).stop n (stop_offset_in t.0 page t.1) (log_stop page (n + 1) l)
   unfolding log_stop
-  next_stops n t l c = ap (λ (x : List (List ℕ)). log_stop page n (t ∷ x)) c.2
-      ∙ ap (λ (x : List (List ℕ)). place_then (segment page t).stop n (stop_offset page t) (log_stop page (n + 1) x)) (sym c.2)
+  next_stops n t l c = ap (λ (x : List SegmentText). log_stop page n (t ∷ x)) c.2
+      ∙ ap (λ (x : List SegmentText). place_then (segment_in t.0 page t.1).stop n (stop_offset_in t.0 page t.1) (log_stop page (n + 1) x)) (sym c.2)
 
-  after_reads : (text : List ℕ) (ps : List Piece)
-      → reading_after page text ps ≡ log_reading page (segments_after text ps)
+  after_reads : (text : SegmentText) (ps : List Piece)
+      → reading_in text.0 page text.1 ps ≡ log_reading page (segments_after text ps)
   unfolding log_reading
   after_reads text [] = refl
-  after_reads text (bytes b ∷ ps) = after_reads (text ++ b) ps
-  after_reads text (next_segment ∷ ps) = ap (then_next (segment page text)) (after_reads [] ps)
-      ∙ sym (next_reads text (segments_after [] ps) (after_cons [] ps))
+  after_reads text (bytes b ∷ ps) = after_reads (text.0, text.1 ++ b) ps
+  after_reads text (next_segment ∷ ps) = ap (then_next (segment_in text.0 page text.1)) (after_reads (text.0, []) ps)
+      ∙ sym (next_reads text (segments_after (text.0, []) ps) (after_cons (text.0, []) ps))
+  after_reads text (may_compress ∷ ps) = after_reads (compresses_after text.0 text.1, text.1) ps
 
-  after_stops : (n : ℕ) (text : List ℕ) (ps : List Piece)
-      → stop_after page n text ps ≡ log_stop page n (segments_after text ps)
+  after_stops : (n : ℕ) (text : SegmentText) (ps : List Piece)
+      → stop_in text.0 page n text.1 ps ≡ log_stop page n (segments_after text ps)
   unfolding log_stop
   after_stops n text [] = refl
-  after_stops n text (bytes b ∷ ps) = after_stops n (text ++ b) ps
-  after_stops n text (next_segment ∷ ps) = ap (place_then (segment page text).stop n (stop_offset page text)) (after_stops (n + 1) [] ps) ∙ sym (next_stops n text (segments_after [] ps) (after_cons [] ps))
+  after_stops n text (bytes b ∷ ps) = after_stops n (text.0, text.1 ++ b) ps
+  after_stops n text (next_segment ∷ ps) = ap (place_then (segment_in text.0 page text.1).stop n (stop_offset_in text.0 page text.1)) (after_stops (n + 1) (text.0, []) ps) ∙ sym (next_stops n text (segments_after (text.0, []) ps) (after_cons (text.0, []) ps))
+  after_stops n text (may_compress ∷ ps) = after_stops n (compresses_after text.0 text.1, text.1) ps
 
 -- ---- what is laid out is read
 
@@ -94,20 +97,20 @@ after_all-cons x rs r =
     a ∙ b ∙ c
 
 -- the reader's definitions give this reading and this place, from segment n on
-record AreReadAs (page n : ℕ) (texts : List (List ℕ)) (r : Reading) (place : FaultPlace)
+record AreReadAs (page n : ℕ) (texts : List SegmentText) (r : Reading) (place : FaultPlace)
     : Type 0 where
   reads : log_reading page texts ≡ r
   stops_at : log_stop page n texts ≡ place
 
 module _ (page : ℕ) (p : 0 < page) where
   -- a segment that ends between records, and then others
-  whole_read : (n : ℕ) (t : List ℕ) (l : List (List ℕ)) (own r : Reading) (offset : ℕ)
-      (place : FaultPlace) → IsCons l → IsSegment page t own offset → own.stop ≡ between
+  whole_read : (n : ℕ) (t : SegmentText) (l : List SegmentText) (own r : Reading) (offset : ℕ)
+      (place : FaultPlace) → IsCons l → IsSegment t.0 page t.1 own offset → own.stop ≡ between
       → AreReadAs page (n + 1) l r place
       → AreReadAs page n (t ∷ l) (after_whole own.entries own.skipped r) place
   whole_read n t l own r offset place c is ends later =
-      let own_read = segment_read page t own offset p is in
-      let s : (segment page t).stop ≡ between =
+      let own_read = segment_read t.0 page t.1 own offset p is in
+      let s : (segment_in t.0 page t.1).stop ≡ between =
       ap (λ (x : Reading). x.stop) own_read.reads ∙ ends in
       record {
         reads = next_reads page t l c
@@ -115,18 +118,18 @@ module _ (page : ℕ) (p : 0 < page) where
             ∙ ap (λ (x : Stop). then_after x own (log_reading page l)) ends
             ∙ ap (after_whole own.entries own.skipped) later.reads;
         stops_at = next_stops page n t l c
-            ∙ ap (λ (x : Stop). place_then x n (stop_offset page t) (log_stop page (n + 1) l)) s
+            ∙ ap (λ (x : Stop). place_then x n (stop_offset_in t.0 page t.1) (log_stop page (n + 1) l)) s
             ∙ later.stops_at;
       }
 
   -- the segment in which the reading stops
-  last_read : (n : ℕ) (t : List ℕ) (later : List (List ℕ)) (own : Reading) (offset : ℕ)
-      (own_stop stop : Stop) → own.stop ≡ own_stop → IsSegment page t own offset
+  last_read : (n : ℕ) (t : SegmentText) (later : List SegmentText) (own : Reading) (offset : ℕ)
+      (own_stop stop : Stop) → own.stop ≡ own_stop → IsSegment t.0 page t.1 own offset
       → LogStops later own_stop stop
       → AreReadAs page n (t ∷ later) (record { entries = own.entries; skipped = own.skipped; stop = stop }) (record { segment = n; offset = offset })
   unfolding log_reading log_stop
   last_read n t [] own offset own_stop stop e is h =
-      let own_read = segment_read page t own offset p is in
+      let own_read = segment_read t.0 page t.1 own offset p is in
       record {
         reads = own_read.reads
             ∙ ap (λ (s : Stop). record { entries = own.entries; skipped = own.skipped; stop = s }) (e ∙ sym h);
@@ -134,20 +137,20 @@ module _ (page : ℕ) (p : 0 < page) where
       }
   last_read n t (u ∷ us) own offset between stop e is h = absurd h
   last_read n t (u ∷ us) own offset inside stop e is h =
-      let own_read = segment_read page t own offset p is in
-      let s : (segment page t).stop ≡ inside = ap (λ (x : Reading). x.stop) own_read.reads ∙ e in
+      let own_read = segment_read t.0 page t.1 own offset p is in
+      let s : (segment_in t.0 page t.1).stop ≡ inside = ap (λ (x : Reading). x.stop) own_read.reads ∙ e in
       record {
         reads =
             ap (λ (x : Reading). then_next x (log_reading page (u ∷ us))) own_read.reads
             ∙ ap (λ (x : Stop). then_after x own (log_reading page (u ∷ us))) e
             ∙ ap (λ (x : Stop). record { entries = own.entries; skipped = own.skipped; stop = x }) (sym h);
         stops_at =
-            ap (λ (x : Stop). place_then x n (stop_offset page t) (log_stop page (n + 1) (u ∷ us))) s
+            ap (λ (x : Stop). place_then x n (stop_offset_in t.0 page t.1) (log_stop page (n + 1) (u ∷ us))) s
             ∙ ap (λ (k : ℕ). record { segment = n; offset = k }) own_read.stops_at;
       }
   last_read n t (u ∷ us) own offset (at_fault f) stop e is h =
-      let own_read = segment_read page t own offset p is in
-      let s : (segment page t).stop ≡ at_fault f =
+      let own_read = segment_read t.0 page t.1 own offset p is in
+      let s : (segment_in t.0 page t.1).stop ≡ at_fault f =
       ap (λ (x : Reading). x.stop) own_read.reads ∙ e in
       record {
         reads =
@@ -155,12 +158,12 @@ module _ (page : ℕ) (p : 0 < page) where
             ∙ ap (λ (x : Stop). then_after x own (log_reading page (u ∷ us))) e
             ∙ ap (λ (x : Stop). record { entries = own.entries; skipped = own.skipped; stop = x }) (e ∙ sym h);
         stops_at =
-            ap (λ (x : Stop). place_then x n (stop_offset page t) (log_stop page (n + 1) (u ∷ us))) s
+            ap (λ (x : Stop). place_then x n (stop_offset_in t.0 page t.1) (log_stop page (n + 1) (u ∷ us))) s
             ∙ ap (λ (k : ℕ). record { segment = n; offset = k }) own_read.stops_at;
       }
 
-  wholes_read : (n : ℕ) (whole : List (List ℕ)) (rs : List Reading) (t : List ℕ)
-      (later : List (List ℕ)) (r : Reading) (offset : ℕ) → AllEndBetween page whole rs
+  wholes_read : (n : ℕ) (whole : List SegmentText) (rs : List Reading) (t : SegmentText)
+      (later : List SegmentText) (r : Reading) (offset : ℕ) → AllEndBetween page whole rs
       → AreReadAs page (n + length whole) (t ∷ later) r (record { segment = n + length whole; offset = offset })
       → AreReadAs page n (whole ++ t ∷ later) (after_all rs r) (record { segment = n + length whole; offset = offset })
   wholes_read n [] [] t later r offset is h =
@@ -181,7 +184,7 @@ module _ (page : ℕ) (p : 0 < page) where
       subst (λ (q : Reading). AreReadAs page n (w ∷ (ws ++ t ∷ later)) q (record { segment = (n + 1) + length ws; offset = offset })) (after_all-cons x rs r) y in
       subst (λ (k : ℕ). AreReadAs page n (w ∷ (ws ++ t ∷ later)) (after_all (x ∷ rs) r) (record { segment = k; offset = offset })) (sym m) z
 
-  texts_read : (texts : List (List ℕ)) (r : Reading) (place : FaultPlace)
+  texts_read : (texts : List SegmentText) (r : Reading) (place : FaultPlace)
       → IsLog page texts r place → AreReadAs page 0 texts r place
   texts_read texts r place is =
       let n : 0 + length is.whole ≡ place.segment = omega (arith, is.number) in
@@ -200,12 +203,12 @@ module _ (page : ℕ) (p : 0 < page) where
 
   -- ---- each log is laid out
 
-  record LogIsLaidOut (texts : List (List ℕ)) : Type 0 where
+  record LogIsLaidOut (texts : List SegmentText) : Type 0 where
     reading : Reading
     place : FaultPlace
     is : IsLog page texts reading place
 
-  stops_in : (t : List ℕ) (later : List (List ℕ)) (own : IsLaidOut page t) (stop : Stop)
+  stops_in : (t : SegmentText) (later : List SegmentText) (own : IsLaidOut t.0 page t.1) (stop : Stop)
       → LogStops later own.reading.stop stop → LogIsLaidOut (t ∷ later)
   stops_in t later own stop h = record {
     reading = record { entries = own.reading.entries; skipped = own.reading.skipped; stop = stop };
@@ -226,7 +229,7 @@ module _ (page : ℕ) (p : 0 < page) where
     };
   }
 
-  goes_on : (t : List ℕ) (l : List (List ℕ)) (own : IsLaidOut page t) → own.reading.stop ≡ between
+  goes_on : (t : SegmentText) (l : List SegmentText) (own : IsLaidOut t.0 page t.1) → own.reading.stop ≡ between
       → LogIsLaidOut l → LogIsLaidOut (t ∷ l)
   goes_on t l own e rest = record {
     reading = after_whole own.reading.entries own.reading.skipped rest.reading;
@@ -235,7 +238,7 @@ module _ (page : ℕ) (p : 0 < page) where
       whole = t ∷ rest.is.whole;
       text = rest.is.text;
       later = rest.is.later;
-      parts = ap (λ (x : List (List ℕ)). t ∷ x) rest.is.parts;
+      parts = ap (λ (x : List SegmentText). t ∷ x) rest.is.parts;
       number = omega (arith, rest.is.number);
       readings = own.reading ∷ rest.is.readings;
       are_whole = ((own.offset, own.is, e), rest.is.are_whole);
@@ -253,15 +256,15 @@ module _ (page : ℕ) (p : 0 < page) where
     };
   }
 
-  by_stop : (t u : List ℕ) (us : List (List ℕ)) (own : IsLaidOut page t) (stop : Stop)
+  by_stop : (t u : SegmentText) (us : List SegmentText) (own : IsLaidOut t.0 page t.1) (stop : Stop)
       → own.reading.stop ≡ stop → LogIsLaidOut (u ∷ us) → LogIsLaidOut (t ∷ u ∷ us)
   by_stop t u us own between e rest = goes_on t (u ∷ us) own e rest
   by_stop t u us own inside e rest = stops_in t (u ∷ us) own (at_fault TornSegment) (subst (λ (s : Stop). LogStops (u ∷ us) s (at_fault TornSegment)) (sym e) refl)
   by_stop t u us own (at_fault f) e rest = stops_in t (u ∷ us) own (at_fault f) (subst (λ (s : Stop). LogStops (u ∷ us) s (at_fault f)) (sym e) refl)
 
-  texts_are_laid_out : (t : List ℕ) (ts : List (List ℕ)) → LogIsLaidOut (t ∷ ts)
-  texts_are_laid_out t [] = let own = segment_is_laid_out page t p in stops_in t [] own own.reading.stop refl
-  texts_are_laid_out t (u ∷ us) = let own = segment_is_laid_out page t p in by_stop t u us own own.reading.stop refl (texts_are_laid_out u us)
+  texts_are_laid_out : (t : SegmentText) (ts : List SegmentText) → LogIsLaidOut (t ∷ ts)
+  texts_are_laid_out t [] = let own = segment_is_laid_out t.0 page t.1 p in stops_in t [] own own.reading.stop refl
+  texts_are_laid_out t (u ∷ us) = let own = segment_is_laid_out t.0 page t.1 p in by_stop t u us own own.reading.stop refl (texts_are_laid_out u us)
 
 -- ---- both ways
 
@@ -270,21 +273,21 @@ abbrev pub LogReads : ℕ → List Piece → Reading → FaultPlace → Type 0
 LogReads page ps r place = (reading_after page [] ps ≡ r) × (stop_after page 0 [] ps ≡ place)
 
 pub log_read : (page : ℕ) (ps : List Piece) (r : Reading) (place : FaultPlace) → 0 < page
-    → IsLog page (segments_after [] ps) r place → LogReads page ps r place
+    → IsLog page (segments_after (false, []) ps) r place → LogReads page ps r place
 log_read page ps r place p is =
-    let x = texts_read page p (segments_after [] ps) r place is in
-    (after_reads page [] ps ∙ x.reads, after_stops page 0 [] ps ∙ x.stops_at)
+    let x = texts_read page p (segments_after (false, []) ps) r place is in
+    (after_reads page (false, []) ps ∙ x.reads, after_stops page 0 (false, []) ps ∙ x.stops_at)
 
 pub log_laid_out : (page : ℕ) (ps : List Piece) (r : Reading) (place : FaultPlace) → 0 < page
-    → LogReads page ps r place → IsLog page (segments_after [] ps) r place
+    → LogReads page ps r place → IsLog page (segments_after (false, []) ps) r place
 log_laid_out page ps r place p h =
-    let c = after_cons [] ps in
+    let c = after_cons (false, []) ps in
     let x = texts_are_laid_out page p c.0 c.1 in
-    let is = subst (λ (l : List (List ℕ)). IsLog page l x.reading x.place) (sym c.2) x.is in
+    let is = subst (λ (l : List SegmentText). IsLog page l x.reading x.place) (sym c.2) x.is in
     let read = log_read page ps x.reading x.place p is in
     let same : x.reading ≡ r = sym read.0 ∙ h.0 in
     let there : x.place ≡ place = sym read.1 ∙ h.1 in
-    subst (λ (z : FaultPlace). IsLog page (segments_after [] ps) r z) there (subst (λ (z : Reading). IsLog page (segments_after [] ps) z x.place) same is)
+    subst (λ (z : FaultPlace). IsLog page (segments_after (false, []) ps) r z) there (subst (λ (z : Reading). IsLog page (segments_after (false, []) ps) z x.place) same is)
 
 -- ---- the first fault
 

@@ -149,7 +149,7 @@ takes_to_fault t at new before now f said h is plain says = record {
   all = λ taken g. (subst (λ (s : Said). TakesNext (taken ++ h.more) s new) is (says (taken ++ h.more) (h.has taken g))).1 plain;
 }
 
--- a fault of the log that was answered is told
+-- a fault of the log that was answered is the one that is seen
 told_after : (t : Fed) (f : TailFault) → is_out_of_memory f ≡ false → (after_answer t (Err f)).fault ≡ Some f
 unfolding after_answer
 told_after t OutOfMemory plain = absurd cc

@@ -52,6 +52,7 @@ abbrev pub size_of : List pieces.Piece → ℕ
 size_of [] = 0
 size_of (pieces.bytes b ∷ ps) = length b + size_of ps
 size_of (pieces.next_segment ∷ ps) = 1 + size_of ps
+size_of (pieces.may_compress ∷ ps) = size_of ps
 
 -- a piece, as the grammar has it
 abbrev pub piece_of : Piece → pieces.Piece
@@ -61,3 +62,4 @@ piece_of piece.NextSegment = pieces.next_segment
 abbrev pub told_of : Told → pieces.Piece
 told_of (told.Bytes b) = pieces.bytes b
 told_of told.NextSegment = pieces.next_segment
+told_of told.MayCompress = pieces.may_compress

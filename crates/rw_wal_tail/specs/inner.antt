@@ -1,3 +1,4 @@
+pub mod Decoding
 pub mod Fed
 pub mod Form
 pub mod Found

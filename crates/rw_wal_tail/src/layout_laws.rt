@@ -1,9 +1,9 @@
 //! Laws of the log's layout. Each function has an empty body: its contract is the law.
 
-ghost use Rattle.std.specs.Prelude.{◌≡◌, ◌↔◌, ℕ, ◌<◌, ◌^◌, List, [], ◌∷◌, Some};
+ghost use Rattle.std.specs.Prelude.{◌≡◌, ◌↔◌, ℕ, ◌<◌, ◌^◌, Bool, true, false, List, [], ◌∷◌, Some};
 ghost use Rattle.rw_types.specs.declared.entry.Entry.{Entry};
 ghost use Rattle.rw_types.specs.declared.entry.Entry.TheVariants.{Def};
-ghost use Rattle.rw_wal_format.specs.Segments.{Item, item_at, between, inside, at_fault, Reading, segment};
+ghost use Rattle.rw_wal_format.specs.Segments.{Item, item_in, between, inside, at_fault, Reading, segment_in};
 ghost use Rattle.rw_wal_format.specs.Pieces.{Piece, reading, entries, fault};
 ghost use Rattle.rw_wal_format.specs.Laws.{AreRecords, log_all, reading_of_records};
 ghost use Rattle.rw_wal_format.specs.declared.skipped_type.SkippedType.TheVariants.{Unknown};
@@ -11,7 +11,7 @@ ghost use Rattle.rw_wal_format.specs.declared.tail_fault.TailFault.{TailFault};
 ghost use Rattle.rw_wal_format.specs.declared.tail_fault.TailFault.TheVariants.{BadCrc, Sequence};
 ghost use Rattle.rw_wal_format.specs.declared.tail_fault.TailFault.TheVariants.{NonzeroPadding};
 ghost use Rattle.rw_wal_format.specs.declared.tail_fault.TailFault.TheVariants.{TornSegment};
-ghost use Rattle.rw_wal_tail.specs.Places.{stop_offset, stop_after, fault_place};
+ghost use Rattle.rw_wal_tail.specs.Places.{stop_offset_in, stop_after, fault_place};
 ghost use Rattle.rw_wal_tail.specs.declared.place.FaultPlace.{FaultPlace};
 ghost use Rattle.rw_wal_tail.specs.LayoutExamples as examples;
 ghost use Rattle.rw_wal_tail.specs.LayoutItems.{IsItem};
@@ -20,15 +20,15 @@ ghost use Rattle.rw_wal_tail.specs.LayoutLog.{segments_of, IsLog, HasEntries, Ha
 
 /// Law: at each place of a segment the reader's definition finds exactly the item that is there.
 pub fn items_are_read()
-    ensures { (left : ℕ) (text : List ℕ) (item : Item) → 0 < left
-        → (item_at left text ≡ item) ↔ IsItem left text item }
+    ensures { (c : Bool) (left : ℕ) (text : List ℕ) (item : Item) → 0 < left
+        → (item_in c left text ≡ item) ↔ IsItem c left text item }
 {}
 
 /// Law: a segment's text is read exactly as it is laid out, and reading stops at the same offset.
 pub fn segments_are_read()
-    ensures { (page : ℕ) (text : List ℕ) (outcome : Reading) (offset : ℕ) → 0 < page
-        → ((segment page text ≡ outcome) × (stop_offset page text ≡ offset))
-        ↔ IsSegment page text outcome offset }
+    ensures { (c : Bool) (page : ℕ) (text : List ℕ) (outcome : Reading) (offset : ℕ) → 0 < page
+        → ((segment_in c page text ≡ outcome) × (stop_offset_in c page text ≡ offset))
+        ↔ IsSegment c page text outcome offset }
 {}
 
 /// Law: a log is read exactly as its segments are laid out, and reading stops at the same place.
@@ -56,24 +56,25 @@ pub fn faults_are_first()
 pub fn written_records_are_laid_out()
     ensures { (page : ℕ) (records : List (List ℕ)) → 7 < page → page < 2 ^ 16 → AreRecords records
         → (offset : ℕ)
-        × IsSegment page (log_all page 0 records) (reading_of_records records) offset }
+        × IsSegment false page (log_all page 0 records) (reading_of_records records) offset }
 {}
 
 /// Law: small segments have the layout that the format gives them, up to these offsets.
 pub fn examples_are_laid_out()
-    ensures flushed_page { IsSegment 32 examples.flushed_page
+    ensures flushed_page { IsSegment false 32 examples.flushed_page
         (record { entries = Def 7 [] ∷ []; skipped = []; stop = between }) 46 }
-    ensures no_room { IsSegment 14 examples.no_room_for_a_header
+    ensures no_room { IsSegment false 14 examples.no_room_for_a_header
         (record { entries = []; skipped = Unknown ∷ []; stop = between }) 22 }
-    ensures open { IsSegment 32 examples.begins_while_open
+    ensures open { IsSegment false 32 examples.begins_while_open
         (record { entries = []; skipped = Unknown ∷ []; stop = at_fault Sequence }) 23 }
-    ensures padding { IsSegment 32 examples.byte_in_empty_rest
+    ensures padding { IsSegment false 32 examples.byte_in_empty_rest
         (record { entries = []; skipped = Unknown ∷ []; stop = at_fault NonzeroPadding }) 8 }
-    ensures crc { IsSegment 32 examples.changed_crc
+    ensures crc { IsSegment false 32 examples.changed_crc
         (record { entries = []; skipped = Unknown ∷ []; stop = at_fault BadCrc }) 8 }
-    ensures header { IsSegment 32 examples.begun_header
+    ensures header { IsSegment false 32 examples.begun_header
         (record { entries = []; skipped = []; stop = inside }) 8 }
-    ensures torn { IsLog 32 (examples.open_record ∷ examples.flushed_page ∷ [])
+    ensures torn { IsLog 32
+        ((false, examples.open_record) ∷ (false, examples.flushed_page) ∷ [])
         (record { entries = []; skipped = []; stop = at_fault TornSegment })
         (record { segment = 0; offset = 15 }) }
 {}

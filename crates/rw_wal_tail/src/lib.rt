@@ -8,6 +8,7 @@
 //! for as many bytes again as are not read yet, for the data of a record in fragments.
 #![tactic(auto)]
 
+mod decoder;
 mod form;
 mod input;
 mod item;

@@ -16,4 +16,5 @@ pub enum Piece {
 pub(crate) enum Told {
     Bytes(History<u8>),
     NextSegment,
+    MayCompress,
 }

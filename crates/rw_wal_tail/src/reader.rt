@@ -1,6 +1,6 @@
 //! The steps in which a log is read.
 
-ghost use Rattle.std.specs.Prelude.{◌≡◌, ◌⊎◌, ℕ, vec_capacity, ◌+◌, ◌<◌, ◌≤◌, ◌^◌, [], ◌∷◌, true, length, drop, take, MatchResult, IfOk, OnOk, OnErr};
+ghost use Rattle.std.specs.Prelude.{◌≡◌, ◌⊎◌, ℕ, vec_capacity, ◌+◌, ◌<◌, ◌≤◌, ◌^◌, [], ◌∷◌, true, false, length, drop, take, MatchResult, IfOk, OnOk, OnErr};
 ghost use Rattle.rw_wal_format.specs.Records as grammar;
 ghost use Rattle.rw_wal_format.specs.Segments.{left_after, full, first, middle, last};
 ghost use Rattle.rw_wal_format.specs.Pieces.{page_size, bytes, next_segment};
@@ -8,9 +8,10 @@ ghost use Rattle.rw_wal_tail.specs.declared.reader.Step.TheVariants.{Failed};
 ghost use Rattle.rw_wal_format.specs.Types.{kind_of};
 ghost use Rattle.rw_wal_tail.specs.inner.Held.{passed, can_count};
 ghost use Rattle.rw_wal_tail.specs.inner.Placed.{front_of};
-ghost use Rattle.rw_wal_tail.specs.inner.Steps.{Same, Takes, Stepped, PausesAt, FoundAt, FoundFragment, IsReader, IsUnfed, IsRead, Ran, is_failed_by, IsKept, MayLack};
-ghost use Rattle.rw_wal_tail.specs.inner.Form.{HasEntries};
+ghost use Rattle.rw_wal_tail.specs.inner.Steps.{Same, Takes, Stepped, PausesAt, FoundAt, FoundFragment, IsReader, IsUnfed, IsRead, IsTextRead, Ran, compresses, is_failed_by, IsKept, MayLack};
+ghost use Rattle.rw_wal_tail.specs.inner.Form.{HasEntries, StoresEntries};
 
+use crate::decoder::Decoder;
 use crate::form::is_record;
 use crate::input::{COUNT_END, Input, copy_of};
 use crate::item::{Found, item};
@@ -36,6 +37,9 @@ pub(crate) struct Reader {
     /// `feed` reserves it.
     pub(crate) begun: Vec<u8>,
     pub(crate) is_open: bool,
+    /// Whether the record that is open is a Snappy block.
+    pub(crate) is_block: bool,
+    pub(crate) decoder: Decoder,
     pub(crate) ready: VecDeque<Entry>,
     /// The skipped records.
     pub(crate) passed: Skips,
@@ -67,16 +71,17 @@ fn fragment_data(bytes: &[u8], len: usize) -> &[u8]
     &data[..len]
 }
 
-/// Reads a whole record into the queue. Returns `false` if it is malformed, which is judged before
-/// memory is taken.
-fn read_whole(
+/// Reads what a record holds into the queue. Returns `false` if it is malformed, which is judged
+/// before memory is taken.
+fn read_text(
     alloc: Global,
     bytes: &[u8],
     ready: &mut VecDeque<Entry>,
     passed: &mut Skips,
 ) -> Result<bool, AllocError>
     requires { length passed.old < 2 ^ 60 }
-    ensures ok { IfOk result (λ b. IsRead bytes.now passed.old ready.new.items passed.new b) }
+    ensures ok { IfOk result
+        (λ b. IsTextRead bytes.now passed.old ready.new.items passed.new b) }
     ensures err { OnErr result ((ready.new.items ≡ []) × (passed.new ≡ passed.old)) }
     ensures count { length passed.new < 2 ^ 60 }
     ensures certain { OnErr result (HasEntries bytes.now ⊎ (2 ^ 60 ≤ length passed.old + 1)) }
@@ -104,6 +109,36 @@ fn read_whole(
     }
 }
 
+/// Reads a whole record into the queue. Returns `false` if it is a Snappy block that cannot be
+/// decoded, or if it is malformed.
+fn read_whole(
+    alloc: Global,
+    is_block: bool,
+    data: &[u8],
+    decoder: &mut Decoder,
+    ready: &mut VecDeque<Entry>,
+    passed: &mut Skips,
+) -> Result<bool, AllocError>
+    requires decodes { is_block ≡ true → decoder.old.ready ≡ true }
+    requires few { length passed.old < 2 ^ 60 }
+    ensures ok { IfOk result
+        (λ b. IsRead (is_block, data.now) passed.old ready.new.items passed.new b) }
+    ensures err { OnErr result ((ready.new.items ≡ []) × (passed.new ≡ passed.old)) }
+    ensures count { length passed.new < 2 ^ 60 }
+    ensures certain { OnErr result
+        (StoresEntries (is_block, data.now) ⊎ (2 ^ 60 ≤ length passed.old + 1)) }
+    ensures same_decoder { decoder.new.ready ≡ decoder.old.ready }
+{
+    if !is_block {
+        return read_text(alloc, data, ready, passed);
+    }
+    if !decoder.decode(data) {
+        ready.clear();
+        return Ok(false);
+    }
+    read_text(alloc, decoder.text(), ready, passed)
+}
+
 /// Returns a copy of the bytes, with room for `more` bytes.
 fn copy_with_room(alloc: Global, bytes: &[u8], more: usize) -> Result<Vec<u8>, AllocError>
     ensures items { IfOk result (λ v. v.items ≡ bytes.now) }
@@ -128,7 +163,24 @@ fn copy_ready(alloc: Global, ready: &VecDeque<Entry>) -> Result<VecDeque<Entry>,
 impl Reader {
     pub(crate) fn new(alloc: Global) -> Reader
         ensures reader { IsReader result }
-        ensures unfed { IsUnfed result }
+        ensures unfed { IsUnfed false result }
+        ensures kept { IsKept 0 result }
+    {
+        Reader::with_decoder(alloc, Decoder::none(alloc))
+    }
+
+    /// Returns a reader of a log that may have Snappy blocks.
+    pub(crate) fn for_compressed(alloc: Global) -> Result<Reader, AllocError>
+        ensures reader { IfOk result (λ r. IsReader r) }
+        ensures unfed { IfOk result (λ r. IsUnfed true r) }
+        ensures kept { IfOk result (λ r. IsKept 0 r) }
+    {
+        Ok(Reader::with_decoder(alloc, Decoder::for_blocks(alloc)?))
+    }
+
+    fn with_decoder(alloc: Global, decoder: Decoder) -> Reader
+        ensures reader { IsReader result }
+        ensures unfed { IsUnfed decoder.ready result }
         ensures kept { IsKept 0 result }
     {
         Reader {
@@ -138,6 +190,8 @@ impl Reader {
             zeros: 0,
             begun: Vec::new(alloc),
             is_open: false,
+            is_block: false,
+            decoder,
             ready: VecDeque::new(alloc),
             passed: Skips::new(),
             fault: None,
@@ -209,8 +263,8 @@ impl Reader {
     }
 
     /// Takes the first fragment of a record.
-    fn first(&mut self, len: usize) -> Result<Step, AllocError>
-        requires { FoundAt first len self.old }
+    fn first(&mut self, is_block: bool, len: usize) -> Result<Step, AllocError>
+        requires { FoundAt is_block first len self.old }
         ensures same { Same self.old self.new }
         ensures stepped { MatchResult result (λ s. Stepped s self.old self.new)
             (λ _. self.new.ready.items ≡ []) }
@@ -221,13 +275,14 @@ impl Reader {
         self.begun
             .extend_from_slice(fragment_data(self.input.rest(), len))?;
         self.is_open = true;
+        self.is_block = is_block;
         self.advance(len);
         Ok(Step::More)
     }
 
     /// Takes a fragment in the middle of a record.
     fn middle(&mut self, len: usize) -> Result<Step, AllocError>
-        requires { FoundAt middle len self.old }
+        requires { FoundAt self.old.is_block middle len self.old }
         ensures same { Same self.old self.new }
         ensures stepped { MatchResult result (λ s. Stepped s self.old self.new)
             (λ _. self.new.ready.items ≡ []) }
@@ -241,8 +296,8 @@ impl Reader {
     }
 
     /// Takes a record in one fragment.
-    fn full(&mut self, len: usize) -> Result<Step, AllocError>
-        requires { FoundAt full len self.old }
+    fn full(&mut self, is_block: bool, len: usize) -> Result<Step, AllocError>
+        requires { FoundAt is_block full len self.old }
         ensures same { Same self.old self.new }
         ensures stepped { MatchResult result (λ s. Stepped s self.old self.new)
             (λ _. self.new.ready.items ≡ []) }
@@ -250,7 +305,14 @@ impl Reader {
         ensures certain { (n : ℕ) → IsKept n self.old → OnErr result (MayLack n self.new) }
     {
         let data = fragment_data(self.input.rest(), len);
-        if !read_whole(self.alloc, data, &mut self.ready, &mut self.passed)? {
+        if !read_whole(
+            self.alloc,
+            is_block,
+            data,
+            &mut self.decoder,
+            &mut self.ready,
+            &mut self.passed,
+        )? {
             return Ok(self.fail(TailFault::BadRecord));
         }
         self.advance(len);
@@ -259,7 +321,7 @@ impl Reader {
 
     /// Takes the last fragment of a record.
     fn last(&mut self, len: usize) -> Result<Step, AllocError>
-        requires { FoundAt last len self.old }
+        requires { FoundAt self.old.is_block last len self.old }
         ensures same { Same self.old self.new }
         ensures stepped { MatchResult result (λ s. Stepped s self.old self.new)
             (λ _. self.new.ready.items ≡ []) }
@@ -271,7 +333,9 @@ impl Reader {
             .extend_from_slice(fragment_data(self.input.rest(), len))?;
         match read_whole(
             self.alloc,
+            self.is_block,
             self.begun.as_slice(),
+            &mut self.decoder,
             &mut self.ready,
             &mut self.passed,
         ) {
@@ -291,8 +355,13 @@ impl Reader {
     }
 
     /// Takes the fragment at the front.
-    fn fragment(&mut self, kind: FragmentType, len: usize) -> Result<Step, AllocError>
-        requires { FoundFragment (kind_of kind) len self.old }
+    fn fragment(
+        &mut self,
+        kind: FragmentType,
+        is_block: bool,
+        len: usize,
+    ) -> Result<Step, AllocError>
+        requires { FoundFragment is_block (kind_of kind) len self.old }
         ensures same { Same self.old self.new }
         ensures stepped { MatchResult result (λ s. Stepped s self.old self.new)
             (λ _. self.new.ready.items ≡ []) }
@@ -300,6 +369,9 @@ impl Reader {
         ensures certain { (n : ℕ) → IsKept n self.old → OnErr result (MayLack n self.new) }
     {
         if self.is_open {
+            if self.is_block != is_block {
+                return Ok(self.fail(TailFault::Sequence));
+            }
             match kind {
                 FragmentType::Full => Ok(self.fail(TailFault::Sequence)),
                 FragmentType::First => Ok(self.fail(TailFault::Sequence)),
@@ -308,8 +380,8 @@ impl Reader {
             }
         } else {
             match kind {
-                FragmentType::Full => self.full(len),
-                FragmentType::First => self.first(len),
+                FragmentType::Full => self.full(is_block, len),
+                FragmentType::First => self.first(is_block, len),
                 FragmentType::Middle => Ok(self.fail(TailFault::Sequence)),
                 FragmentType::Last => Ok(self.fail(TailFault::Sequence)),
             }
@@ -351,7 +423,12 @@ impl Reader {
         if !self.input.can_count() {
             return Err(AllocError);
         }
-        match item(self.left, self.zeros, self.input.rest()) {
+        match item(
+            self.decoder.is_ready(),
+            self.left,
+            self.zeros,
+            self.input.rest(),
+        ) {
             Found::Nothing => {
                 self.zeros = self.input.rest().len();
                 Ok(self.pause(self.is_open))
@@ -363,7 +440,7 @@ impl Reader {
                 self.zeros = 0;
                 Ok(Step::More)
             }
-            Found::Fragment(kind, len) => self.fragment(kind, len),
+            Found::Fragment(kind, is_block, len) => self.fragment(kind, is_block, len),
             Found::Wrong(fault) => Ok(self.fail(fault)),
         }
     }
@@ -422,6 +499,8 @@ impl Reader {
             zeros: self.zeros,
             begun: copy_with_room(self.alloc, &self.begun, unread)?,
             is_open: self.is_open,
+            is_block: self.is_block,
+            decoder: self.decoder.copy(self.alloc)?,
             ready: copy_ready(self.alloc, &self.ready)?,
             passed: self.passed.again(),
             fault: self.fault,

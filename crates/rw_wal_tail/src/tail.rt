@@ -3,7 +3,7 @@
 ghost use Rattle.std.specs.Prelude.{◌≡◌, ◌⊎◌, ◌≤◌, ◌<◌, ◌^◌, List, [], ◌∷◌, ◌++◌, length, Err, Some, None, IfOk, OnOk, OnErr};
 ghost use Rattle.rw_types.specs.declared.entry.Entry.{Entry};
 ghost use Rattle.rw_wal_format.specs.Laws.{Extends};
-ghost use Rattle.rw_wal_format.specs.Pieces.{bytes, next_segment, entries, fault, page_size, reading};
+ghost use Rattle.rw_wal_format.specs.Pieces.{bytes, next_segment, may_compress, entries, fault, page_size, reading};
 ghost use Rattle.rw_wal_format.specs.Skipped.{count_of};
 ghost use Rattle.rw_wal_format.specs.declared.tail_fault.TailFault.{TailFault};
 ghost use Rattle.rw_wal_format.specs.declared.tail_fault.TailFault.TheVariants.{OutOfMemory};
@@ -81,6 +81,27 @@ impl Tail {
             skipped: Skips::new(),
             told: None,
         }
+    }
+
+    /// Returns a reader at the start of a log that may have records that are Snappy blocks, as
+    /// Prometheus writes them by default. It takes memory for one decoded record, `MOST_DECODED`
+    /// bytes, so that no fault and no end of the log waits for memory later.
+    pub fn for_compressed(alloc: Global) -> Result<Tail, AllocError>
+        ensures new { IfOk result (λ t. t
+            ≡ record { pieces = may_compress ∷ []; given = 0; skipped = []; fault = None }) }
+        ensures taken { IfOk result (λ t. HasTaken t []) }
+    {
+        let reader = Reader::for_compressed(alloc)?;
+        let mut pieces = History::new();
+        pieces.push(&Told::MayCompress);
+        Ok(Tail {
+            reader,
+            pieces,
+            given: History::new(),
+            count: 0,
+            skipped: Skips::new(),
+            told: None,
+        })
     }
 
     /// Takes more bytes of the current segment, cut anywhere. An `Err` changes nothing; it is also

@@ -62,14 +62,22 @@ fn with_target(settings: Settings, named: Named) -> Settings
       };
     } }
 {
-    let Settings { config, limits } = settings;
+    let Settings {
+        config,
+        limits,
+        may_compress,
+    } = settings;
     let mut fields = config.into_fields();
     fields.target.host = named.authority;
     if let Some(path) = named.path {
         fields.target.path = path;
     }
     match Config::new(fields) {
-        Some(config) => Settings { config, limits },
+        Some(config) => Settings {
+            config,
+            limits,
+            may_compress,
+        },
         None => unreachable!(),
     }
 }

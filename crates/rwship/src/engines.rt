@@ -4,9 +4,9 @@ use crate::explanations::InputRun;
 use crate::input::{Form, Input};
 use crate::inspect_command::LogCommand;
 use crate::program_end::{report_settings_fault, report_unread_input};
-use crate::settings::settings_in;
+use crate::settings::{dir_with, settings_in};
 use rw_cli::{LogDir, SettingsFile};
-use rw_log_commands::{run_body, run_log, run_log_dir, run_plan};
+use rw_log_commands::{run_body_with, run_log, run_log_dir, run_plan_with};
 use rw_replay::run_replay;
 use rw_settings::Settings;
 use rw_text::ToolFault;
@@ -47,9 +47,15 @@ impl<'a> InputCommand<'a> {
     }
 
     /// Writes the body of a segment.
-    fn body(&mut self, hex: bool) -> ExitCode {
+    fn body(&mut self, hex: bool, may_compress: bool) -> ExitCode {
         let mut reader = self.input.reader(self.rt);
-        let outcome = run_body(self.rt.alloc(), &mut reader, &mut self.output, hex);
+        let outcome = run_body_with(
+            self.rt.alloc(),
+            &mut reader,
+            &mut self.output,
+            hex,
+            may_compress,
+        );
         self.end(None, outcome)
     }
 
@@ -66,14 +72,15 @@ impl<'a> InputCommand<'a> {
     }
 
     /// Prints the plan of a segment.
-    fn plan(&mut self, settings: Settings, hex: bool) -> ExitCode {
+    fn plan(&mut self, settings: Settings, hex: bool, may_compress: bool) -> ExitCode {
         let mut reader = self.input.reader(self.rt);
-        let outcome = run_plan(
+        let outcome = run_plan_with(
             self.rt.alloc(),
             &mut reader,
             &mut self.output,
             settings,
             hex,
+            may_compress,
         );
         self.end(None, outcome)
     }
@@ -87,9 +94,10 @@ impl<'a> InputCommand<'a> {
 }
 
 /// Writes the body of the segment on standard input.
-pub fn body(rt: &HostRuntime, hex: bool, is_explained: bool) -> ExitCode {
-    match InputCommand::open(rt, Form::of_segment(hex), is_explained) {
-        Ok(mut command) => command.body(hex),
+pub fn body(rt: &HostRuntime, hex: bool, may_compress: bool, is_explained: bool) -> ExitCode {
+    let form = Form::of_segment(hex, may_compress);
+    match InputCommand::open(rt, form, is_explained) {
+        Ok(mut command) => command.body(hex, may_compress),
         Err(status) => status,
     }
 }
@@ -114,6 +122,7 @@ pub fn plan(
     rt: &HostRuntime,
     file: SettingsFile<'_>,
     hex: bool,
+    may_compress: bool,
     dir: Option<LogDir<'_>>,
 ) -> ExitCode {
     let settings = match settings_in(rt, file) {
@@ -121,11 +130,14 @@ pub fn plan(
         Err(fault) => return report_settings_fault(rt, fault),
     };
     let Some(dir) = dir else {
-        return match InputCommand::open(rt, Form::of_segment(hex), file.is_explained) {
-            Ok(mut command) => command.plan(settings, hex),
+        let may_compress = may_compress || settings.may_compress;
+        let form = Form::of_segment(hex, may_compress);
+        return match InputCommand::open(rt, form, file.is_explained) {
+            Ok(mut command) => command.plan(settings, hex, may_compress),
             Err(status) => status,
         };
     };
+    let dir = dir_with(dir, &settings);
     LogCommand::new(rt, dir, file.is_explained).plan(settings)
 }
 

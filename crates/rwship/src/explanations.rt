@@ -32,8 +32,8 @@ impl<'a> InputRun<'a> {
     }
 
     /// Prints where a segment is damaged.
-    fn print_segment_damage(&self, segment: &[u8]) -> Result<(), ToolFault> {
-        let report = inspect_segment(self.rt, Reader::Held(segment))?;
+    fn print_segment_damage(&self, segment: &[u8], may_compress: bool) -> Result<(), ToolFault> {
+        let report = inspect_segment(self.rt, Reader::Held(segment), may_compress)?;
         Ok(print_damage(self.rt, &report)?)
     }
 
@@ -41,7 +41,7 @@ impl<'a> InputRun<'a> {
     fn note_of(&self, line: &[u8]) -> Result<&'static str, AllocError> {
         let alloc = self.rt.alloc();
         match self.input.form {
-            Form::Segment | Form::Digits => Ok(NO_DIGITS),
+            Form::Segment { .. } | Form::Digits { .. } => Ok(NO_DIGITS),
             Form::LogText => Ok(log_line_note(alloc, line)?.unwrap_or("")),
             Form::Script => Ok(script_line_note(alloc, line)?.unwrap_or(MIXED)),
         }
@@ -61,10 +61,12 @@ impl<'a> InputRun<'a> {
     fn print_input_fault(&self, text: &[u8], fault: ToolFault) -> Result<(), ToolFault> {
         match fault {
             ToolFault::Log(_) => match self.input.form {
-                Form::Digits => {
-                    self.print_segment_damage(&rw_text::read_hex(self.rt.alloc(), text)?)
+                Form::Digits { may_compress } => {
+                    let segment = rw_text::read_hex(self.rt.alloc(), text)?;
+                    self.print_segment_damage(&segment, may_compress)
                 }
-                _ => self.print_segment_damage(text),
+                Form::Segment { may_compress } => self.print_segment_damage(text, may_compress),
+                Form::LogText | Form::Script => Ok(()),
             },
             ToolFault::Line(number) => {
                 if let Some(line) = numbered_line(text, number) {

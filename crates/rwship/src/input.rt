@@ -7,17 +7,22 @@ use std::rt::Stdin;
 /// What a command expects on standard input.
 #[derive(Clone, Copy)]
 pub enum Form {
-    Segment,
-    /// A segment in hexadecimal digits.
-    Digits,
+    /// A segment, whose records may be Snappy blocks if `may_compress` says so.
+    Segment { may_compress: bool },
+    /// The same in hexadecimal digits.
+    Digits { may_compress: bool },
     LogText,
     Script,
 }
 
 impl Form {
     /// Returns the form of a segment, in digits or not.
-    pub fn of_segment(hex: bool) -> Form {
-        if hex { Form::Digits } else { Form::Segment }
+    pub fn of_segment(hex: bool, may_compress: bool) -> Form {
+        if hex {
+            Form::Digits { may_compress }
+        } else {
+            Form::Segment { may_compress }
+        }
     }
 }
 

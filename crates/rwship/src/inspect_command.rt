@@ -107,7 +107,7 @@ impl<'a> LogCommand<'a> {
     /// Prints what the segments hold. A fault of the log is printed at the end, and returned.
     fn print_inspected(&mut self, json: bool) -> Result<(), LogFault> {
         let LogFiles { files, names } = self.files()?;
-        let report = inspect(self.rt.alloc(), files)?;
+        let report = inspect(self.rt.alloc(), files, self.dir.may_compress)?;
         print_report(self.rt, &report, json, &mut self.output)?;
         match report.damage {
             Some(damage) => Err(LogFault::of_damage(names, damage)),
@@ -119,7 +119,7 @@ impl<'a> LogCommand<'a> {
     /// printed at the end, and returned.
     fn print_found(&mut self, positions: Vec<u64>) -> Result<u64, LogFault> {
         let LogFiles { files, names } = self.files()?;
-        let found = find_entries(self.rt.alloc(), files, positions)?;
+        let found = find_entries(self.rt.alloc(), files, self.dir.may_compress, positions)?;
         print_text(&mut self.output, &found.text)?;
         match found.damage {
             Some(damage) => Err(LogFault::of_damage(names, damage)),
@@ -132,7 +132,13 @@ impl<'a> LogCommand<'a> {
         let LogFiles { files, names } = self.files()?;
         let mut log = Queue::new(files);
         let choice = settings.config.into_fields().into_choice();
-        match plan_log(self.rt.alloc(), &mut log, &mut self.output, choice) {
+        match plan_log(
+            self.rt.alloc(),
+            &mut log,
+            &mut self.output,
+            choice,
+            self.dir.may_compress,
+        ) {
             Ok(Some(damage)) => Err(LogFault::of_damage(names, damage)),
             Ok(None) => Ok(()),
             Err(fault) => {
@@ -184,12 +190,16 @@ impl<'a> LogCommand<'a> {
     }
 }
 
-/// Reads a segment that is not a file.
-pub fn inspect_segment(rt: &HostRuntime, source: Reader<'_>) -> Result<Report, ToolFault> {
+/// Reads a segment that is not a file. Its records may be Snappy blocks if `may_compress` says so.
+pub fn inspect_segment(
+    rt: &HostRuntime,
+    source: Reader<'_>,
+    may_compress: bool,
+) -> Result<Report, ToolFault> {
     let name = String::from_str(rt.alloc(), "-")?;
     let mut one = Vec::with_capacity(rt.alloc(), 1)?;
     one.push_reserved(Named { name, source });
-    match inspect(rt.alloc(), one) {
+    match inspect(rt.alloc(), one, may_compress) {
         Ok(report) => Ok(report),
         Err(unread) => Err(ToolFault::from(unread.error)),
     }
@@ -209,6 +219,7 @@ pub fn print_damage(rt: &HostRuntime, report: &Report) -> Result<(), AllocError>
     let lines = fault_lines(
         rt.alloc(),
         damage.fault,
+        report.may_compress,
         segment.name.as_str(),
         segment.bytes,
         place.offset,
@@ -219,8 +230,13 @@ pub fn print_damage(rt: &HostRuntime, report: &Report) -> Result<(), AllocError>
 
 /// Prints what the segment on standard input holds. A fault of it is printed at the end, and
 /// returned.
-fn print_input(rt: &HostRuntime, json: bool, output: &mut Std<Stdout>) -> Result<(), ToolFault> {
-    let report = inspect_segment(rt, Reader::Live(Std::new(rt.stdin())))?;
+fn print_input(
+    rt: &HostRuntime,
+    may_compress: bool,
+    json: bool,
+    output: &mut Std<Stdout>,
+) -> Result<(), ToolFault> {
+    let report = inspect_segment(rt, Reader::Live(Std::new(rt.stdin())), may_compress)?;
     print_report(rt, &report, json, output)?;
     match report.damage {
         Some(damage) => Err(ToolFault::Log(damage.fault)),
@@ -229,9 +245,9 @@ fn print_input(rt: &HostRuntime, json: bool, output: &mut Std<Stdout>) -> Result
 }
 
 /// Prints what the segment on standard input holds, and reports how that ended.
-pub fn inspect_input(rt: &HostRuntime, json: bool) -> ExitCode {
+pub fn inspect_input(rt: &HostRuntime, may_compress: bool, json: bool) -> ExitCode {
     let mut output = Std::new(rt.stdout());
-    match print_input(rt, json, &mut output) {
+    match print_input(rt, may_compress, json, &mut output) {
         Ok(()) => ExitCode::SUCCESS,
         Err(_) if has_output_failed(&mut output) => report_output_fault(rt, true),
         Err(fault) => report_unread_input(rt, fault),

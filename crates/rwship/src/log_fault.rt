@@ -125,7 +125,7 @@ fn spot_lines(
         Ok(metadata) => metadata.len(),
         Err(_) => offset,
     };
-    fault_lines(rt.alloc(), fault, file, bytes, offset)
+    fault_lines(rt.alloc(), fault, dir.may_compress, file, bytes, offset)
 }
 
 /// Returns what the system says of a file that could not be read.

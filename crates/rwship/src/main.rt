@@ -70,21 +70,31 @@ fn perform<R: Threads + Wait + Clock + Copy + Send + Sync + 'static>(
         return report_bad_address(rt, words);
     };
     match task {
-        Task::Body { hex, is_explained } => body(rt, hex, is_explained),
+        Task::Body {
+            hex,
+            may_compress,
+            is_explained,
+        } => body(rt, hex, may_compress, is_explained),
         Task::Log {
             hex,
             pages,
             dir,
             is_explained,
         } => log(rt, hex, pages, dir, is_explained),
-        Task::Plan { settings, hex, dir } => plan(rt, settings, hex, dir),
+        Task::Plan {
+            settings,
+            hex,
+            may_compress,
+            dir,
+        } => plan(rt, settings, hex, may_compress, dir),
         Task::Inspect {
             dir,
+            may_compress,
             json,
             is_explained,
         } => match dir {
             Some(dir) => LogCommand::new(rt, dir, is_explained).inspect(json),
-            None => inspect_input(rt, json),
+            None => inspect_input(rt, may_compress, json),
         },
         Task::Find { dir, is_explained } => find(rt, dir, words, is_explained),
         Task::Replay { settings } => replay(rt, settings),

@@ -12,10 +12,10 @@ use crate::program_end::{
     empty_status, gap_status, print_device_error, report_dropped, report_misplaced, report_result,
     report_settings_fault, report_skipped,
 };
-use crate::settings::settings_in;
+use crate::settings::{dir_with, settings_in};
 use crate::stop::{Awaited, is_misplaced, note_left_file, report_stop, stop_signal};
 use crate::waiting::wait_for_start;
-use rw_cli::{Following, Reading, Sending, SettingsFile};
+use rw_cli::{Following, LogDir, Reading, Sending, SettingsFile};
 use rw_follow::{Queue, StopSignal, Timed, ToTheEnd};
 use rw_log_folder::{Folder, FolderFault, Opened, SegmentFile, check_folder, watch_newest_segment};
 use rw_metrics::{Counters, SendCounters, show_stalls};
@@ -67,6 +67,8 @@ struct Sender<'a, R> {
     /// The same runtime, as one that has threads: a `HostRuntime` has them in `main` alone.
     threads: &'a R,
     sending: &'a Sending<'a>,
+    /// The folder that is shipped, and how it is read by the options and the settings.
+    dir: LogDir<'a>,
     /// Where connections go.
     to: Address<'a>,
     is_explained: bool,
@@ -149,7 +151,7 @@ impl<R: Threads + Wait + Clock + Copy + Send + 'static> Sender<'_, R> {
         if !reporting.has_progress && reporting.metrics.is_none() {
             return Ok(());
         }
-        let dir = self.sending.dir;
+        let dir = self.dir;
         let path = String::from_str(self.rt.alloc(), dir.path)?;
         let theirs = Arc::try_clone(counters)?;
         let host = *self.rt;
@@ -177,7 +179,7 @@ impl<R: Threads + Wait + Clock + Copy + Send + 'static> Sender<'_, R> {
         &self,
         counters: &Arc<SendCounters, Global>,
     ) -> Result<Folder<HostRuntime>, AllocError> {
-        let dir = self.sending.dir;
+        let dir = self.dir;
         let path = String::from_str(self.rt.alloc(), dir.path)?;
         let counters = Arc::try_clone(counters)?;
         if dir.from_checkpoint {
@@ -226,7 +228,7 @@ impl<R: Threads + Wait + Clock + Copy + Send + 'static> Sender<'_, R> {
         stop: &StopFlag,
         counters: &Arc<SendCounters, Global>,
     ) -> Result<Log, FolderFault> {
-        let dir = self.sending.dir;
+        let dir = self.dir;
         match &self.sending.reading {
             Reading::Whole => Ok(Log::Whole(files_of(self.rt, dir, Some(counters))?)),
             Reading::Follow(following) => {
@@ -318,7 +320,7 @@ impl<R: Threads + Wait + Clock + Copy + Send + 'static> Sender<'_, R> {
     /// Looks the receiver up and prepares to ship. If that fails, it reports why, and returns the
     /// exit status.
     fn start(&mut self, settings: &Settings) -> Result<Shipment, ExitCode> {
-        let (rt, to, dir) = (self.rt, self.to, self.sending.dir);
+        let (rt, to, dir) = (self.rt, self.to, self.dir);
         if let Some(stop_file) = self.stop_file_to_wait_for() {
             wait_for_start(rt, dir.path, to, stop_file);
         }
@@ -343,7 +345,7 @@ impl<R: Threads + Wait + Clock + Copy + Send + 'static> Sender<'_, R> {
                 has_gap: false,
             };
         };
-        let (dir, is_asked_for) = (self.sending.dir, self.wants_notes());
+        let (dir, is_asked_for) = (self.dir, self.wants_notes());
         if files.is_empty() {
             note_empty(self.rt, dir, is_asked_for || self.sending.fails_on_empty);
         }
@@ -396,7 +398,7 @@ impl<R: Threads + Wait + Clock + Copy + Send + 'static> Sender<'_, R> {
         let rt = self.rt;
         if let Ok(numbers) = counters.numbers(rt.alloc()) {
             let count = numbers.drops.no_series;
-            if count > 0 && passes_checkpoint_over(rt, self.sending.dir) {
+            if count > 0 && passes_checkpoint_over(rt, self.dir) {
                 let _ = eprintln!(rt;
                     "  samples without a series: {count}; give --checkpoint to read the series of the newest checkpoint"
                 );
@@ -419,7 +421,7 @@ impl<R: Threads + Wait + Clock + Copy + Send + 'static> Sender<'_, R> {
         noted: Noted,
         outcome: Result<(), LogFault>,
     ) -> ExitCode {
-        let (rt, sending) = (self.rt, self.sending);
+        let (rt, dir, sending) = (self.rt, self.dir, self.sending);
         let (dropped, skipped) = (counters.dropped(), counters.skipped().lost());
         if self.wants_notes() {
             self.explain_missing(&counters);
@@ -431,16 +433,13 @@ impl<R: Threads + Wait + Clock + Copy + Send + 'static> Sender<'_, R> {
             Ok(()) if skipped > 0 && sending.fails_on_skip => report_skipped(rt, skipped),
             Ok(()) if noted.has_gap && sending.fails_on_gap => gap_status(),
             Ok(()) => ExitCode::SUCCESS,
-            Err(fault) => {
-                report_run_fault(rt, &mut self.output, sending.dir, &fault, self.is_explained)
-            }
+            Err(fault) => { report_run_fault(rt, &mut self.output, dir, &fault, self.is_explained) }
         }
     }
 
     /// Has the log say what is read, and where it is sent to.
     fn log_start(&self) {
-        let (alloc, sending) = (self.rt.alloc(), self.sending);
-        let dir = sending.dir.path;
+        let (alloc, dir) = (self.rt.alloc(), self.dir.path);
         let Address { host, port } = self.to;
         self.log().info(format!(in alloc; "reads {dir}, and sends to {host}:{port}"));
     }
@@ -470,6 +469,7 @@ impl<R: Threads + Wait + Clock + Copy + Send + 'static> Sender<'_, R> {
             connect,
             counters: &counters,
             max_batch_bytes: self.sending.max_batch_bytes,
+            may_compress: self.dir.may_compress,
             stop,
         };
         let outcome = self.ship_log(settings, log, options);
@@ -512,6 +512,7 @@ pub fn send<'a, R: Threads + Wait + Clock + Copy + Send + 'static>(
                 rt,
                 threads,
                 sending,
+                dir: dir_with(sending.dir, &settings),
                 to: destination.address(),
                 is_explained: file.is_explained,
                 output: Std::new(rt.stdout()),

@@ -4,7 +4,7 @@ ghost use Rattle.std.specs.Prelude.{◌≡◌, [], None, Ok, string_bytes, IfOk,
 ghost use Rattle.rw_settings.specs.Settings as toml;
 ghost use Rattle.rw_settings.specs.SettingsText.{settings_text};
 
-use rw_cli::SettingsFile;
+use rw_cli::{LogDir, SettingsFile};
 use rw_settings::{
     Settings, SettingsFault, SettingsNote, explain_settings, print_settings, read_settings,
 };
@@ -86,5 +86,13 @@ pub fn settings_text(rt: &HostRuntime, file: SettingsFile<'_>) -> Result<String,
     match print_settings(rt.alloc(), &text) {
         Ok(text) => Ok(text),
         Err(fault) => Err(refused(rt, &text, fault, file.is_explained)),
+    }
+}
+
+/// Returns a folder as it is read if not only the options, but also these settings say how.
+pub fn dir_with<'a>(dir: LogDir<'a>, settings: &Settings) -> LogDir<'a> {
+    LogDir {
+        may_compress: dir.may_compress || settings.may_compress,
+        ..dir
     }
 }

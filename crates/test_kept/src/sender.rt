@@ -61,6 +61,7 @@ fn send<R: Threads + Wait + Clock + Copy + Send + 'static, C: Connect + Drop>(
         connect,
         counters: &counters,
         max_batch_bytes: None,
+        may_compress: false,
         stop,
     };
     match read_settings(alloc, SETTINGS) {

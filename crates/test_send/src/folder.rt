@@ -179,6 +179,7 @@ fn send_listed<R: Threads + Wait + Clock + Copy + Send + 'static>(
         connect: ready(threads),
         counters: &counters,
         max_batch_bytes: None,
+        may_compress: false,
         stop,
     };
     Ok(run_send(threads, alloc, settings, segments, options, printed))

@@ -177,6 +177,7 @@ fn sends<R: Threads + Wait + Clock + Copy + Send + 'static, C: Connect + Drop>(
         connect,
         counters: &counters,
         max_batch_bytes: None,
+        may_compress: false,
         stop,
     };
     match read_settings(alloc, row.settings) {

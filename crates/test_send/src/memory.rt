@@ -143,6 +143,7 @@ fn shipped<R: Threads + Wait + Clock + Copy + Send + 'static>(
         connect: receivers_of(rt, row.receivers)?,
         counters,
         max_batch_bytes: limit,
+        may_compress: false,
         stop: StopFlag::new(alloc)?,
     };
     match read_settings(alloc, row.settings) {
@@ -615,6 +616,7 @@ fn ship_in_vain<R: Threads + Wait + Clock + Copy + Send + 'static>(
         connect: receivers_of(rt, AWAY)?,
         counters: &counters,
         max_batch_bytes: None,
+        may_compress: false,
         stop,
     };
     match read_settings(alloc, NARROW) {

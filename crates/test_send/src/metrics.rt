@@ -226,6 +226,7 @@ fn ship_skipped<R: Threads + Wait + Clock + Copy + Send + 'static>(
         connect: ready(rt),
         counters,
         max_batch_bytes: None,
+        may_compress: false,
         stop: StopFlag::new(alloc)?,
     };
     let settings = settings_of(alloc, b"")?;

@@ -188,6 +188,7 @@ fn does<R: Threads + Wait + Clock + Copy + Send + 'static>(
         connect: receivers_of(rt, StatusCode::NO_CONTENT),
         counters: &counters,
         max_batch_bytes: limit,
+        may_compress: false,
         stop: StopFlag::new(alloc)?,
     };
     let answer = follow(
@@ -356,6 +357,7 @@ fn flushed<R: Threads + Wait + Clock + Copy + Send + 'static>(
         connect: receivers_of(rt, StatusCode::BAD_REQUEST),
         counters: &counters,
         max_batch_bytes: None,
+        may_compress: false,
         stop: StopFlag::new(alloc)?,
     };
     follow(
@@ -413,6 +415,7 @@ fn follow_in_vain<R: Threads + Wait + Clock + Copy + Send + 'static>(
         },
         counters: &counters,
         max_batch_bytes: None,
+        may_compress: false,
         stop,
     };
     follow(
@@ -555,6 +558,7 @@ fn has_its_shards<R: Threads + Wait + Clock + Copy + Send + 'static>(
         },
         counters: &counters,
         max_batch_bytes: None,
+        may_compress: false,
         stop: StopFlag::new(alloc)?,
     };
     let answer = follow(
@@ -668,5 +672,71 @@ fn wrong_shards<R: Threads + Wait + Clock + Copy + Send + 'static>(
 #[test]
 fn a_followed_log_has_as_many_shards_as_its_load_wants(rt: HostRuntime) -> Result<(), Fail> {
     none_is_wrong(&rt, wrong_shards(&rt, rt.alloc(), &SHARDS)?);
+    Ok(())
+}
+
+/// The definition of `{__name__="one", l="xx.."}`, with forty letters, and the sample 1, as
+/// Prometheus 2.42 wrote them with its default flags: each record is a Snappy block.
+const BLOCKS: [u8; 69] = [
+    0x09, 0x00, 0x1d, 0xae, 0x82, 0x08, 0xa3, 0x42, 0x04, 0x01, 0x00, 0x09, 0x01, 0x48, 0x01, 0x02,
+    0x08, 0x5f, 0x5f, 0x6e, 0x61, 0x6d, 0x65, 0x5f, 0x5f, 0x03, 0x6f, 0x6e, 0x65, 0x01, 0x6c, 0x28,
+    0x78, 0x9a, 0x01, 0x00, 0x09, 0x00, 0x1a, 0xfa, 0xf9, 0xb0, 0x32, 0x1b, 0x04, 0x02, 0x00, 0x09,
+    0x01, 0x48, 0x01, 0x00, 0x00, 0x01, 0xa2, 0x2c, 0x90, 0x8d, 0xda, 0x00, 0x00, 0x3f, 0xf0, 0x00,
+    0x00, 0x00, 0x00, 0x00, 0x00,
+];
+
+/// Ships them, with the option that reads them or without it.
+fn ship_blocks<R: Threads + Wait + Clock + Copy + Send + 'static>(
+    rt: &R,
+    alloc: Global,
+    may_compress: bool,
+    printed: &mut Room,
+) -> Result<Result<(), RunFault>, AllocError> {
+    let settings = settings_of(alloc, b"")?;
+    let counters = SendCounters::new(alloc)?;
+    let mut watch = Countdown {
+        looks: 5,
+        request: StopRequest::Finish,
+        flushes: false,
+        reshards: false,
+        said: StopRequest::Continue,
+        sleeps: 0,
+    };
+    let options = SendOptions {
+        connect: receivers_of(rt, StatusCode::NO_CONTENT),
+        counters: &counters,
+        max_batch_bytes: None,
+        may_compress,
+        stop: StopFlag::new(alloc)?,
+    };
+    let mut events = VecDeque::new(alloc);
+    events.push_back(Event::More(Vec::from_slice(alloc, &BLOCKS)?))?;
+    let mut log = Listed::new(alloc, events);
+    Ok(run_follow(rt, alloc, settings, &mut log, options, &mut watch, printed))
+}
+
+/// The log of a Prometheus with its default flags.
+#[test]
+fn a_log_of_blocks_is_shipped(rt: HostRuntime) -> Result<(), Fail> {
+    let mut printed = Room::new(rt.alloc(), 4096)?;
+    let answer = ship_blocks(&rt, rt.alloc(), true, &mut printed)?;
+    assert!(rt; answer == Ok(()));
+    assert!(rt; printed.as_slice() == b"filtered 0\nreport complete 2\n".as_slice());
+    Ok(())
+}
+
+#[test]
+fn without_the_option_a_block_is_a_fault(rt: HostRuntime) -> Result<(), Fail> {
+    let mut printed = Room::new(rt.alloc(), 4096)?;
+    let answer = ship_blocks(&rt, rt.alloc(), false, &mut printed)?;
+    let refused = RunFault {
+        fault: FollowFault::Tool(ToolFault::Log(TailFault::Compressed)),
+        place: Some(FaultPlace {
+            segment: 0,
+            offset: 0,
+        }),
+    };
+    assert!(rt; answer == Err(refused));
+    assert!(rt; printed.as_slice() == b"filtered 0\nreport damaged 4\n".as_slice());
     Ok(())
 }

@@ -38,6 +38,7 @@ pub fn of_parts<W: Sink, T: Taker>() {
         SegmentWriter::<W>::into_inner,
     );
     let _ = (Tail::feed_piece, Tail::fault_place, Tail::copy);
+    let _ = Tail::for_compressed;
     let _ = (TailFault::number, is_out_of_memory, Tail::skipped_of);
     let _ = (T::take, take_all::<T>);
     let _ = (SkippedType::from_byte, SkippedType::of, SkippedType::number);

@@ -51,6 +51,7 @@ pub fn of_feeders() {
 pub fn of_new_shippers<C: Connect + Drop, R: Threads + Wait + Copy + Send + 'static>() {
     let _ = C::transport;
     let _ = (Shipper::<C>::start::<R>, Shipper::<C>::start_within::<R>);
+    let _ = Shipper::<C>::start_compressed::<R>;
 }
 
 /// What a shipper is fed.

@@ -62,7 +62,7 @@ fn both<'a>(
 
 /// Returns the report of two segments.
 fn report_of(alloc: Global, first: &[u8], second: &[u8]) -> Result<Report, Unread> {
-    inspect(alloc, both(alloc, first, second)?)
+    inspect(alloc, both(alloc, first, second)?, false)
 }
 
 /// Series 1 and 4 have one label set, 3 has none, and 2 has no definition.
@@ -145,7 +145,7 @@ fn plan_of(
 ) -> Result<(Vec<u8>, Result<Option<Damage>, ToolFault>), AllocError> {
     let mut writer = Room::new(alloc, 4096)?;
     let mut log = Queue::new(both(alloc, first, second)?);
-    let outcome = plan_log(alloc, &mut log, &mut writer, Choice::legacy(alloc));
+    let outcome = plan_log(alloc, &mut log, &mut writer, Choice::legacy(alloc), false);
     Ok((writer.into_bytes(), outcome))
 }
 
@@ -193,7 +193,7 @@ fn found_in(alloc: Global) -> Result<(Vec<u8>, u64, bool), Unread> {
     let first = segment_of(alloc, &FIRST)?;
     let second = segment_of(alloc, &SECOND)?;
     let segments = both(alloc, &first, &second)?;
-    let found = find_entries(alloc, segments, ASKED.to_vec(alloc)?)?;
+    let found = find_entries(alloc, segments, false, ASKED.to_vec(alloc)?)?;
     Ok((found.text, found.missing, found.damage.is_some()))
 }
 
@@ -240,7 +240,7 @@ fn alone(alloc: Global, text: &[u8]) -> Result<Vec<Named<&[u8]>>, AllocError> {
 
 /// Returns the report of a segment.
 fn report_of_one(alloc: Global, text: &[u8]) -> Result<Report, Unread> {
-    inspect(alloc, alone(alloc, text)?)
+    inspect(alloc, alone(alloc, text)?, false)
 }
 
 /// Returns the first type of `BY_TYPE` whose number is wrong in a report.

@@ -17,7 +17,7 @@ pub(crate) fn fault(alloc: Global, text: &[u8]) -> u8 {
 
 /// Texts with no fault or with one, and then with two at once, and the number that is returned, or
 /// 9.
-static FAULTS: [(&str, u8); 75] = [
+static FAULTS: [(&str, u8); 81] = [
     ("", 9),
     ("# nothing\n\n", 9),
     ("rule = []\n[send]\n[receive]\n", 9),
@@ -102,6 +102,12 @@ static FAULTS: [(&str, u8); 75] = [
     ("[send]\nsnappy = false", 9),
     ("[send]\nsnappy = [true]", 3),
     ("snappy = true", 2),
+    ("[log]\ncompression = true", 9),
+    ("[log]\ncompression = false", 9),
+    ("[log]\ncompression = 'snappy'", 3),
+    ("log = true", 3),
+    ("[log]\ncompress = true", 2),
+    ("compression = true", 2),
     // two at once, in either order
     ("[send]\nshards = 0\n[receive]\nlabels = 1", 2),
     ("[receive]\nlabels = 1\n[send]\nshards = 0", 2),

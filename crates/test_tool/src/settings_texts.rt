@@ -139,6 +139,39 @@ busy_first = 0
 names = \"legacy\"
 ";
 
+/// What is printed if the log may have blocks of Snappy.
+const COMPRESSED: &str = "\
+[send]
+host = \"localhost:9090\"
+path = \"/api/v1/write\"
+shards = 1
+min_shards = 1
+max_shards = 50
+capacity = 10000
+batch = 2000
+min_backoff_ms = 30
+max_backoff_ms = 5000
+timeout_ms = 30000
+names = \"legacy\"
+
+[receive]
+path = \"/api/v1/write\"
+max_body_bytes = 16777216
+max_labels = 64
+max_label_bytes = 16384
+busy_first = 0
+names = \"legacy\"
+
+[log]
+compression = true
+
+[[rule]]
+action = \"drop\"
+source_labels = [\"job\"]
+separator = \";\"
+regex = \"(.*)\"
+";
+
 /// What a row says.
 enum Row {
     /// Settings, and how they are printed.
@@ -149,7 +182,7 @@ enum Row {
     Noted(&'static str, &'static str),
 }
 
-static ROWS: [Row; 38] = [
+static ROWS: [Row; 42] = [
     // settings in another spelling
     Printed("", DEFAULTS),
     Printed(DEFAULTS, DEFAULTS),
@@ -182,6 +215,12 @@ static ROWS: [Row; 38] = [
     Printed("send.snappy = false", DEFAULTS),
     Printed("send.snappy = true", SENT_IN_BLOCKS),
     Printed(SENT_IN_BLOCKS, SENT_IN_BLOCKS),
+    Printed("log = { compression = false }", DEFAULTS),
+    Printed(
+        "rule = [{ action = 'drop', source_labels = ['job'] }]\nlog.compression = true",
+        COMPRESSED,
+    ),
+    Printed(COMPRESSED, COMPRESSED),
     Pattern("'it is'", "\nregex = \"it is\"\n"),
     Pattern("\"it's\"", "\nregex = \"it's\"\n"),
     Pattern("'a\"b'", "\nregex = 'a\"b'\n"),
@@ -220,6 +259,12 @@ receive.names: has type integer; it takes 'legacy' or 'utf8'
         "[receive]\nsnappy = 'yes'\n[send]\nsnappy = 1",
         "send.snappy: has type integer; it takes true or false
 receive.snappy: has type string; it takes true or false
+",
+    ),
+    Noted(
+        "[log]\ncompression = 'snappy'\ncompress = true",
+        "log.compress: is not a known key; did you mean log.compression?
+log.compression: has type string; it takes true or false
 ",
     ),
     Noted(

@@ -11,7 +11,7 @@ abbrev pub IsLastRead : Segments → Option (Vec ℕ Global) → Type 0
 IsLastRead segments None = segments ≡ []
 IsLastRead segments (Some text) = (front : Segments) × (segments ≡ front ++ text.items ∷ [])
 
--- So many segments were read, noted and taken, in this order, and this is the last one.
+-- This many segments were read, noted and taken, in this order, and this is the last one.
 pub record IsLoaded (before after : Segments) (calls : List FileCall) (last : Option (Vec ℕ Global)) (count : ℕ) : Type 0 where
   pub segments : Segments
   pub noted : calls ≡ loads_of segments

@@ -1,9 +1,9 @@
 -- A last segment that is cut somewhere after its last whole record, and an empty one after it,
 -- change no entries.
-use Rattle.std.proofs.Common.{◌≡◌, inl, inr, ℕ, zero, suc, ◌<◌, ◌≤◌, List, [], ◌∷◌, ◌++◌, length, take, drop, refl, sym, ap, ◌∙◌, subst, arith, append-nil, length-append, take-append-drop}
+use Rattle.std.proofs.Common.{◌≡◌, inl, inr, ℕ, zero, suc, ◌<◌, ◌≤◌, List, [], ◌∷◌, ◌++◌, length, take, drop, refl, sym, ap, ◌∙◌, subst, arith, append-nil, length-append, take-append-drop, false}
 use Rattle.std.proofs.lemmas.List.{take-take}
 use Rattle.rw_types.specs.declared.entry.Entry.{Entry}
-use Rattle.rw_wal_format.specs.Segments.{segment, item_at}
+use Rattle.rw_wal_format.specs.Segments.{segment, item_at, segment_in}
 use Rattle.rw_wal_format.specs.Pieces.{reading, reading_after}
 use Rattle.rw_wal_format.proofs.shared.Growing.{segment_grows}
 use Rattle.rw_kept_log.specs.Journal.{Segments, on_last, IsCutEnd, IsBegun}
@@ -24,8 +24,8 @@ both_ways xs ys m n e f =
 cut_between : (page : ℕ) (text : List ℕ) (at k : ℕ) → 0 < page → IsCleanCut page text at → at ≤ k → (segment page (take k text)).entries ≡ (segment page text).entries
 cut_between page text at k p clean le =
     let front : take at (take k text) ≡ take at text = take-take at k text le in
-    let low = segment_grows page (take at (take k text)) (drop at (take k text)) p in
-    let high = segment_grows page (take k text) (drop k text) p in
+    let low = segment_grows false page (take at (take k text)) (drop at (take k text)) p in
+    let high = segment_grows false page (take k text) (drop k text) p in
     let low' : (segment page (take k text)).entries ≡ (segment page text).entries ++ low.more =
     ap (λ (t : List ℕ). (segment page t).entries) (sym (take-append-drop at (take k text))) ∙ low.entries
     ∙ ap (λ (t : List ℕ). (segment page t).entries ++ low.more) front ∙ ap (λ (es : List Entry). es ++ low.more) clean.keeps in
@@ -56,7 +56,7 @@ cutting page ss at c p all clean cut =
     ap (entries_of page) cut.folder ∙ same_on page (take cut.at) ss all (cut_between page (last_of ss) at cut.at p clean cut.no_shorter)
 
 pub nothing_read : (page : ℕ) → (segment page []).entries ≡ []
-unfolding segment item_at
+unfolding segment_in item_at
 nothing_read page = refl
 
 -- an empty segment after whole ones

@@ -1,5 +1,5 @@
 -- A cut that was checked by reading it.
-use Rattle.std.proofs.Common.{◌≡◌, ℕ, ◌<◌, ◌≤◌, List, [], ◌∷◌, ◌++◌, length, take, drop, Some, None, refl, sym, ap, ◌∙◌, subst, arith, append-nil, length-append, take-append-drop}
+use Rattle.std.proofs.Common.{◌≡◌, ℕ, ◌<◌, ◌≤◌, List, [], ◌∷◌, ◌++◌, length, take, drop, Some, None, refl, sym, ap, ◌∙◌, subst, arith, append-nil, length-append, take-append-drop, false}
 use Rattle.rw_types.specs.declared.entry.Entry.{Entry}
 use Rattle.rw_wal_format.specs.Segments.{Stop, between, inside, at_fault, Reading, segment}
 use Rattle.rw_wal_format.specs.Pieces.{bytes, next_segment, page_size, reading, reading_after, fault, fault_at, then_after}
@@ -20,7 +20,7 @@ pub checked : (text : List ℕ) (at : ℕ) → at ≤ length text → fault (byt
     → length (segment page_size text).entries ≤ length (segment page_size (take at text)).entries → 0 < page_size → IsCleanCut page_size text at
 unfolding reading
 checked text at within sound as_many p =
-    let grown = segment_grows page_size (take at text) (drop at text) p in
+    let grown = segment_grows false page_size (take at text) (drop at text) p in
     let all = subst (λ (t : List ℕ). (segment page_size t).entries ≡ (segment page_size (take at text)).entries ++ grown.more) (take-append-drop at text) grown.entries in
     let none : grown.more ≡ [] = none_left grown.more (omega (arith, ap length all, length-append (segment page_size (take at text)).entries grown.more, as_many)) in
     record {

@@ -6,7 +6,7 @@ use Rattle.std.proofs.Math.Seq.{take-length, drop-nil, get_or-append_seam}
 use Rattle.rw_types.proofs.shared.AllLemmas.{AllByRecursion-append}
 use Rattle.rw_types.specs.declared.entry.Entry.{Entry}
 use Rattle.rw_kept_log.specs.Journal.{Segments}
-use Rattle.rw_wal_format.specs.Segments.{segment, item_at}
+use Rattle.rw_wal_format.specs.Segments.{segment, item_at, segment_in}
 use Rattle.rw_wal_format.specs.Pieces.{fault, page_size, reading}
 use Rattle.rw_kept_log.specs.Logs.{entries_of, IsWholeText}
 use Rattle.rw_kept_log.specs.TornLogs.{last_of, AllBefore}
@@ -48,7 +48,7 @@ pub none_of : (ss : Segments) → ss ≡ [] → entries_of page_size ss ≡ []
 none_of ss empty = ap (entries_of page_size) empty ∙ no_entries page_size
 
 nothing_whole : IsWholeText page_size []
-unfolding segment item_at
+unfolding segment_in item_at
 nothing_whole = refl
 
 -- the end of a log of no segments

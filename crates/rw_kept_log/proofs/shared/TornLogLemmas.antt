@@ -1,5 +1,5 @@
 -- A torn log: the entries of all its segments.
-use Rattle.std.proofs.Common.{◌≡◌, ℕ, ◌+◌, ◌<◌, List, [], ◌∷◌, ◌++◌, length, take, refl, sym, ap, ◌∙◌, subst, arith, append_assoc, length-append, length-take}
+use Rattle.std.proofs.Common.{◌≡◌, ℕ, ◌+◌, ◌<◌, List, [], ◌∷◌, ◌++◌, length, take, refl, sym, ap, ◌∙◌, subst, arith, append_assoc, length-append, length-take, false}
 use Rattle.std.proofs.lemmas.List.{take_at}
 use Rattle.std.proofs.Math.Seq.{take-append-add}
 use Rattle.rw_types.specs.Beginnings.{Begins}
@@ -32,7 +32,7 @@ module _ (tears : List ℕ → List ℕ → Type 0) (page : ℕ) (text written m
 
 -- what was there stays in front
 there_first : (page : ℕ) (text more : List ℕ) → 0 < page → Begins (segment page text).entries (segment page (text ++ more)).entries
-there_first page text more p = let grown = segment_grows page text more p in (grown.more, grown.entries)
+there_first page text more p = let grown = segment_grows false page text more p in (grown.more, grown.entries)
 
 one_torn : (tears : List ℕ → List ℕ → Type 0) (page : ℕ) (text written more : List ℕ) → 0 < page → NoChance page (text ++ written) (text ++ more) → IsTornFrom tears page (length text) written more
     → Begins (segment page text).entries (segment page (text ++ more)).entries × Begins (segment page (text ++ more)).entries (segment page (text ++ written)).entries

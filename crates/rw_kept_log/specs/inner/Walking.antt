@@ -1,15 +1,14 @@
 -- Inner definitions of how the headers of a segment are followed: only private functions and
 -- proofs use them.
 use Rattle.std.specs.Prelude.{◌≡◌, ℕ, ◌+◌, List, length, Bool, true, false}
-use Rattle.rw_wal_format.specs.Segments.{Kind, full, first, middle, last, zeros, fragment, item_at}
+use Rattle.rw_wal_format.specs.Segments.{Kind, full, last, zeros, fragment, item_at}
 use Rattle.rw_kept_log.specs.declared.whole_records.Header.{Header}
 
 -- whether a record ends with a fragment of this type
 abbrev pub ends_with : Kind → Bool
 ends_with full = true
-ends_with first = false
-ends_with middle = false
 ends_with last = true
+ends_with _ = false
 
 -- The header is that of the item at the front of these bytes, if that is a fragment, or the zeros
 -- to the end of a page.

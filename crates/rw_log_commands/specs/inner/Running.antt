@@ -6,9 +6,9 @@ use Rattle.rw_text.specs.declared.tool_fault.ToolFault.TheVariants.{OutOfMemory,
 use Rattle.rw_log_commands.specs.Running.{ReadsFault, ReadsLine}
 
 -- why an input's segment is not read, by a reader that then has failed or not
-abbrev pub StopsInput : Bool → Option (List ℕ) → Option (List ℕ) → Bool → ToolFault → Type 0
-StopsInput hex left_before left_after failed OutOfMemory = Unit {0}
-StopsInput hex left_before left_after failed (Log f) = ReadsFault hex f left_before left_after
-StopsInput hex left_before left_after failed (Line line) = ReadsLine hex line left_before left_after
-StopsInput hex left_before left_after failed SegmentFull = ⊥
-StopsInput hex left_before left_after failed Device = failed ≡ true
+abbrev pub StopsInput : (hex compresses : Bool) → Option (List ℕ) → Option (List ℕ) → Bool → ToolFault → Type 0
+StopsInput hex compresses left_before left_after failed OutOfMemory = Unit {0}
+StopsInput hex compresses left_before left_after failed (Log f) = ReadsFault hex compresses f left_before left_after
+StopsInput hex compresses left_before left_after failed (Line line) = ReadsLine hex line left_before left_after
+StopsInput hex compresses left_before left_after failed SegmentFull = ⊥
+StopsInput hex compresses left_before left_after failed Device = failed ≡ true

@@ -4,8 +4,8 @@ use Rattle.std.specs.Prelude.{IsSome, is_some, take}
 use Rattle.rw_follow.specs.Meals.{Meal, with_piece}
 use Rattle.rw_types.specs.Beginnings.{Begins}
 use Rattle.rw_types.specs.declared.entry.Entry.{Entry}
-use Rattle.rw_wal_format.specs.Pieces.{Piece, bytes, next_segment, page_size, reading, reading_after, then_next}
-use Rattle.rw_wal_format.specs.Segments.{segment}
+use Rattle.rw_wal_format.specs.Pieces.{Piece, bytes, next_segment, may_compress, page_size, reading, compresses_after, reading_in, then_next}
+use Rattle.rw_wal_format.specs.Segments.{segment_in}
 use Rattle.rw_wal_format.specs.declared.tail_fault.TailFault.{TailFault}
 use Rattle.rw_wal_tail.specs.Fed.{Fed}
 use Rattle.rw_wal_tail.specs.Taking.{HasTaken, HasTakenAll, TakesAll}
@@ -46,18 +46,19 @@ gives_end {Start} old new buf n none gives start meal h = subst (λ (k : ℕ). n
 
 -- ---- pieces
 
-empty_piece : (page : ℕ) (text : List ℕ) (old later : List Piece) → reading_after page text (old ++ later) ≡ reading_after page text (old ++ bytes [] ∷ later)
-empty_piece page text [] later = ap (λ x. reading_after page x later) (sym (append-nil text))
-empty_piece page text (bytes c ∷ old) later = empty_piece page (text ++ c) old later
-empty_piece page text (next_segment ∷ old) later = ap (then_next (segment page text)) (empty_piece page [] old later)
+empty_piece : (c : Bool) (page : ℕ) (text : List ℕ) (old later : List Piece) → reading_in c page text (old ++ later) ≡ reading_in c page text (old ++ bytes [] ∷ later)
+empty_piece c page text [] later = ap (λ x. reading_in c page x later) (sym (append-nil text))
+empty_piece c page text (bytes b ∷ old) later = empty_piece c page (text ++ b) old later
+empty_piece c page text (next_segment ∷ old) later = ap (then_next (segment_in c page text)) (empty_piece c page [] old later)
+empty_piece c page text (may_compress ∷ old) later = empty_piece (compresses_after c text) page text old later
 
 fed-none : (ps : List Piece) → AreFed ps [] ps
 unfolding reading
-fed-none ps later = empty_piece page_size [] ps later
+fed-none ps later = empty_piece false page_size [] ps later
 
 fed-more : (old new : List Piece) (text b : List ℕ) → AreFed old text new → AreFed old (text ++ b) (new ++ bytes b ∷ [])
 unfolding reading
-fed-more old new text b h later = rw (append_assoc new (bytes b ∷ []) later) (h (bytes b ∷ later) ∙ cuts_after page_size [] old text b later)
+fed-more old new text b h later = rw (append_assoc new (bytes b ∷ []) later) (h (bytes b ∷ later) ∙ cuts_after false page_size [] old text b later)
 
 -- before the first piece
 pub has_fed-none : {Start : Type 0} (gave : Start → Meal → Type 0) (t : Fed) (taken : List Entry) → HasTaken t taken → HasFed gave gave t t taken taken 0

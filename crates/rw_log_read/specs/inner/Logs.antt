@@ -10,14 +10,14 @@ use Rattle.rw_wal_tail.specs.Taking.{HasTakenAll}
 use Rattle.rw_log_read.specs.Sums.{sums_of}
 use Rattle.rw_log_read.specs.declared.log_read.Segment.{Segment}
 use Rattle.rw_log_read.specs.declared.segment_text.TextRead.{TextRead}
-use Rattle.rw_log_read.specs.Logs.{log_of, AreRows, texts_of}
+use Rattle.rw_log_read.specs.Logs.{log_in, AreRows, texts_of}
 use Rattle.rw_log_read.specs.inner.Reading.{IsTextRead}
 
 -- the segments were read and their entries taken, and a fault found in the last one, or none
-pub record AreTaken (texts : List (List ℕ)) (t : Fed) (taken : List Entry) (rows : List Segment) (found : Option TailFault) : Type 0 where
-  pub same : (later : List Piece) → reading page_size (t.pieces ++ later) ≡ reading page_size (log_of texts ++ later)
+pub record AreTaken (compresses : Bool) (texts : List (List ℕ)) (t : Fed) (taken : List Entry) (rows : List Segment) (found : Option TailFault) : Type 0 where
+  pub same : (later : List Piece) → reading page_size (t.pieces ++ later) ≡ reading page_size (log_in compresses texts ++ later)
   pub all : HasTakenAll t taken found
-  pub rows_are : AreRows [] texts rows
+  pub rows_are : AreRows compresses [] texts rows
 
 -- the pieces when the next segment begins
 abbrev pub begun : Bool → List Piece → List Piece
@@ -45,9 +45,9 @@ abbrev pub Gives : {Start : Type 0} → (old new : Start → Meal → Type 0) �
 Gives {Start} old new fed = (start : Start) → old start no_meal → new start fed
 
 -- how a log was read, from its first segment on
-pub record ReadsLog {Start : Type 0} (past_fault : Bool) (gave given had_all : Start → Meal → Type 0) (is_read : Type 0) (t : Fed) (taken : List Entry) (rows : List Segment) (found : Option TailFault) : Type 0 where
+pub record ReadsLog {Start : Type 0} (past_fault compresses : Bool) (gave given had_all : Start → Meal → Type 0) (is_read : Type 0) (t : Fed) (taken : List Entry) (rows : List Segment) (found : Option TailFault) : Type 0 where
   pub fed : Meal
   pub read : Gives gave given fed
   pub whole : found ≡ None → Gives gave had_all fed
   pub ended : past_fault ≡ true → IsSome found → is_read
-  pub are : AreTaken (texts_of fed) t taken rows found
+  pub are : AreTaken compresses (texts_of fed) t taken rows found

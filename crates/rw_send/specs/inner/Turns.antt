@@ -1,6 +1,6 @@
 -- What a turn of a follower does to a shipper. Only invariants, private functions and proofs use
 -- these definitions.
-use Rattle.std.specs.Prelude.{◌≡◌, ◌⊎◌, ℕ, List, length, map, None, IsSome, Result, ⊤, IfErr, IfOk, OnErr, OnOk}
+use Rattle.std.specs.Prelude.{◌≡◌, ◌⊎◌, ℕ, Bool, List, length, map, None, IsSome, Result, ⊤, IfErr, IfOk, OnErr, OnOk}
 use Rattle.rw_follow.specs.Turns.{given_by}
 use Rattle.rw_follow.specs.declared.follower.Turn.{Turn}
 use Rattle.rw_follow.specs.declared.follower.Turn.TheVariants as turn
@@ -15,7 +15,7 @@ use Rattle.rw_send.specs.declared.feed_error.FeedError.{FeedError}
 use Rattle.rw_send.specs.declared.feed_error.FeedError.TheVariants as error
 use Rattle.rw_send.specs.declared.sharding.Sharding.{Sharding}
 use Rattle.rw_send.specs.Logs.{HasGivenMore, Seen}
-use Rattle.rw_send.specs.Segments.{AreShortPieces, AreSoundButLast, meal_of}
+use Rattle.rw_send.specs.Segments.{IsShortLog, AreSoundButLast, meal_of}
 use Rattle.rw_send.specs.Steps.{HasBroken, HasLastEpoch, IsLap, KeepsSetup, StaysOpen}
 use Rattle.rw_send.specs.inner.EpochSizes.{KeepsEpochSizes}
 use Rattle.rw_send.specs.inner.FeedErrors.{HasDamage, IsIntact}
@@ -71,7 +71,8 @@ pub record Keeps {T : Type 0} (sharding : Sharding) (old new : Shipping T)
       → KeepsEpochSizes sharding.fewest sharding.most old.fleet new.fleet
   pub live : OnOk result (new.fault ≡ None)
   pub intact : OnOk result (IsIntact new)
-  pub short : AreShortPieces old.log.pieces → AreShortPieces new.log.pieces
+  pub short : (compresses : Bool) → IsShortLog compresses old.log.pieces
+      → IsShortLog compresses new.log.pieces
   pub but_last : AreSoundButLast old.log.pieces → AreSoundButLast new.log.pieces
   pub last : AreResolved old.fleet.ended → HasLastEpoch new
   pub resolved : AreResolved old.fleet.ended → OnOk result (AreResolved new.fleet.ended)

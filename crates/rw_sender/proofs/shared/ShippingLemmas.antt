@@ -27,8 +27,8 @@ use Rattle.rw_sender.specs.Feeders.{Sorting, HasPlaced, HasRead, sent_by}
 use Rattle.rw_series_cache.specs.Fates.{Fate, Drops, Filters, Sends, fate}
 use Rattle.rw_sender.specs.Logs.{Sent, kept_sample, sent_by_fate, sent_of, sent}
 use Rattle.rw_sender.specs.Placement.{shard_of, IsShardCount, IsPlacing, ArePlaced, AreKept}
-use Rattle.rw_wal_format.specs.Pieces.{Piece, reading}
-use Rattle.rw_wal_format.specs.Segments.{segment}
+use Rattle.rw_wal_format.specs.Pieces.{Piece, may_compress, reading}
+use Rattle.rw_wal_format.specs.Segments.{segment_in}
 use Rattle.rw_wal_format.specs.declared.tail_fault.TailFault.{TailFault}
 use Rattle.rw_shard_core.specs.declared.outcome.Outcome.{Outcome}
 use Rattle.rw_shard_core.specs.declared.outcome.Outcome.TheVariants as outcome
@@ -258,9 +258,18 @@ on_ok (Ok x) P e h = h
 on_ok (Err x) P e h = absurd (cc)
 
 -- nothing was fed yet
-pub read_begun : (log : Sorting) (choice : Choice) → log ≡ record { choice = choice; pieces = []; placed = []; hand = [] } → HasRead log.pieces log.placed None
-unfolding reading segment
-read_begun log choice is = subst (λ (l : Sorting). HasRead l.pieces l.placed None) (sym is) (record { all = refl; fault_is = refl })
+pub read_begun : (log : Sorting) (choice : Choice) (ps : List Piece) → log ≡ record { choice = choice; pieces = ps; placed = []; hand = [] } → HasRead ps [] None → HasRead log.pieces log.placed None
+read_begun log choice ps is h = subst (λ (l : Sorting). HasRead l.pieces l.placed None) (sym is) h
+
+-- the same at the start of a log that may have Snappy blocks
+pub read_marked : (ps : List Piece) → ps ≡ may_compress ∷ [] → HasRead ps [] None
+unfolding reading segment_in
+read_marked ps is = subst (λ (qs : List Piece). HasRead qs [] None) (sym is) (record { all = refl; fault_is = refl })
+
+-- a reader to which nothing was fed has read nothing
+pub read_unfed : (ps : List Piece) → ps ≡ [] → HasRead ps [] None
+unfolding reading segment_in
+read_unfed ps is = subst (λ (qs : List Piece). HasRead qs [] None) (sym is) (record { all = refl; fault_is = refl })
 
 pub read_of : (log : Sorting) (f : Option Fault) (damage : Option TailFault) → IsRead log f damage → f ≡ None → HasRead log.pieces log.placed damage
 read_of log f damage h is = subst (λ (x : Option Fault). IsRead log x damage) is h

@@ -12,9 +12,9 @@ use Rattle.rw_wal_format.specs.Records.{record_entries}
 use Rattle.rw_wal_format.specs.Skipped.{skips_of}
 use Rattle.rw_wal_format.specs.declared.skipped_type.SkippedType.{SkippedType}
 use Rattle.rw_types.specs.declared.entry.Entry.{Entry}
-use Rattle.rw_wal_format.specs.Segments.{Kind, full, first, middle, last, Item, nothing, begun, zeros, fragment, wrong, zeros_at, data_at, fragment_at, item_at, Stop, between, inside, at_fault, Layout, with_fragment, left_after, from_item, layout_of, Reading, stopped, with_entries, with_record, end_of, reading_of, segment}
+use Rattle.rw_wal_format.specs.Segments.{Kind, full, first, middle, last, snappy, IsPlain, Item, nothing, begun, zeros, fragment, wrong, zeros_at, data_at, fragment_at, item_at, item_in, Stop, between, inside, at_fault, Layout, with_fragment, left_after, from_item, layout_of, Reading, Record, stopped, with_entries, text_of, with_text, with_record, Joined, still_open, complete, out_of_sequence, joined, from_joined, end_of, reading_of, segment_in}
 use Rattle.rw_wal_format.specs.Laws.{Extends}
-use Rattle.rw_wal_format.specs.Pieces.{Piece, bytes, next_segment, then_next, then_after, reading_after, reading}
+use Rattle.rw_wal_format.specs.Pieces.{Piece, bytes, next_segment, may_compress, then_next, then_after, compresses_after, reading_in, reading}
 use Rattle.rw_wal_format.specs.declared.tail_fault.TailFault.{TailFault}
 use Rattle.rw_wal_format.specs.declared.tail_fault.TailFault.TheVariants.{BadType, BadCrc, Compressed, NonzeroPadding}
 
@@ -36,6 +36,10 @@ module _ (left len : ℕ) where
   begun_stays : (y : Item) → Stays left len begun y
   unfolding Stays
   begun_stays y = tt
+
+  nothing_stays : (y : Item) → Stays left len nothing y
+  unfolding Stays
+  nothing_stays y = tt
 
   wrong_stays : (f : TailFault) → Stays left len (wrong f) (wrong f)
   unfolding Stays
@@ -124,6 +128,50 @@ item_stays left (b ∷ bs) more =
     (cond_stays left n (eqb b 4) _ _ _ _ (fragment_stays last left bs more)
     (cond_stays left n (nat_le 8 b) _ _ _ _ (cond_stays left n (nat_lt b 32) _ _ _ _ (wrong_stays left n Compressed) (wrong_stays left n BadType)) (wrong_stays left n BadType))))))
 
+-- without the flag of Snappy, a fragment is of a type without it
+abbrev IsPlainItem : Item → Type 0
+IsPlainItem (fragment kind d) = IsPlain kind
+IsPlainItem _ = Unit {0}
+
+cond_plain : (b : Bool) (x y : Item) → IsPlainItem x → IsPlainItem y → IsPlainItem (cond b x y)
+cond_plain true x y p q = p
+cond_plain false x y p q = q
+
+fragment_plain : (kind : Kind) (left : ℕ) (bs : List ℕ) → IsPlain kind → IsPlainItem (fragment_at kind left bs)
+fragment_plain kind left bs plain =
+    cond_plain (nat_lt (length bs) 6) _ _ tt
+    (cond_plain (nat_lt left (7 + big_number 2 bs)) _ _ tt
+    (cond_plain (nat_lt (length (drop 6 bs)) (big_number 2 bs)) _ _ tt
+    (cond_plain (eqb (crc32c_of (take (big_number 2 bs) (drop 6 bs))) (big_number 4 (drop 2 bs))) _ _ plain tt)))
+
+item_plain : (left : ℕ) (bs : List ℕ) → IsPlainItem (item_at left bs)
+unfolding item_at
+item_plain left [] = tt
+item_plain left (b ∷ bs) =
+    cond_plain (nat_lt left 7 || eqb b 0) _ _
+    (cond_plain (not (list_all (λ x. eqb x 0) (take left (b ∷ bs)))) _ _ tt (cond_plain (nat_lt (length (b ∷ bs)) left) _ _ tt tt))
+    (cond_plain (eqb b 1) _ _ (fragment_plain full left bs tt)
+    (cond_plain (eqb b 2) _ _ (fragment_plain first left bs tt)
+    (cond_plain (eqb b 3) _ _ (fragment_plain middle left bs tt)
+    (cond_plain (eqb b 4) _ _ (fragment_plain last left bs tt)
+    (cond_plain (nat_le 8 b) _ _ (cond_plain (nat_lt b 32) _ _ tt tt) tt)))))
+
+pub kind_plain : (left : ℕ) (bs : List ℕ) (kind : Kind) (d : List ℕ) → item_at left bs ≡ fragment kind d → IsPlain kind
+kind_plain left bs kind d e = subst IsPlainItem e (item_plain left bs)
+
+-- the same in a log that may have Snappy blocks
+pub item_in-stays : (c : Bool) (left : ℕ) (bs more : List ℕ) → Stays left (length bs) (item_in c left bs) (item_in c left (bs ++ more))
+item_in-stays false left bs more = item_stays left bs more
+item_in-stays true left [] more = nothing_stays left 0 _
+item_in-stays true left (b ∷ bs) more =
+    let n = suc (length bs) in
+    let plain = item_stays left (b ∷ bs) more in
+    cond_stays left n (nat_lt left 7) _ _ _ _ plain
+    (cond_stays left n (eqb b 9) _ _ _ _ (fragment_stays (snappy full) left bs more)
+    (cond_stays left n (eqb b 10) _ _ _ _ (fragment_stays (snappy first) left bs more)
+    (cond_stays left n (eqb b 11) _ _ _ _ (fragment_stays (snappy middle) left bs more)
+    (cond_stays left n (eqb b 12) _ _ _ _ (fragment_stays (snappy last) left bs more) plain))))
+
 -- ---- the fragments stay
 
 -- b has the fragments of a, and more; if a has a fault, b is a
@@ -171,19 +219,20 @@ step_continues page left bs more next next' (fragment kind data_) y s p l n ih =
     rw (s.2, d) (continues_with kind data_ _ _ (ih (left_after page left (7 + length data_)) (drop (7 + length data_) bs) (left_after_pos page left (7 + length data_) p) (omega (arith, length-drop (7 + length data_) bs))))
 step_continues page left bs more next next' (wrong f) y s p l n ih = rw s (continues_same _)
 
-empty_continues : (page k k' left : ℕ) (more : List ℕ) → Continues (layout_of page (suc k) left []) (layout_of page k' left more)
+empty_continues : (c : Bool) (page k k' left : ℕ) (more : List ℕ) → Continues (layout_of c page (suc k) left []) (layout_of c page k' left more)
 unfolding item_at
-empty_continues page k k' left more = continues_none between _ between_open
+empty_continues false page k k' left more = continues_none between _ between_open
+empty_continues true page k k' left more = continues_none between _ between_open
 
-pub layout_grows : (page k k' left : ℕ) (bs more : List ℕ) → 0 < page → 0 < left → length bs ≤ k → length (bs ++ more) ≤ k'
-    → Continues (layout_of page k left bs) (layout_of page k' left (bs ++ more))
-layout_grows page zero k' left bs more p l h h' = continues_none between _ between_open
-layout_grows page (suc k) k' left [] more p l h h' = empty_continues page k k' left more
-layout_grows page (suc k) zero left (b ∷ bs) more p l h h' = absurd (omega arith)
-layout_grows page (suc k) (suc k') left (b ∷ bs) more p l h h' =
-    step_continues page left (b ∷ bs) more (λ m rest. layout_of page k m rest) (λ m rest. layout_of page k' m rest) (item_at left (b ∷ bs)) (item_at left (b ∷ (bs ++ more)))
-    (item_stays left (b ∷ bs) more) p l (omega arith)
-    (λ m rest pos short. layout_grows page k k' m rest more p pos (omega arith) (omega (arith, length-append rest more, length-append bs more)))
+pub layout_grows : (c : Bool) (page k k' left : ℕ) (bs more : List ℕ) → 0 < page → 0 < left → length bs ≤ k → length (bs ++ more) ≤ k'
+    → Continues (layout_of c page k left bs) (layout_of c page k' left (bs ++ more))
+layout_grows c page zero k' left bs more p l h h' = continues_none between _ between_open
+layout_grows c page (suc k) k' left [] more p l h h' = empty_continues c page k k' left more
+layout_grows c page (suc k) zero left (b ∷ bs) more p l h h' = absurd (omega arith)
+layout_grows c page (suc k) (suc k') left (b ∷ bs) more p l h h' =
+    step_continues page left (b ∷ bs) more (λ m rest. layout_of c page k m rest) (λ m rest. layout_of c page k' m rest) (item_in c left (b ∷ bs)) (item_in c left (b ∷ (bs ++ more)))
+    (item_in-stays c left (b ∷ bs) more) p l (omega arith)
+    (λ m rest pos short. layout_grows c page k k' m rest more p pos (omega arith) (omega (arith, length-append rest more, length-append bs more)))
 
 -- ---- the entries stay
 
@@ -202,7 +251,7 @@ extends_trans r s t a b = record {
 extends_none : (st : Stop) (s : Reading) → ((f : TailFault) → st ≡ at_fault f → ⊥) → Extends (stopped st) s
 extends_none st s open_end = record { more = s.entries; entries = refl; more_skipped = s.skipped; skipped = refl; stays = λ f e. absurd (open_end f e) }
 
-end_open : (so_far : Option (List ℕ)) (st : Stop) → ((f : TailFault) → st ≡ at_fault f → ⊥) → (f : TailFault) → end_of so_far st ≡ at_fault f → ⊥
+end_open : (so_far : Option Record) (st : Stop) → ((f : TailFault) → st ≡ at_fault f → ⊥) → (f : TailFault) → end_of so_far st ≡ at_fault f → ⊥
 end_open None st h = h
 end_open (Some d) between h = inside_open
 end_open (Some d) inside h = inside_open
@@ -218,20 +267,22 @@ with_entries_extends d (Some es) r s x = record {
   stays = λ f e. ap (with_entries d (Some es)) (x.stays f e);
 }
 
-with_extends : (d : List ℕ) (r s : Reading) → Extends r s → Extends (with_record d r) (with_record d s)
-with_extends d r s x = with_entries_extends d (record_entries d) r s x
+with_text-extends : (found : Option (List ℕ)) (r s : Reading) → Extends r s → Extends (with_text found r) (with_text found s)
+with_text-extends None r s x = extends_same _
+with_text-extends (Some d) r s x = with_entries_extends d (record_entries d) r s x
 
-pub reading_grows : (so_far : Option (List ℕ)) (fs gs : List (Kind × List ℕ)) (s s' : Stop) → ((f : TailFault) → s ≡ at_fault f → ⊥)
+with_extends : (d : Record) (r s : Reading) → Extends r s → Extends (with_record d r) (with_record d s)
+with_extends d r s x = with_text-extends (text_of d) r s x
+
+joined_extends : (next next' : Option Record → Reading) (j : Joined) → ((o : Option Record) → Extends (next o) (next' o)) → Extends (from_joined next j) (from_joined next' j)
+joined_extends next next' (still_open d) h = h (Some d)
+joined_extends next next' (complete d) h = with_extends d _ _ (h None)
+joined_extends next next' out_of_sequence h = extends_same _
+
+pub reading_grows : (so_far : Option Record) (fs gs : List (Kind × List ℕ)) (s s' : Stop) → ((f : TailFault) → s ≡ at_fault f → ⊥)
     → Extends (reading_of so_far fs s) (reading_of so_far (fs ++ gs) s')
 reading_grows so_far [] gs s s' h = extends_none (end_of so_far s) _ (end_open so_far s h)
-reading_grows None ((full, d) ∷ fs) gs s s' h = with_extends d _ _ (reading_grows None fs gs s s' h)
-reading_grows None ((first, d) ∷ fs) gs s s' h = reading_grows (Some d) fs gs s s' h
-reading_grows None ((middle, d) ∷ fs) gs s s' h = extends_same _
-reading_grows None ((last, d) ∷ fs) gs s s' h = extends_same _
-reading_grows (Some o) ((full, d) ∷ fs) gs s s' h = extends_same _
-reading_grows (Some o) ((first, d) ∷ fs) gs s s' h = extends_same _
-reading_grows (Some o) ((middle, d) ∷ fs) gs s s' h = reading_grows (Some (o ++ d)) fs gs s s' h
-reading_grows (Some o) ((last, d) ∷ fs) gs s s' h = with_extends (o ++ d) _ _ (reading_grows None fs gs s s' h)
+reading_grows so_far ((kind, d) ∷ fs) gs s s' h = joined_extends _ _ (joined so_far kind d) (λ o. reading_grows o fs gs s s' h)
 
 -- a fault, or none
 stop_cases : (s : Stop) → ((f : TailFault) × (s ≡ at_fault f)) ⊎ ((f : TailFault) → s ≡ at_fault f → ⊥)
@@ -250,10 +301,10 @@ all_extends a b c = elim (stop_cases a.stop) [
 ]
 
 -- what is read of a segment only grows as more of it comes
-pub segment_grows : (page : ℕ) (text more : List ℕ) → 0 < page → Extends (segment page text) (segment page (text ++ more))
-unfolding segment read_all
-segment_grows page text more p =
-    all_extends _ _ (layout_grows page (length text) (length (text ++ more)) page text more p p (le_refl (length text)) (le_refl (length (text ++ more))))
+pub segment_grows : (c : Bool) (page : ℕ) (text more : List ℕ) → 0 < page → Extends (segment_in c page text) (segment_in c page (text ++ more))
+unfolding segment_in read_all
+segment_grows c page text more p =
+    all_extends _ _ (layout_grows c page (length text) (length (text ++ more)) page text more p p (le_refl (length text)) (le_refl (length (text ++ more))))
 
 then_front : (s : Stop) (r next : Reading) → r.stop ≡ s → Extends r (then_after s r next)
 then_front between r next e = record { more = next.entries; entries = refl; more_skipped = next.skipped; skipped = refl; stays = λ f e'. absurd (between_open f (sym e ∙ e')) }
@@ -271,41 +322,56 @@ then_back between r a b x = record {
 then_back inside r a b x = extends_same _
 then_back (at_fault f) r a b x = extends_same _
 
-after_grows : (page : ℕ) (text : List ℕ) (more : List Piece) → 0 < page → Extends (segment page text) (reading_after page text more)
-after_grows page text [] p = extends_same _
-after_grows page text (bytes b ∷ more) p = extends_trans _ (segment page (text ++ b)) _ (segment_grows page text b p) (after_grows page (text ++ b) more p)
-after_grows page text (next_segment ∷ more) p = then_front (segment page text).stop (segment page text) _ refl
+-- of a segment without a byte nothing is read
+empty_segment : (c : Bool) (page : ℕ) → segment_in c page [] ≡ stopped between
+unfolding segment_in
+empty_segment c page = refl
 
-pieces_grow : (page : ℕ) (text : List ℕ) (ps more : List Piece) → 0 < page → Extends (reading_after page text ps) (reading_after page text (ps ++ more))
-pieces_grow page text [] more p = after_grows page text more p
-pieces_grow page text (bytes b ∷ ps) more p = pieces_grow page (text ++ b) ps more p
-pieces_grow page text (next_segment ∷ ps) more p = then_back (segment page text).stop (segment page text) _ _ (pieces_grow page [] ps more p)
+-- it makes no difference to what has come of a segment that it may have Snappy blocks
+marked_same : (c : Bool) (page : ℕ) (text : List ℕ) → segment_in c page text ≡ segment_in (compresses_after c text) page text
+marked_same c page [] = empty_segment c page ∙ sym (empty_segment true page)
+marked_same c page (b ∷ text) = refl
+
+after_grows : (c : Bool) (page : ℕ) (text : List ℕ) (more : List Piece) → 0 < page → Extends (segment_in c page text) (reading_in c page text more)
+after_grows c page text [] p = extends_same _
+after_grows c page text (bytes b ∷ more) p = extends_trans _ (segment_in c page (text ++ b)) _ (segment_grows c page text b p) (after_grows c page (text ++ b) more p)
+after_grows c page text (next_segment ∷ more) p = then_front (segment_in c page text).stop (segment_in c page text) _ refl
+after_grows c page text (may_compress ∷ more) p =
+    subst (λ (r : Reading). Extends r (reading_in (compresses_after c text) page text more)) (sym (marked_same c page text)) (after_grows (compresses_after c text) page text more p)
+
+pieces_grow : (c : Bool) (page : ℕ) (text : List ℕ) (ps more : List Piece) → 0 < page → Extends (reading_in c page text ps) (reading_in c page text (ps ++ more))
+pieces_grow c page text [] more p = after_grows c page text more p
+pieces_grow c page text (bytes b ∷ ps) more p = pieces_grow c page (text ++ b) ps more p
+pieces_grow c page text (next_segment ∷ ps) more p = then_back (segment_in c page text).stop (segment_in c page text) _ _ (pieces_grow c page [] ps more p)
+pieces_grow c page text (may_compress ∷ ps) more p = pieces_grow (compresses_after c text) page text ps more p
 
 -- what was read stays as more pieces come
 pub reading-append : (page : ℕ) (ps more : List Piece) → 0 < page → Extends (reading page ps) (reading page (ps ++ more))
 unfolding reading
-reading-append page ps more p = pieces_grow page [] ps more p
+reading-append page ps more p = pieces_grow false page [] ps more p
 
 -- how the bytes of a segment were cut makes no difference
-cut_after : (page : ℕ) (text a b : List ℕ) (ps : List Piece) → reading_after page text (bytes a ∷ bytes b ∷ ps) ≡ reading_after page text (bytes (a ++ b) ∷ ps)
-cut_after page text a b ps = ap (λ (t : List ℕ). reading_after page t ps) (append_assoc text a b)
+cut_after : (c : Bool) (page : ℕ) (text a b : List ℕ) (ps : List Piece) → reading_in c page text (bytes a ∷ bytes b ∷ ps) ≡ reading_in c page text (bytes (a ++ b) ∷ ps)
+cut_after c page text a b ps = ap (λ (t : List ℕ). reading_in c page t ps) (append_assoc text a b)
 
-pub cuts_after : (page : ℕ) (text : List ℕ) (front : List Piece) (a b : List ℕ) (ps : List Piece)
-    → reading_after page text (front ++ bytes a ∷ bytes b ∷ ps) ≡ reading_after page text (front ++ bytes (a ++ b) ∷ ps)
-cuts_after page text [] a b ps = cut_after page text a b ps
-cuts_after page text (bytes t ∷ front) a b ps = cuts_after page (text ++ t) front a b ps
-cuts_after page text (next_segment ∷ front) a b ps = ap (then_next (segment page text)) (cuts_after page [] front a b ps)
+pub cuts_after : (c : Bool) (page : ℕ) (text : List ℕ) (front : List Piece) (a b : List ℕ) (ps : List Piece)
+    → reading_in c page text (front ++ bytes a ∷ bytes b ∷ ps) ≡ reading_in c page text (front ++ bytes (a ++ b) ∷ ps)
+cuts_after c page text [] a b ps = cut_after c page text a b ps
+cuts_after c page text (bytes t ∷ front) a b ps = cuts_after c page (text ++ t) front a b ps
+cuts_after c page text (next_segment ∷ front) a b ps = ap (then_next (segment_in c page text)) (cuts_after c page [] front a b ps)
+cuts_after c page text (may_compress ∷ front) a b ps = cuts_after (compresses_after c text) page text front a b ps
 
 pub reading-cut : (page : ℕ) (front : List Piece) (a b : List ℕ) (ps : List Piece) → reading page (front ++ bytes a ∷ bytes b ∷ ps) ≡ reading page (front ++ bytes (a ++ b) ∷ ps)
 unfolding reading
-reading-cut page front a b ps = cuts_after page [] front a b ps
+reading-cut page front a b ps = cuts_after false page [] front a b ps
 
 -- a piece without bytes makes no difference either
-empty_after : (page : ℕ) (text : List ℕ) (front ps : List Piece) → reading_after page text (front ++ bytes [] ∷ ps) ≡ reading_after page text (front ++ ps)
-empty_after page text [] ps = ap (λ (t : List ℕ). reading_after page t ps) (append-nil text)
-empty_after page text (bytes t ∷ front) ps = empty_after page (text ++ t) front ps
-empty_after page text (next_segment ∷ front) ps = ap (then_next (segment page text)) (empty_after page [] front ps)
+empty_after : (c : Bool) (page : ℕ) (text : List ℕ) (front ps : List Piece) → reading_in c page text (front ++ bytes [] ∷ ps) ≡ reading_in c page text (front ++ ps)
+empty_after c page text [] ps = ap (λ (t : List ℕ). reading_in c page t ps) (append-nil text)
+empty_after c page text (bytes t ∷ front) ps = empty_after c page (text ++ t) front ps
+empty_after c page text (next_segment ∷ front) ps = ap (then_next (segment_in c page text)) (empty_after c page [] front ps)
+empty_after c page text (may_compress ∷ front) ps = empty_after (compresses_after c text) page text front ps
 
 pub reading-empty : (page : ℕ) (front ps : List Piece) → reading page (front ++ bytes [] ∷ ps) ≡ reading page (front ++ ps)
 unfolding reading
-reading-empty page front ps = empty_after page [] front ps
+reading-empty page front ps = empty_after false page [] front ps

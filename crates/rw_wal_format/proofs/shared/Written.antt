@@ -9,14 +9,14 @@ use Rattle.std.specs.List.{list_all}
 use Rattle.byteorder.specs.Endian.{big_bytes, big_number}
 use Rattle.byteorder.specs.Numbers.{big_number-reads_back}
 use Rattle.rw_codes.specs.Crc.{crc_bit, crc_bits, crc_byte, crc32c_of}
-use Rattle.rw_wal_format.specs.Segments.{Kind, full, first, middle, last, nothing, zeros, fragment, data_at, fragment_at, item_at, between, left_after, Reading, with_entries, with_record, read_from, segment}
+use Rattle.rw_wal_format.specs.Segments.{Kind, full, first, middle, last, snappy, IsPlain, nothing, zeros, fragment, data_at, fragment_at, item_at, between, left_after, Reading, Record, with_entries, with_record, read_from, segment, segment_in}
 use Rattle.rw_wal_format.specs.Writing.{type_byte, frame, padding, frames, log_bytes}
 use Rattle.rw_codes.specs.Varint.{AreBytes}
 use Rattle.rw_wal_format.specs.Laws.{AreRecords, log_all, reading_of_records, entries_of_records}
 use Rattle.rw_wal_format.specs.Records.{◌then◌, record_entries}
 use Rattle.rw_wal_format.specs.Pieces.{bytes, reading, page_size, entries, fault, fault_at}
 use Rattle.rw_types.specs.declared.entry.Entry.{Entry}
-use Rattle.rw_wal_format.proofs.shared.Items.{read_zeros, read_nothing, read_full, read_first, read_middle, read_last}
+use Rattle.rw_wal_format.proofs.shared.Items.{read_zeros, read_nothing, read_fragment}
 
 -- ---- the CRC has 32 bits
 
@@ -64,22 +64,23 @@ fragment_whole kind left n crc rest h g =
     let b : big_number 4 (big_bytes 4 crc ++ rest) ≡ crc = big_number-reads_back 4 crc rest g in
     rw t (ap (λ (x : ℕ). data_at kind left x (big_number 4 (big_bytes 4 crc ++ rest)) rest) a ∙ ap (λ (x : ℕ). data_at kind left n x rest) b)
 
-kind_item : (kind : Kind) (left : ℕ) (bs : List ℕ) → 7 ≤ left → item_at left (type_byte kind ∷ bs) ≡ fragment_at kind left bs
+kind_item : (kind : Kind) (left : ℕ) (bs : List ℕ) → IsPlain kind → 7 ≤ left → item_at left (type_byte kind ∷ bs) ≡ fragment_at kind left bs
 unfolding item_at
-kind_item full left bs h = let t : ltb left 7 ≡ false = le-ltb left 7 h in rw t refl
-kind_item first left bs h = let t : ltb left 7 ≡ false = le-ltb left 7 h in rw t refl
-kind_item middle left bs h = let t : ltb left 7 ≡ false = le-ltb left 7 h in rw t refl
-kind_item last left bs h = let t : ltb left 7 ≡ false = le-ltb left 7 h in rw t refl
+kind_item (snappy kind) left bs plain h = absurd plain
+kind_item full left bs plain h = let t : ltb left 7 ≡ false = le-ltb left 7 h in rw t refl
+kind_item first left bs plain h = let t : ltb left 7 ≡ false = le-ltb left 7 h in rw t refl
+kind_item middle left bs plain h = let t : ltb left 7 ≡ false = le-ltb left 7 h in rw t refl
+kind_item last left bs plain h = let t : ltb left 7 ≡ false = le-ltb left 7 h in rw t refl
 
 frame_is : (kind : Kind) (d rest : List ℕ) → frame kind d ++ rest ≡ type_byte kind ∷ header (length d) (crc32c_of d) (d ++ rest)
 unfolding frame header
 frame_is kind d rest = refl
 
-pub frame_item : (kind : Kind) (left : ℕ) (d rest : List ℕ) → length d < 2 ^ 16 → 7 + length d ≤ left → AreBytes d
+pub frame_item : (kind : Kind) (left : ℕ) (d rest : List ℕ) → IsPlain kind → length d < 2 ^ 16 → 7 + length d ≤ left → AreBytes d
     → item_at left (frame kind d ++ rest) ≡ fragment kind d
-frame_item kind left d rest h g b =
+frame_item kind left d rest plain h g b =
     ap (item_at left) (frame_is kind d rest)
-    ∙ kind_item kind left (header (length d) (crc32c_of d) (d ++ rest)) (omega arith)
+    ∙ kind_item kind left (header (length d) (crc32c_of d) (d ++ rest)) plain (omega arith)
     ∙ fragment_whole kind left (length d) (crc32c_of d) (d ++ rest) h (crc_fits d b)
     ∙ data_whole kind left d rest g
 
@@ -153,7 +154,7 @@ left_full page offset p =
 
 -- the padding is passed over, and what follows has room for a fragment
 pub record PaddingRead (page offset : ℕ) (pad rest : List ℕ) : Type 0 where
-  pub same : read_from page (left_at page offset) None (pad ++ rest) ≡ read_from page (left_at page (offset + length pad)) None rest
+  pub same : read_from false page (left_at page offset) None (pad ++ rest) ≡ read_from false page (left_at page (offset + length pad)) None rest
   pub room : 7 ≤ left_at page (offset + length pad)
 
 padding_read : (page offset : ℕ) (rest : List ℕ) → 7 < page → PaddingRead page offset (padding (left_at page offset)) rest
@@ -169,9 +170,9 @@ padding_read page offset rest p = elim (cases_lt (left_at page offset) 7) [
       subst (λ (k : ℕ). drop k (zeros_of (left_at page offset) ++ rest) ≡ rest) (length-zeros (left_at page offset)) (drop-append_seam (zeros_of (left_at page offset)) rest) in
       let f : left_at page (offset + length (zeros_of (left_at page offset))) ≡ page = ap (λ (k : ℕ). left_at page (offset + k)) (length-zeros (left_at page offset)) ∙ left_full page offset p0 in
       let r : PaddingRead page offset (zeros_of (left_at page offset)) rest = record {
-        same = read_zeros page (left_at page offset) (zeros_of (left_at page offset) ++ rest) p0 (left_pos page offset p0) None z
-            ∙ ap (λ (x : List ℕ). read_from page page None x) d
-            ∙ ap (λ (k : ℕ). read_from page k None rest) (sym f);
+        same = read_zeros false page (left_at page offset) (zeros_of (left_at page offset) ++ rest) p0 (left_pos page offset p0) None z
+            ∙ ap (λ (x : List ℕ). read_from false page page None x) d
+            ∙ ap (λ (k : ℕ). read_from false page k None rest) (sym f);
         room = omega (arith, f);
       } in
       subst (λ (x : List ℕ). PaddingRead page offset x rest) (sym e) r)
@@ -180,7 +181,7 @@ padding_read page offset rest p = elim (cases_lt (left_at page offset) 7) [
       let e : padding (left_at page offset) ≡ [] = rw t refl in
       let o : offset + 0 ≡ offset = omega arith in
       let r : PaddingRead page offset [] rest = record {
-        same = ap (λ (k : ℕ). read_from page (left_at page k) None rest) (sym o);
+        same = ap (λ (k : ℕ). read_from false page (left_at page k) None rest) (sym o);
         room = subst (λ (k : ℕ). 7 ≤ left_at page k) (sym o) g;
       } in
       subst (λ (x : List ℕ). PaddingRead page offset x rest) (sym e) r)
@@ -196,22 +197,35 @@ pub joined : Option (List ℕ) → List ℕ → List ℕ
 joined None d = d
 joined (Some o) d = o ++ d
 
+-- the record that is open, which is no Snappy block
+pub opened : Option (List ℕ) → Option Record
+opened None = None
+opened (Some o) = Some (false, o)
+
 close : (page left : ℕ) (so_far : Option (List ℕ)) (bs d : List ℕ) → 0 < page → 0 < left → item_at left bs ≡ fragment (if begun_of so_far then last else full) d
-    → read_from page left so_far bs ≡ with_record (joined so_far d) (read_from page (left_after page left (7 + length d)) None (drop (7 + length d) bs))
-unfolding begun_of joined
-close page left None bs d p l e = read_full page left bs p l d e
-close page left (Some o) bs d p l e = read_last page left bs p l o d e
+    → read_from false page left (opened so_far) bs ≡ with_record (false, joined so_far d) (read_from false page (left_after page left (7 + length d)) None (drop (7 + length d) bs))
+unfolding begun_of joined opened
+close page left None bs d p l e = read_fragment false page left bs p l None full d e
+close page left (Some o) bs d p l e = read_fragment false page left bs p l (Some (false, o)) last d e
 
 go_on : (page left : ℕ) (so_far : Option (List ℕ)) (bs d : List ℕ) → 0 < page → 0 < left → item_at left bs ≡ fragment (if begun_of so_far then middle else first) d
-    → read_from page left so_far bs ≡ read_from page (left_after page left (7 + length d)) (Some (joined so_far d)) (drop (7 + length d) bs)
-unfolding begun_of joined
-go_on page left None bs d p l e = read_first page left bs p l d e
-go_on page left (Some o) bs d p l e = read_middle page left bs p l o d e
+    → read_from false page left (opened so_far) bs ≡ read_from false page (left_after page left (7 + length d)) (opened (Some (joined so_far d))) (drop (7 + length d) bs)
+unfolding begun_of joined opened
+go_on page left None bs d p l e = read_fragment false page left bs p l None first d e
+go_on page left (Some o) bs d p l e = read_fragment false page left bs p l (Some (false, o)) middle d e
 
 -- the text at an offset is read as this record and what follows it
 pub record IsRead (page offset : ℕ) (so_far : Option (List ℕ)) (d text rest : List ℕ) : Type 0 where
-  pub same : read_from page (left_at page offset) so_far (text ++ rest) ≡ with_record (joined so_far d) (read_from page (left_at page (offset + length text)) None rest)
+  pub same : read_from false page (left_at page offset) (opened so_far) (text ++ rest) ≡ with_record (false, joined so_far d) (read_from false page (left_at page (offset + length text)) None rest)
   pub room : 7 ≤ left_at page (offset + length text)
+
+ends_plain : (b : Bool) → IsPlain (if b then last else full)
+ends_plain true = tt
+ends_plain false = tt
+
+goes_on_plain : (b : Bool) → IsPlain (if b then middle else first)
+goes_on_plain true = tt
+goes_on_plain false = tt
 
 -- the last fragment and its padding
 close_read : (page offset : ℕ) (so_far : Option (List ℕ)) (d rest : List ℕ) → 7 < page → page < 2 ^ 16 → AreBytes d → 7 + length d ≤ left_at page offset
@@ -222,17 +236,17 @@ close_read page offset so_far d rest p q b h =
     let w = padding_read page (offset + (7 + length d)) rest p in
     let pad = padding (left_at page (offset + (7 + length d))) in
     let short : length d < 2 ^ 16 = omega (arith, left_le page offset) in
-    let item : item_at (left_at page offset) (frame kind d ++ (pad ++ rest)) ≡ fragment kind d = frame_item kind (left_at page offset) d (pad ++ rest) short h b in
+    let item : item_at (left_at page offset) (frame kind d ++ (pad ++ rest)) ≡ fragment kind d = frame_item kind (left_at page offset) d (pad ++ rest) (ends_plain (begun_of so_far)) short h b in
     let len : length (frame kind d ++ pad) ≡ 7 + length d + length pad = omega (arith, length-append (frame kind d) pad, length-frame kind d) in
     let off : offset + length (frame kind d ++ pad) ≡ offset + (7 + length d) + length pad = omega (arith, len) in
     record {
       same =
-          ap (λ (x : List ℕ). read_from page (left_at page offset) so_far x) (append_assoc (frame kind d) pad rest)
+          ap (λ (x : List ℕ). read_from false page (left_at page offset) (opened so_far) x) (append_assoc (frame kind d) pad rest)
           ∙ close page (left_at page offset) so_far (frame kind d ++ (pad ++ rest)) d p0 (left_pos page offset p0) item
-          ∙ ap (λ (k : ℕ). with_record (joined so_far d) (read_from page k None (drop (7 + length d) (frame kind d ++ (pad ++ rest))))) (left_moves page offset (7 + length d) p0 h)
-          ∙ ap (λ (x : List ℕ). with_record (joined so_far d) (read_from page (left_at page (offset + (7 + length d))) None x)) (drop-frame kind d (pad ++ rest))
-          ∙ ap (with_record (joined so_far d)) w.same
-          ∙ ap (λ (k : ℕ). with_record (joined so_far d) (read_from page (left_at page k) None rest)) (sym off);
+          ∙ ap (λ (k : ℕ). with_record (false, joined so_far d) (read_from false page k None (drop (7 + length d) (frame kind d ++ (pad ++ rest))))) (left_moves page offset (7 + length d) p0 h)
+          ∙ ap (λ (x : List ℕ). with_record (false, joined so_far d) (read_from false page (left_at page (offset + (7 + length d))) None x)) (drop-frame kind d (pad ++ rest))
+          ∙ ap (with_record (false, joined so_far d)) w.same
+          ∙ ap (λ (k : ℕ). with_record (false, joined so_far d) (read_from false page (left_at page k) None rest)) (sym off);
       room = subst (λ (k : ℕ). 7 ≤ left_at page k) (sym off) w.room;
     }
 
@@ -282,19 +296,19 @@ more_read page offset so_far d text rest p q b h g ih =
     let short : length front < 2 ^ 16 = omega (arith, left_le page offset, size) in
     let fits : 7 + length front ≤ left_at page offset = omega (arith, size) in
     let item : item_at (left_at page offset) (frame kind front ++ (text ++ rest)) ≡ fragment kind front =
-    frame_item kind (left_at page offset) front (text ++ rest) short fits (bytes_take (left_at page offset - 7) d b) in
+    frame_item kind (left_at page offset) front (text ++ rest) (goes_on_plain (begun_of so_far)) short fits (bytes_take (left_at page offset - 7) d b) in
     let len : offset + length (frame kind front ++ text) ≡ offset + left_at page offset + length text = omega (arith, length-append (frame kind front) text, length-frame kind front, size) in
     let after : left_after page (left_at page offset) (7 + length front) ≡ left_at page (offset + left_at page offset) =
     left_moves page offset (7 + length front) p0 fits ∙ ap (λ (k : ℕ). left_at page (offset + k)) size in
     record {
       same =
-          ap (λ (x : List ℕ). read_from page (left_at page offset) so_far x) (append_assoc (frame kind front) text rest)
+          ap (λ (x : List ℕ). read_from false page (left_at page offset) (opened so_far) x) (append_assoc (frame kind front) text rest)
           ∙ go_on page (left_at page offset) so_far (frame kind front ++ (text ++ rest)) front p0 (left_pos page offset p0) item
-          ∙ ap (λ (k : ℕ). read_from page k (Some (joined so_far front)) (drop (7 + length front) (frame kind front ++ (text ++ rest)))) after
-          ∙ ap (λ (x : List ℕ). read_from page (left_at page (offset + left_at page offset)) (Some (joined so_far front)) x) (drop-frame kind front (text ++ rest))
+          ∙ ap (λ (k : ℕ). read_from false page k (opened (Some (joined so_far front))) (drop (7 + length front) (frame kind front ++ (text ++ rest)))) after
+          ∙ ap (λ (x : List ℕ). read_from false page (left_at page (offset + left_at page offset)) (opened (Some (joined so_far front))) x) (drop-frame kind front (text ++ rest))
           ∙ ih.same
-          ∙ ap (λ (x : List ℕ). with_record x (read_from page (left_at page (offset + left_at page offset + length text)) None rest)) (joined-take so_far (left_at page offset - 7) d)
-          ∙ ap (λ (k : ℕ). with_record (joined so_far d) (read_from page (left_at page k) None rest)) (sym len);
+          ∙ ap (λ (x : List ℕ). with_record (false, x) (read_from false page (left_at page (offset + left_at page offset + length text)) None rest)) (joined-take so_far (left_at page offset - 7) d)
+          ∙ ap (λ (k : ℕ). with_record (false, joined so_far d) (read_from false page (left_at page k) None rest)) (sym len);
       room = subst (λ (k : ℕ). 7 ≤ left_at page k) (sym len) ih.room;
     }
 
@@ -322,7 +336,7 @@ frames_read page (suc k) offset so_far d rest p q b n h f = elim (cases_lt (left
 -- a record that was written at an offset is read again, whatever follows it
 pub log_read : (page offset : ℕ) (d rest : List ℕ) → 7 < page → page < 2 ^ 16 → AreBytes d → 0 < length d → 7 ≤ left_at page offset
     → IsRead page offset None d (log_bytes page offset d) rest
-unfolding log_bytes begun_of left_at
+unfolding log_bytes begun_of left_at opened
 log_read page offset d rest p q b n h = frames_read page (length d + 1) offset None d rest p q b n h (omega arith)
 
 pub empty_item : (left : ℕ) → item_at left [] ≡ nothing
@@ -330,20 +344,20 @@ unfolding item_at
 empty_item left = refl
 
 all_read : (page offset : ℕ) (ds : List (List ℕ)) → 7 < page → page < 2 ^ 16 → AreRecords ds → 7 ≤ left_at page offset
-    → read_from page (left_at page offset) None (log_all page offset ds) ≡ reading_of_records ds
-unfolding joined
-all_read page offset [] p q r h = read_nothing page (left_at page offset) [] (omega arith) (omega arith) None (empty_item (left_at page offset))
+    → read_from false page (left_at page offset) None (log_all page offset ds) ≡ reading_of_records ds
+unfolding joined opened
+all_read page offset [] p q r h = read_nothing false page (left_at page offset) [] (omega arith) (omega arith) None (empty_item (left_at page offset))
 all_read page offset (d ∷ ds) p q r h =
     let w = log_read page offset d (log_all page (offset + length (log_bytes page offset d)) ds) p q r.0 r.1 h in
-    w.same ∙ ap (with_record d) (all_read page (offset + length (log_bytes page offset d)) ds p q r.2 w.room)
+    w.same ∙ ap (with_record (false, d)) (all_read page (offset + length (log_bytes page offset d)) ds p q r.2 w.room)
 
 -- the entries of written records are read again
 pub segment_read : (page : ℕ) (ds : List (List ℕ)) → 7 < page → page < 2 ^ 16 → AreRecords ds → segment page (log_all page 0 ds) ≡ reading_of_records ds
-unfolding segment left_at
+unfolding segment_in left_at
 segment_read page ds p q r =
     let z : page - 0 % page ≡ page = let m : 0 % page ≡ 0 = mod-eq_of_lt (omega arith) in omega (arith, m) in
     let h : 7 ≤ page - 0 % page = omega (arith, z) in
-    ap (λ (left : ℕ). read_from page left None (log_all page 0 ds)) (sym z) ∙ all_read page 0 ds p q r h
+    ap (λ (left : ℕ). read_from false page left None (log_all page 0 ds)) (sym z) ∙ all_read page 0 ds p q r h
 
 pub records_read : (page : ℕ) (ds : List (List ℕ)) → 7 < page → page < 2 ^ 16 → AreRecords ds → reading page (bytes (log_all page 0 ds) ∷ []) ≡ reading_of_records ds
 unfolding reading

@@ -6,6 +6,7 @@ use Rattle.rw_wal_format.specs.Pieces as pieces
 use Rattle.rw_wal_format.specs.Pieces.{page_size, reading}
 use Rattle.rw_wal_format.specs.declared.tail_fault.TailFault.{TailFault}
 use Rattle.rw_wal_tail.specs.declared.reader.Reader.{Reader}
+use Rattle.rw_wal_format.proofs.shared.Tailing.{unmarked}
 use Rattle.rw_wal_tail.specs.inner.Still.{after}
 use Rattle.rw_wal_tail.specs.Places.{stop_after}
 use Rattle.rw_wal_tail.specs.inner.Placed.{ends_after}
@@ -15,9 +16,9 @@ use Rattle.rw_wal_tail.specs.Fed.{size_of}
 -- whatever comes later, the reading is what was given and then what the reader still reads
 pub record Follows (ps : List pieces.Piece) (given : List Entry) (r : Reader) : Type 0 where
   pub reader : IsReader r
-  pub reads : (later : List pieces.Piece) → reading page_size (ps ++ later) ≡ after given [] (still_read r later)
+  pub reads : (later : List pieces.Piece) → reading page_size (ps ++ unmarked later) ≡ after given [] (still_read r later)
   pub counts : Counts (ends_after 0 ps) r
-  pub stops : (later : List pieces.Piece) → stop_after page_size 0 [] (ps ++ later) ≡ still_place r (ends_after 0 ps) later
+  pub stops : (later : List pieces.Piece) → stop_after page_size 0 [] (ps ++ unmarked later) ≡ still_place r (ends_after 0 ps) later
 
 -- nothing is ready, and this is the reader's fault, if there is one
 abbrev pub IsStuck : Reader → Option TailFault → Type 0

@@ -5,7 +5,7 @@ use Rattle.rw_wal_format.specs.Records.{record_entries}
 use Rattle.rw_wal_format.specs.Skipped.{skips_of}
 use Rattle.rw_wal_format.specs.declared.skipped_type.SkippedType.{SkippedType}
 use Rattle.rw_wal_format.specs.Segments as grammar
-use Rattle.rw_wal_format.specs.Segments.{full, first, middle, last, nothing, begun, fragment, item_at, Reading}
+use Rattle.rw_wal_format.specs.Segments.{middle, last, nothing, begun, fragment, item_in, flagged, Record, text_of, entries_in, Reading}
 use Rattle.rw_wal_format.specs.Pieces.{Piece, page_size}
 use Rattle.rw_wal_format.specs.declared.tail_fault.TailFault.{TailFault}
 use Rattle.rw_wal_format.specs.declared.tail_fault.TailFault.TheVariants.{OutOfMemory}
@@ -21,13 +21,25 @@ use Rattle.rw_wal_tail.specs.inner.Still.{still, open_data}
 abbrev pub waiting_of : Reader → List Piece
 waiting_of r = waiting r.input.later r.input.ended
 
+-- whether it reads Snappy blocks
+abbrev pub compresses : Reader → Bool
+compresses r = r.decoder.ready
+
+-- the record that is open
+abbrev pub open_of : Reader → Option Record
+open_of r = open_data r.is_open r.is_block r.begun.items
+
+-- what comes at the front
+abbrev pub item_of : Reader → grammar.Item
+item_of r = item_in (compresses r) r.left r.input.rest
+
 -- what the reader still reads
 abbrev pub still_read : Reader → List Piece → Reading
-still_read r later = still r.ready.items r.passed r.fault r.left r.is_open r.begun.items r.input.rest (waiting_of r) later
+still_read r later = still r.ready.items r.passed r.fault (compresses r) r.left (open_of r) r.input.rest (waiting_of r) later
 
 -- where the reading stops of what it still reads, if this many segments have ended
 abbrev pub still_place : Reader → ℕ → List Piece → FaultPlace
-still_place r ends later = place_from r.fault r.left (open_data r.is_open r.begun.items) r.input ends later
+still_place r ends later = place_from r.fault (compresses r) r.left (open_of r) r.input ends later
 
 -- this is the number of segments that have ended, unless there are too many
 abbrev pub Counts : ℕ → Reader → Type 0
@@ -76,12 +88,12 @@ pub record CanStep (r : Reader) : Type 0 where
 -- what has come of the current segment ends here, inside a record or fragment or not
 pub record PausesAt (is_inside : Bool) (r : Reader) : Type 0 where
   pub can_step : CanStep r
-  pub ends : ((item_at r.left r.input.rest ≡ begun) × (is_inside ≡ true)) ⊎ ((item_at r.left r.input.rest ≡ nothing) × (is_inside ≡ r.is_open))
+  pub ends : ((item_of r ≡ begun) × (is_inside ≡ true)) ⊎ ((item_of r ≡ nothing) × (is_inside ≡ r.is_open))
 
 -- what has come ends here
 pub record Ends (r : Reader) : Type 0 where
   pub can_step : CanStep r
-  pub ends : (item_at r.left r.input.rest ≡ nothing) ⊎ (item_at r.left r.input.rest ≡ begun)
+  pub ends : (item_of r ≡ nothing) ⊎ (item_of r ≡ begun)
   pub none_waits : has_ended r.input.later r.input.ended ≡ false
 
 abbrev pub weight : Reader → ℕ
@@ -93,36 +105,47 @@ Stepped Waits old new = Ends new
 Stepped (Failed f) old new = (new.fault ≡ Some f) × (new.ready.items ≡ [])
 
 abbrev pub goes_on : grammar.Kind → Bool
-goes_on full = false
-goes_on first = false
 goes_on middle = true
 goes_on last = true
+goes_on _ = false
 
--- a fragment of this kind comes there, with this many bytes
-pub record FoundFragment (kind : grammar.Kind) (n : ℕ) (r : Reader) : Type 0 where
+-- the data of a fragment of this many bytes
+abbrev pub data_at_front : ℕ → Reader → List ℕ
+data_at_front n r = take n (drop 7 r.input.rest)
+
+-- a fragment of this kind comes there, with this many bytes, of a Snappy block or not
+pub record FoundFragment (is_block : Bool) (kind : grammar.Kind) (n : ℕ) (r : Reader) : Type 0 where
   pub can_step : CanStep r
   pub whole : 7 + n ≤ length r.input.rest
   pub in_page : 7 + n ≤ r.left
-  pub found : item_at r.left r.input.rest ≡ fragment kind (take n (drop 7 r.input.rest))
+  pub found : item_of r ≡ fragment (flagged is_block kind) (data_at_front n r)
+  pub may_be : is_block ≡ true → compresses r ≡ true
 
 -- the same, and it goes on with what is open
-pub record FoundAt (kind : grammar.Kind) (n : ℕ) (r : Reader) : Type 0 where
+pub record FoundAt (is_block : Bool) (kind : grammar.Kind) (n : ℕ) (r : Reader) : Type 0 where
   pub can_step : CanStep r
   pub whole : 7 + n ≤ length r.input.rest
   pub in_page : 7 + n ≤ r.left
-  pub found : item_at r.left r.input.rest ≡ fragment kind (take n (drop 7 r.input.rest))
+  pub found : item_of r ≡ fragment (flagged is_block kind) (data_at_front n r)
+  pub may_be : is_block ≡ true → compresses r ≡ true
   pub in_order : r.is_open ≡ goes_on kind
 
--- a whole record is read into the queue, or is not of its form
-abbrev pub IsRead : List ℕ → List SkippedType → List Entry → List SkippedType → Bool → Type 0
-IsRead d passed ready passed' true = (record_entries d ≡ Some ready) × (passed' ≡ passed ++ skips_of d)
-IsRead d passed ready passed' false = (record_entries d ≡ None) × (ready ≡ []) × (passed' ≡ passed)
+-- what a record holds is read into the queue, or is not of its form
+abbrev pub IsTextRead : List ℕ → List SkippedType → List Entry → List SkippedType → Bool → Type 0
+IsTextRead d passed ready passed' true = (record_entries d ≡ Some ready) × (passed' ≡ passed ++ skips_of d)
+IsTextRead d passed ready passed' false = (record_entries d ≡ None) × (ready ≡ []) × (passed' ≡ passed)
+
+-- a whole record is read into the queue, or cannot be decoded or is not of its form
+abbrev pub IsRead : Record → List SkippedType → List Entry → List SkippedType → Bool → Type 0
+IsRead r passed ready passed' true = (d : List ℕ) × (text_of r ≡ Some d) × (record_entries d ≡ Some ready) × (passed' ≡ passed ++ skips_of d)
+IsRead r passed ready passed' false = (entries_in r ≡ None) × (ready ≡ []) × (passed' ≡ passed)
 
 abbrev pub is_failed_by : TailFault → Reader → Reader
 is_failed_by f r = record r { fault = Some f }
 
 -- a reader that nothing was fed to
-pub record IsUnfed (r : Reader) : Type 0 where
+pub record IsUnfed (c : Bool) (r : Reader) : Type 0 where
+  pub compresses_is : compresses r ≡ c
   pub input : r.input ≡ unfed
   pub left : r.left ≡ page_size
   pub is_open : r.is_open ≡ false

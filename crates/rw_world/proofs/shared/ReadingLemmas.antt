@@ -4,14 +4,14 @@ use Rattle.std.proofs.lemmas.List.{take_more}
 use Rattle.std.proofs.lemmas.Option.{slice_get_within, get_or_from_slice_get}
 use Rattle.std.specs.Prelude.{slice_get}
 use Rattle.rw_types.specs.declared.entry.Entry.{Entry}
-use Rattle.rw_wal_format.specs.Segments.{segment}
+use Rattle.rw_wal_format.specs.Segments.{segment_in}
 use Rattle.rw_wal_format.specs.Pieces.{reading}
 use Rattle.rw_wal_format.specs.declared.tail_fault.TailFault.{TailFault}
 use Rattle.rw_wal_tail.specs.Fed.{Fed}
 use Rattle.rw_wal_tail.specs.Taking.{HasTakenAll, TakesNext}
 
 pub nothing_read : HasTakenAll (record { pieces = []; given = 0; skipped = []; fault = None }) [] None
-unfolding reading segment
+unfolding reading segment_in
 nothing_read = record {
   taken_all = record { count = refl; rest = []; begins = refl };
   read = record { all = refl; fault_is = refl };

@@ -7,7 +7,7 @@ use Rattle.rw_inspect.proofs.found.find_entries.Goals as goal
 pub returns-clause-ok : goal.returns-clause-ok
 returns-clause-ok g c =
     let read = c.in_ok-read.ensures in
-    finds _ _ _ _ _ _ _ read.ok (read.fixed ∙ ap (λ (f : Finding). f.positions.items) c.new-finder.ensures) c.deref.ensures.value c.in_ok-text.ensures.text c.in_ok-text.ensures.missing
+    finds _ _ _ _ _ _ _ _ read.ok (read.fixed ∙ ap (λ (f : Finding). f.positions.items) c.new-finder.ensures) c.deref.ensures.value c.in_ok-text.ensures.text c.in_ok-text.ensures.missing
 
 pub returns-in_err-read-clause-sure : goal.returns-in_err-read-clause-sure
 returns-in_err-read-clause-sure g c = λ all u is.

@@ -8,4 +8,5 @@ returns c = record {
   counts_are = c.counts.ensures;
   first_are = appended _ _ _ c.in_ok-extend_from_slice.ensures.items c.new-first_not_rising.ensures.items ∙ c.first_not_rising.ensures;
   damage_is = refl;
+  compresses_is = refl;
 }

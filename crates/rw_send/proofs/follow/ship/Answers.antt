@@ -1,8 +1,8 @@
-use Rattle.std.proofs.Common.{[], length, refl, ap, ◌∙◌}
+use Rattle.std.proofs.Common.{[], length, Bool, refl, ap, ◌∙◌, subst}
 use Rattle.rw_sender.specs.Feeders.{Sorting}
 use Rattle.rw_sender.proofs.shared.ShippingLemmas.{failed_so}
 use Rattle.rw_send.specs.Logs.{Seen, seen_of}
-use Rattle.rw_send.specs.Segments.{meal_of}
+use Rattle.rw_send.specs.Segments.{IsShortLog, meal_of}
 use Rattle.rw_send.specs.Sending.{StopsAtOnce}
 use Rattle.rw_send.specs.Steps.{HasComeTo, HasLapped}
 use Rattle.rw_send.specs.inner.EpochSizes.{KeepsEpochSizes}
@@ -10,6 +10,7 @@ use Rattle.rw_send.specs.inner.Turns.{IsCut}
 use Rattle.rw_send.proofs.AnswerLemmas.{answered, at_ok, cut_for, ends_for, fed_all, ok_start, on_start, signed_ok, why_stopped}
 use Rattle.rw_send.proofs.EpochLemmas.{none_ended}
 use Rattle.rw_send.proofs.EpochSizeLemmas.{sizes_at_first}
+use Rattle.rw_send.proofs.ShortLemmas.{marked_begun, fed_begun}
 use Rattle.rw_send.proofs.StepLemmas.{between}
 use Rattle.rw_send.proofs.follow.ship.Goals as goal
 
@@ -34,11 +35,12 @@ returns g c = λ start h.
     let least = c.of-sharding.ensures.fewest in
     let greatest = c.of-sharding.ensures.most in
     let started = c.in_ok-shipper.shipper in
+    let begun = ap (λ (l : Sorting). l.pieces) c.in_ok-shipper.ensures.log in
     let opened = c.in_ok-shipper.ensures.opened in
     record {
       pieces = shipper.log.pieces;
       begins = live.begins start h;
-      short = live.short;
+      short = subst (λ (b : Bool). IsShortLog b shipper.log.pieces) (marked_begun _ _ begun) live.short;
       report = record {
         shipping = shipper;
         choice = live.kept.0 ∙ ap (λ (l : Sorting). l.choice) c.in_ok-shipper.ensures.log;
@@ -60,7 +62,7 @@ returns g c = λ start h.
       sizes = λ sound. between (λ fewest most. KeepsEpochSizes fewest most started.fleet shipper.fleet) least greatest (live.sizes sound) _ (sizes_at_first _ _ _ started.fleet opened.0 opened.1 opened.2);
       started = started;
       start = record {
-        pieces = ap (λ (l : Sorting). l.pieces) c.in_ok-shipper.ensures.log;
+        pieces = begun;
         ended = opened.1;
         epoch = opened.0;
         shards = opened.2;
@@ -74,3 +76,6 @@ returns g c = λ start h.
       answers = answered shipper log before said fed report.outcome ended c.stop_shipper-report.result.answer signed.result stopped.answer stopped.hard cut (fed_all log before fed ended whole live.signed) stopped.whole signed.ensures.answer signed.ensures.watch;
       heeds = signed.ensures.heeded;
     }
+
+pub ship_live-ended-requires-clause-begun : goal.ship_live-ended-requires-clause-begun
+ship_live-ended-requires-clause-begun g c κs within = fed_begun _ _ (ap (λ (l : Sorting). l.pieces) c.in_ok-shipper.ensures.log)

@@ -1,5 +1,4 @@
-use Rattle.std.proofs.Common.{List, length, Ok, Err, inl, refl, sym, ap, ◌∙◌, subst, rules}
-use Rattle.rw_wal_format.specs.Pieces.{Piece}
+use Rattle.std.proofs.Common.{length, Ok, Err, inl, refl, sym, ap, ◌∙◌, subst, rules}
 use Rattle.rw_follow.specs.Meals.{Meal}
 use Rattle.rw_follow.specs.Turns.{given_by}
 use Rattle.rw_send.specs.Logs.{seen_of}
@@ -12,6 +11,8 @@ use Rattle.rw_send.proofs.FeedErrorLemmas.{count_so, err_so, on_err}
 use Rattle.rw_send.proofs.IntactLemmas.{intact_at_first, sound_at_first}
 use Rattle.rw_send.proofs.LapLemmas.{come_to, idle_halted, idle_on, lapped}
 use Rattle.rw_send.proofs.LoopLemmas.{almost, cut_broken, cut_halted, damage_broken, damage_halted}
+use Rattle.rw_send.proofs.MealLemmas.{meal_begun}
+use Rattle.rw_send.proofs.ShortLemmas.{short_begun}
 use Rattle.rw_send.proofs.StepLemmas.{between, stays}
 use Rattle.rw_send.proofs.live.ship_live.Goals as goal
 
@@ -19,17 +20,17 @@ pub loop-init : goal.loop-init
 loop-init g c = record {
   kept = search rules;
   limit = search rules;
-  short = search rules;
-  but_last = sound_at_first _ c.requires.begun;
-  intact = intact_at_first _ c.requires.begun;
+  short = short_begun c.args.shipper.now.log.pieces c.requires.begun;
+  but_last = sound_at_first c.args.shipper.now.log.pieces c.requires.begun;
+  intact = intact_at_first c.args.shipper.now.log.pieces c.requires.begun;
   live = search rules;
   shards = search rules;
   range = (refl, refl);
   sizes = λ _ h. h;
-  laps = λ _. subst (λ (ps : List Piece). HasLapped c.args.sharding.fewest c.args.sharding.most (length (meal_of ps).whole) c.args.shipper.now c.args.shipper.now) (sym c.requires.begun) (stays c.args.shipper.now);
+  laps = λ _. subst (λ (m : Meal). HasLapped c.args.sharding.fewest c.args.sharding.most (length m.whole) c.args.shipper.now c.args.shipper.now) (sym (meal_begun c.args.shipper.now.log.pieces c.requires.begun)) (stays c.args.shipper.now);
   idle = λ _ _. refl;
   quiet = λ q. q;
-  given = λ start h. subst (λ (ps : List Piece). g.S.Segments.gave c.args.segments.now start (meal_of ps)) (sym c.requires.begun) h;
+  given = λ start h. subst (λ (m : Meal). g.S.Segments.gave c.args.segments.now start m) (sym (meal_begun c.args.shipper.now.log.pieces c.requires.begun)) h;
   followed = search rules;
   fails = λ f h. h;
   resolved = search rules;
@@ -46,7 +47,7 @@ loop-preserved g c =
     record {
       kept = (keeps.kept.0 ∙ was.kept.0, keeps.kept.1 ∙ was.kept.1);
       limit = keeps.limit keeps.live ∙ was.limit;
-      short = keeps.short was.short;
+      short = keeps.short _ was.short;
       but_last = keeps.but_last was.but_last;
       intact = keeps.intact;
       live = keeps.live;
@@ -102,7 +103,7 @@ returns-in_err-sharding g c =
           idle_halted c.loop.sharding.fewest c.loop.sharding.most c.in_ok-turn.turn c.turn.new.buf c.args.shipper.now c.loop.shipper c.step.new.shipper goes.halted
           (λ e. turn.unasked (was.quiet q) (ap Ok e)) turn.piece (λ n e. turn.some n (ap Ok e)) (none (given_by c.in_ok-turn.turn c.turn.new.buf (meal_of c.loop.shipper.log.pieces)) (turn.given start (meal_of c.loop.shipper.log.pieces) (was.given start h)));
       last = λ done. keeps.last (was.resolved done);
-      short = keeps.short was.short;
+      short = keeps.short _ was.short;
       but_last = keeps.but_last was.but_last;
       live = on_err _ _ _ is_err;
       begins = λ start h. almost (g.S.Segments.gave c.turn.new.segments start) c.in_ok-turn.turn c.turn.new.buf (meal_of c.loop.shipper.log.pieces) (meal_of c.step.new.shipper.log.pieces)

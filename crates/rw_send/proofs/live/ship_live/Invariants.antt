@@ -2,7 +2,8 @@ use Rattle.std.proofs.Common.{◌≡◌, ◌<◌, ◌≤◌, [], length, true, N
 use Rattle.rw_fleet.specs.Work.{AreResolved}
 use Rattle.rw_types.specs.declared.transfer.ReadFault.{ReadFault}
 use Rattle.rw_follow.specs.Meals.{no_meal}
-use Rattle.rw_send.specs.Segments.{AreShortPieces, AreSoundButLast, meal_of}
+use Rattle.rw_wal_format.specs.Pieces.{is_marked}
+use Rattle.rw_send.specs.Segments.{IsShortLog, AreSoundButLast, meal_of}
 use Rattle.rw_send.specs.Steps.{HasLapped, KeepsSetup}
 use Rattle.rw_send.specs.inner.EpochSizes.{KeepsEpochSizes}
 use Rattle.rw_send.specs.inner.FeedErrors.{IsIntact}
@@ -12,7 +13,7 @@ abbrev pub invariant-loop : goal.invariant-loop
 invariant-loop g l = record {
   kept : KeepsSetup l.fn.shipper l.shipper;
   limit : l.shipper.limit ≡ l.fn.shipper.limit;
-  short : AreShortPieces l.shipper.log.pieces;
+  short : IsShortLog (is_marked l.fn.shipper.log.pieces) l.shipper.log.pieces;
   but_last : AreSoundButLast l.shipper.log.pieces;
   intact : IsIntact l.shipper;
   live : l.shipper.fault ≡ None;

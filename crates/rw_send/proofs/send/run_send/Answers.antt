@@ -10,8 +10,8 @@ returns-in-Ok-clause-prints g c =
     let lefts = map g.S.Source.remaining c.args.segments.items in
     let now = map g.S.Source.remaining c.run_follow-ended.new.segments in (
       now,
-      sure_so _ _ _ _ _ _ _ _ _ ⊤ ⊤ lefts now g.S.Source.is_sure c.new-log.result c.args.segments.items (Ok tt)
-          c.new-log.ensures.readers (prints_so _ _ _ _ _ _ _ _ _ _ _ _ _ (Ok tt) (sym c.answer_of.ensures ∙ c.in-Ok.is) (c.run_follow-ended.ensures.prints lefts c.new-log.ensures.unread)),
+      sure_so _ _ _ _ _ _ _ _ _ _ ⊤ ⊤ lefts now g.S.Source.is_sure c.new-log.result c.args.segments.items (Ok tt)
+          c.new-log.ensures.readers (prints_so _ _ _ _ _ _ _ _ _ _ _ _ _ _ (Ok tt) (sym c.answer_of.ensures ∙ c.in-Ok.is) (c.run_follow-ended.ensures.prints lefts c.new-log.ensures.unread)),
     )
 
 pub returns-in-Err-Tool-clause-prints : goal.returns-in-Err-Tool-clause-prints
@@ -22,7 +22,7 @@ returns-in-Err-Tool-clause-prints g c =
     let lefts = map g.S.Source.remaining c.args.segments.items in
     let now = map g.S.Source.remaining c.run_follow-ended.new.segments in (
       now,
-      prints_so _ _ _ _ _ _ _ _ _ _ _ _ (failed c.in-Err-Tool.field-0) (failed (Tool c.in-Err-Tool.fault)) e
-          (sure_so _ _ _ _ _ _ _ _ _ _ _ lefts now g.S.Source.is_sure c.new-log.result c.args.segments.items (failed c.in-Err-Tool.field-0)
-          c.new-log.ensures.readers (prints_so _ _ _ _ _ _ _ _ _ _ _ _ _ (failed c.in-Err-Tool.field-0) (sym c.answer_of.ensures ∙ c.in-Err-Tool.is) (c.run_follow-ended.ensures.prints lefts c.new-log.ensures.unread))),
+      prints_so _ _ _ _ _ _ _ _ _ _ _ _ _ (failed c.in-Err-Tool.field-0) (failed (Tool c.in-Err-Tool.fault)) e
+          (sure_so _ _ _ _ _ _ _ _ _ _ _ _ lefts now g.S.Source.is_sure c.new-log.result c.args.segments.items (failed c.in-Err-Tool.field-0)
+          c.new-log.ensures.readers (prints_so _ _ _ _ _ _ _ _ _ _ _ _ _ _ (failed c.in-Err-Tool.field-0) (sym c.answer_of.ensures ∙ c.in-Err-Tool.is) (c.run_follow-ended.ensures.prints lefts c.new-log.ensures.unread))),
     )

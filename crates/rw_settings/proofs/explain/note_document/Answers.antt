@@ -3,6 +3,7 @@ use Rattle.toml.specs.Data.{get_member}
 use Rattle.toml.specs.View.{table_view}
 use Rattle.rw_settings.specs.Receiving.{receive_fault}
 use Rattle.rw_settings.specs.Keys.{document_keys, keys_fault}
+use Rattle.rw_settings.specs.LogTable.{log_fault}
 use Rattle.rw_settings.specs.RuleTables.{with_rules_fault}
 use Rattle.rw_settings.specs.Sending.{send_fault}
 use Rattle.rw_settings.specs.Settings.{document_fault}
@@ -16,6 +17,7 @@ unfolding document_fault
 returns c =
     let document = table_view c.args.document.now in
     rw (
+      c.in_ok-note_log_part.ensures,
       c.in_ok-note_rules_part.ensures,
       c.in_ok-note_receive_part.ensures,
       c.in_ok-note_send_part.ensures,
@@ -26,5 +28,6 @@ returns c =
     ∷ part_fault send_fault (section (get_member (codes "send") document))
     ∷ part_fault receive_fault (section (get_member (codes "receive") document))
     ∷ part_fault (with_rules_fault None) (list_at (get_member (codes "rule") document))
+    ∷ part_fault log_fault (section (get_member (codes "log") document))
     ∷ []
     ))

@@ -1,24 +1,33 @@
-use Rattle.std.proofs.Common.{◌≡◌, ◌∙◌, List, [], ◌∷◌, ◌++◌, true, false, Some, cond, length, ap, sym, inl, arith, append-nil}
-use Rattle.rw_wal_format.specs.Records.{is_skipped}
-use Rattle.rw_wal_format.specs.Skipped.{skips_of, skipped_type}
-use Rattle.rw_wal_format.specs.declared.skipped_type.SkippedType.{SkippedType}
-use Rattle.rw_wal_tail.proofs.FormLaws.{skipped_empty, lone_empty, has_entries}
+use Rattle.std.proofs.Common.{◌≡◌, ◌∙◌, List, ℕ, Bool, Option, Some, None, cond, refl, sym, ap}
+use Rattle.rw_wal_format.specs.Records.{◌then◌, record_entries}
+use Rattle.rw_wal_format.specs.Segments.{text_of}
+use Rattle.rw_wal_tail.proofs.KeptLaws.{read_if, lacks_if}
 use Rattle.rw_wal_tail.proofs.reader.read_whole.Goals as goal
 
-pub returns-then-is_skipped-clause-ok : goal.returns-then-is_skipped-clause-ok
-returns-then-is_skipped-clause-ok c =
-    let s : is_skipped c.args.bytes.now ≡ true = sym c.is_skipped.ensures ∙ c.if-is_skipped.true in
-    let n : skips_of c.args.bytes.now ≡ skipped_type c.args.bytes.now ∷ [] = ap (λ b. cond b (skipped_type c.args.bytes.now ∷ []) []) s in
-    (skipped_empty c.args.bytes.now s ∙ ap Some (sym c.clear.ensures.items), c.push.ensures ∙ ap (λ (t : SkippedType). c.args.passed.now ++ t ∷ []) c.of.ensures ∙ ap (λ (ts : List SkippedType). c.args.passed.now ++ ts) (sym n))
+pub returns-then-not-is_block-clause-ok : goal.returns-then-not-is_block-clause-ok
+returns-then-not-is_block-clause-ok c =
+    let t : text_of (c.args.is_block, c.args.data.now) ≡ Some c.args.data.now = ap (λ (b : Bool). text_of (b, c.args.data.now)) c.if-not-is_block.true in
+    read_if (c.args.is_block, c.args.data.now) c.args.data.now c.args.passed.now c.read_text.new.ready.items c.read_text.new.passed c.read_text.result t c.read_text.ensures.ok
 
-pub returns-then-bytes-eq1-clause-ok : goal.returns-then-bytes-eq1-clause-ok
-returns-then-bytes-eq1-clause-ok c =
-    let s : is_skipped c.args.bytes.now ≡ false = sym c.is_skipped.ensures ∙ c.if-is_skipped.false in
-    let n : skips_of c.args.bytes.now ≡ [] = ap (λ b. cond b (skipped_type c.args.bytes.now ∷ []) []) s in
-    let l : length c.args.bytes.now ≡ 1 = omega (arith, c.if-bytes-eq1.true) in
-    (lone_empty c.args.bytes.now l ∙ ap Some (sym c.clear.ensures.items), sym (append-nil c.args.passed.now) ∙ ap (λ (ts : List SkippedType). c.args.passed.now ++ ts) (sym n))
+pub returns-then-not-is_block-clause-certain : goal.returns-then-not-is_block-clause-certain
+returns-then-not-is_block-clause-certain c =
+    let t : text_of (c.args.is_block, c.args.data.now) ≡ Some c.args.data.now = ap (λ (b : Bool). text_of (b, c.args.data.now)) c.if-not-is_block.true in
+    lacks_if (c.args.is_block, c.args.data.now) c.args.data.now _ c.read_text.result t c.read_text.ensures.certain
 
-pub returns-in-Err-clause-certain : goal.returns-in-Err-clause-certain
-returns-in-Err-clause-certain c =
-    let s : is_skipped c.args.bytes.now ≡ false = sym c.is_skipped.ensures ∙ c.if-is_skipped.false in
-    inl (has_entries c.args.bytes.now s (λ e. omega (arith, e, c.if-bytes-eq1.false)) (sym c.is_record.ensures ∙ c.if-not-is_record.false))
+pub returns-then-not-decode-clause-ok : goal.returns-then-not-decode-clause-ok
+returns-then-not-decode-clause-ok c =
+    let t : text_of (c.args.is_block, c.args.data.now) ≡ None =
+    ap (λ (b : Bool). text_of (b, c.args.data.now)) c.if-not-is_block.false ∙ c.decode.ensures.text ∙ ap (λ (b : Bool). cond b (Some c.decode.new.self.text) None) c.if-not-decode.true in
+    (ap (λ (o : Option (List ℕ)). o then λ x. record_entries x) t, c.clear.ensures.items, refl)
+
+pub returns-clause-ok : goal.returns-clause-ok
+returns-clause-ok c =
+    let t : text_of (c.args.is_block, c.args.data.now) ≡ Some c.text.result.now =
+    ap (λ (b : Bool). text_of (b, c.args.data.now)) c.if-not-is_block.false ∙ c.decode.ensures.text ∙ ap (λ (b : Bool). cond b (Some c.decode.new.self.text) None) c.if-not-decode.false ∙ ap (λ (l : List ℕ). Some l) (sym c.text.ensures) in
+    read_if (c.args.is_block, c.args.data.now) c.text.result.now c.args.passed.now c.read_text-2.new.ready.items c.read_text-2.new.passed c.read_text-2.result t c.read_text-2.ensures.ok
+
+pub returns-clause-certain : goal.returns-clause-certain
+returns-clause-certain c =
+    let t : text_of (c.args.is_block, c.args.data.now) ≡ Some c.text.result.now =
+    ap (λ (b : Bool). text_of (b, c.args.data.now)) c.if-not-is_block.false ∙ c.decode.ensures.text ∙ ap (λ (b : Bool). cond b (Some c.decode.new.self.text) None) c.if-not-decode.false ∙ ap (λ (l : List ℕ). Some l) (sym c.text.ensures) in
+    lacks_if (c.args.is_block, c.args.data.now) c.text.result.now _ c.read_text-2.result t c.read_text-2.ensures.certain

@@ -1,21 +1,25 @@
-use Rattle.std.proofs.Common.{◌∙◌, ap, refl, arith, length, ◌+◌, ◌≤◌, length-append}
+use Rattle.std.proofs.Common.{◌∙◌, ap, refl, arith, length, ◌+◌, ◌≤◌, length-append, ℕ, List, Some}
+use Rattle.rw_wal_format.specs.Segments.{first, flagged}
 use Rattle.rw_wal_tail.specs.declared.reader.Reader.{Reader}
-use Rattle.rw_wal_tail.proofs.StepLaws.{Advanced, same_first, same_closed, joined, data_of, data_length}
+use Rattle.rw_wal_tail.specs.inner.Steps.{compresses, open_of, data_at_front}
+use Rattle.rw_wal_tail.proofs.StepLaws.{Advanced, same_goes_on, same_closed, appended, data_of, data_length, joins_first}
 use Rattle.std.specs.Prelude.{vec_capacity}
 use Rattle.rw_wal_tail.proofs.KeptLaws.{kept_same, kept_passed, has_room}
 use Rattle.rw_wal_tail.proofs.reader.Reader.first.Goals as goal
 
 pub returns-in_err-extend_from_slice-clause-same : goal.returns-in_err-extend_from_slice-clause-same
 returns-in_err-extend_from_slice-clause-same c =
-    same_closed c.args.self.now _ c.requires.can_step.reader c.requires.in_order c.requires.in_order refl refl refl refl refl refl
+    same_closed c.args.self.now _ c.requires.can_step.reader refl c.requires.in_order c.requires.in_order refl refl refl refl refl refl
 
 pub returns-clause-same : goal.returns-clause-same
 returns-clause-same c =
+    let old = c.args.self.now in
     let e = c.advance.ensures in
-    let a : Advanced c.args.self.now c.advance.new.self c.args.len = record { input = ap (λ (r : Reader). r.input) e; left = ap (λ (r : Reader). r.left) e; zeros = ap (λ (r : Reader). r.zeros) e; fault = ap (λ (r : Reader). r.fault) e } in
+    let a : Advanced c.args.self.now c.advance.new.self c.args.len = record { input = ap (λ (r : Reader). r.input) e; left = ap (λ (r : Reader). r.left) e; zeros = ap (λ (r : Reader). r.zeros) e; fault = ap (λ (r : Reader). r.fault) e; mode = ap (λ (r : Reader). compresses r) e } in
     let d = data_of c.args.len c.args.self.now.input.rest c.rest.result.now c.fragment_data.result.now c.fragment_data.ensures c.rest.ensures in
-    same_first c.args.self.now c.advance.new.self c.args.len a (ap (λ (r : Reader). r.ready.items) e) (ap (λ (r : Reader). r.passed) e) (ap (λ (r : Reader). r.is_open) e) c.requires
-    (ap (λ (r : Reader). r.begun.items) e ∙ joined c.clear.new.self.items c.fragment_data.result.now c.extend_from_slice.new.self.items _ c.in_ok-extend_from_slice.ensures.items c.clear.ensures.items d)
+    let begun = appended c.clear.new.self.items c.fragment_data.result.now c.extend_from_slice.new.self.items _ c.in_ok-extend_from_slice.ensures.items c.clear.ensures.items d in
+    same_goes_on c.args.self.now c.advance.new.self c.args.len a (flagged c.args.is_block first) c.requires.can_step c.requires.whole c.requires.found (c.args.is_block, data_at_front c.args.len c.args.self.now) (joins_first c.args.self.now c.args.is_block c.args.len c.requires)
+    (ap (λ (r : Reader). open_of r) e ∙ ap (λ (l : List ℕ). Some (c.args.is_block, l)) begun) (ap (λ (r : Reader). r.ready.items) e) (ap (λ (r : Reader). r.passed) e)
 
 pub returns-in_err-extend_from_slice-clause-kept : goal.returns-in_err-extend_from_slice-clause-kept
 returns-in_err-extend_from_slice-clause-kept c n k =

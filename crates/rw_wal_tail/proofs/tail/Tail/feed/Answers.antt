@@ -21,7 +21,7 @@ returns-clause-cut_anywhere c =
 pub invariant_of-self-2 : goal.invariant_of-self-2
 invariant_of-self-2 c =
     let i = c.self.invariant in
-    let f = follows_taken _ c.self.inside.given c.self.inside.reader c.feed.new.self i.follows (bytes c.args.piece.now) c.in_ok-feed.ensures.ok in
+    let f = follows_taken _ c.self.inside.given c.self.inside.reader c.feed.new.self i.follows (bytes c.args.piece.now) tt c.in_ok-feed.ensures.ok in
     let all : map told_of c.push.new.self ≡ map told_of c.self.inside.pieces ++ bytes c.args.piece.now ∷ [] =
     ap (map told_of) c.push.ensures ∙ map-append told_of c.self.inside.pieces (told.Bytes c.of.result ∷ []) ∙ ap (λ (b : List ℕ). map told_of c.self.inside.pieces ++ bytes b ∷ []) c.of.ensures in
     rw all (record {
@@ -29,7 +29,7 @@ invariant_of-self-2 c =
       counted = i.counted;
       bound = i.bound;
       stuck = still_stuck c.self.inside.reader c.feed.new.self c.self.inside.told c.in_ok-feed.ensures.fault c.in_ok-feed.ensures.ready i.stuck;
-      kept = kept_bytes _ c.args.piece.now c.feed.new.self (c.in_ok-feed.ensures.kept _ i.kept);
+      kept = kept_bytes (map told_of c.self.inside.pieces) c.args.piece.now c.feed.new.self (c.in_ok-feed.ensures.kept _ i.kept);
     })
 
 pub invariant_of-self : goal.invariant_of-self

@@ -16,14 +16,14 @@ returns-clause-goes_on c =
 pub invariant_of-self : goal.invariant_of-self
 invariant_of-self c =
     let i = c.self.invariant in
-    let f = follows_taken _ c.self.inside.given c.self.inside.reader c.next_segment.new.self i.follows next_segment c.next_segment.ensures.takes in
+    let f = follows_taken _ c.self.inside.given c.self.inside.reader c.next_segment.new.self i.follows next_segment tt c.next_segment.ensures.takes in
     let all : map told_of c.push.new.self ≡ map told_of c.self.inside.pieces ++ next_segment ∷ [] = ap (map told_of) c.push.ensures ∙ map-append told_of c.self.inside.pieces (told.NextSegment ∷ []) in
     rw all (record {
       follows = f;
       counted = i.counted;
       bound = i.bound;
       stuck = still_stuck c.self.inside.reader c.next_segment.new.self c.self.inside.told c.next_segment.ensures.fault c.next_segment.ensures.ready i.stuck;
-      kept = kept_next _ c.next_segment.new.self (c.next_segment.ensures.kept _ i.kept);
+      kept = kept_next (map told_of c.self.inside.pieces) c.next_segment.new.self (c.next_segment.ensures.kept _ i.kept);
     })
 
 pub returns-clause-taken : goal.returns-clause-taken

@@ -1,4 +1,4 @@
-use Rattle.rw_log_commands.proofs.plan.run_plan.Goals as goal
+use Rattle.rw_log_commands.proofs.plan.run_plan_with.Goals as goal
 
 pub returns-then-not-hex-clause-ok : goal.returns-then-not-hex-clause-ok
 returns-then-not-hex-clause-ok g c = rw c.if-not-hex.true (rw (← c.choice_in-choice.ensures) c.plan_segment.ensures.ok)
