@@ -37,8 +37,7 @@ fn ask<R: Wait, L: Endpoint>(
         return None;
     };
     let limits = receiver.limits();
-    // Its type says that it is a valid path.
-    let _ = limits.path.as_str();
+    limits.path.conforms();
     let mut reader = request;
     asker.status = None;
     let _ = serve(alloc, &mut reader, &mut writer, asker, limits);

@@ -111,8 +111,7 @@ fn gathered<
     requires seats { length shipper.fleet.current ≡ (arc_value receiver).seats }
     ensures { IfOk result (λ v. IsGathered L.opening L.path L.limit shipper v × (v.fed ≡ fed)) }
 {
-    // By its contract the shards have what was placed.
-    let _ = shipper.load();
+    shipper.conforms();
     let end = shipper.entries_read();
     let Report {
         outcome,
@@ -223,16 +222,13 @@ fn path_of(alloc: Global, target: &Target) -> Result<RequestPath, AllocError>
     }
 }
 
-/// Returns how many shards a configuration has. The other fields are read for what their types say
-/// of them.
+/// Returns how many shards a configuration has.
 fn count_of(config: &Config) -> u64
     ensures count { result ≡ config.now.shards }
     ensures sound { IsSound config.now }
 {
-    let fields = config.fields();
-    let _ = fields.target.host.as_str();
-    let _ = (fields.capacity.get(), fields.batch.get());
-    fields.shards.get()
+    config.conforms();
+    config.fields().shards.get()
 }
 
 /// Ships a log to a new head in this process, by the threads of a sender, and returns what it did

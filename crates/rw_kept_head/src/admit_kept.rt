@@ -59,13 +59,11 @@ pub(crate) fn admit_kept<J: Journal>(
     ensures failed { log.new.fault ≡ Some Failed → (log.old.fault ≡ Some Failed)
         ⊎ (J.faults log.old.journal < J.faults log.new.journal) }
 {
+    log.conforms();
     let has_failed = log.fault().is_some();
     let staged = match head.stage(body) {
         Ok(staged) => staged,
-        Err((head, status)) => {
-            let _total = head.total();
-            return (head, Admission::Answered(status));
-        }
+        Err((head, status)) => return (head, Admission::Answered(status)),
     };
     if staged.exceeds(capacity) {
         return (staged.abort(), Admission::Full);

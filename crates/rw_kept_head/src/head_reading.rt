@@ -272,7 +272,7 @@ impl<J: Journal> KeptHead<J> {
                     head,
                     log,
                 };
-                let _kept = kept.fault();
+                kept.log.conforms();
                 Ok(Opened {
                     kept,
                     segments,

@@ -116,7 +116,7 @@ impl<J: Journal> KeptHead<J> {
         let head = mem::replace(&mut self.head, blank);
         let (head, admission) = admit_kept(head, &mut self.log, body, capacity);
         self.head = head;
-        let _kept = self.log.fault();
+        self.log.conforms();
         admission
     }
 
@@ -161,6 +161,7 @@ impl<J: Journal> KeptHead<J> {
         ensures kept { result ≡ None → KeepsStore (J.may_leave self.now.journal)
             (J.seen self.now.journal) self.now.head.store }
     {
+        self.log.conforms();
         self.log.fault()
     }
 }

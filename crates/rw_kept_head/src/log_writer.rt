@@ -113,7 +113,7 @@ fn write_added<J: Journal>(
     let samples = collect(alloc, references, staged)?;
     let definitions = references.undefined(alloc)?;
     let (bytes, after) = spell(alloc, journal, end, pages, &definitions, &samples)?;
-    let _within = after.offset();
+    after.conforms();
     write_in_pages(journal, PAGE_BYTES, end.offset(), &bytes)?;
     references.commit();
     *end = after;
@@ -152,19 +152,24 @@ impl<J: Journal> Model for LogWriter<J> {
 }
 
 impl<J: Journal> LogWriter<J> {
-    /// Returns the fault after which nothing is written any more, if there was one.
-    pub(crate) fn fault(&self) -> Option<JournalError>
-        ensures fault { result ≡ self.now.fault }
-        ensures whole { result ≡ None
+    /// Law: if nothing has failed, the segments are whole, no other log is on the disk, and the last
+    /// segment has no more bytes than its pages. The call does nothing.
+    pub(crate) fn conforms(&self)
+        ensures whole { self.now.fault ≡ None
             → AllByRecursion (IsWholeText page_size) (J.seen self.now.journal) }
-        ensures synced { result ≡ None
+        ensures synced { self.now.fault ≡ None
             → Only (J.seen self.now.journal) (J.may_leave self.now.journal) }
-        ensures last { result ≡ None
+        ensures last { self.now.fault ≡ None
             → IsLastWithin self.now.pages (J.seen self.now.journal) }
     {
         a_next_segment_may_begin();
-        // By its clause the last segment has no more bytes than its pages.
-        let _within = self.end.offset();
+        self.end.conforms();
+    }
+
+    /// Returns the fault after which nothing is written any more, if there was one.
+    pub(crate) fn fault(&self) -> Option<JournalError>
+        ensures { result ≡ self.now.fault }
+    {
         self.fault
     }
 

@@ -392,7 +392,6 @@ impl Restoring {
             refused,
             failed: _,
         } = self;
-        let _count = series.len();
         if refused {
             return None;
         }

@@ -49,6 +49,14 @@ impl LogEnd {
         LogEnd { pages, offset: 0 }
     }
 
+    /// Law: the last segment has no more bytes than its pages. The call does nothing.
+    pub fn conforms(&self)
+        ensures place { self.now.offset ≤ self.now.pages * page_size }
+        ensures bound { self.now.offset ≤ 4096 * 32768 }
+    {
+        let _ = &self.offset;
+    }
+
     /// Returns how many bytes the last segment has.
     pub fn offset(&self) -> usize
         ensures offset { result ≡ self.now.offset }

@@ -37,13 +37,6 @@ fn copy_of(alloc: Global, labels: &LabelSet) -> Result<LabelSet, AllocError>
     }
 }
 
-/// Reads a label set, so that the contract knows what each one is.
-fn is_label_set(labels: &LabelSet)
-    ensures { IsLabelSet Utf8 labels.now }
-{
-    let _labels = labels.as_slice();
-}
-
 /// Appends samples of one reference.
 fn put_points(
     samples: &mut Vec<(u64, i64, Word)>,
@@ -116,7 +109,7 @@ impl References {
             (self.new ≡ with_pair (reference, labels) self.old) }
         ensures err { OnErr result (self.new ≡ self.old) }
     {
-        is_label_set(&labels);
+        labels.conforms();
         let len = self.sets.len();
         if self.sets.contains_key(&labels) {
             return Ok(false);
@@ -158,7 +151,7 @@ impl References {
         ensures more { OnOk result (self.new ≡ with_set labels.now self.old) }
         ensures err { OnErr result (self.new ≡ self.old) }
     {
-        is_label_set(labels);
+        labels.conforms();
         let set = copy_of(self.alloc, labels)?;
         let reference = self.next + (self.sets.len() - self.defined) as u64;
         self.sets.insert(set, reference)?;

@@ -32,7 +32,7 @@ fn one_segment(alloc: Global, text: &[u8], pages: usize) -> Result<Vec<u8>, Tool
         × ((have_room pages 0 recs ≡ true) × (v.items ≡ segment_of recs))) }
     ensures err { IfErr result (IsFaultOfLog pages text.now) }
 {
-    let _longest = judge(alloc, text)?;
+    judge(alloc, text)?;
     let filled = fill(alloc, text, pages)?;
     if !filled.rest.is_empty() {
         return Err(ToolFault::SegmentFull);

@@ -67,7 +67,7 @@ impl<L: Holding<H>, H: Admit> Locked<L, H> {
         requires adds_up { total (H.state holder).store + rest.amount ≡ most }
         ensures { result ≡ record { head = H.state holder; questions = questions } }
     {
-        let _total = holder.head().total();
+        holder.head().conforms();
         Locked {
             holder,
             questions,

@@ -79,11 +79,11 @@ fn is_record(alloc: Global, line: &[u8]) -> Result<bool, AllocError>
     ensures yes { result ≡ Ok true → (rec : List ℕ) × IsRecordOf line.now rec }
     ensures no { result ≡ Ok false → (rec : List ℕ) → IsRecordOf line.now rec → ⊥ }
 {
-    let _read = match read_record(alloc, line) {
-        Ok(read) => read,
+    match read_record(alloc, line) {
+        Ok(_) => {}
         Err(TextFault::NotOfForm) => return Ok(false),
         Err(TextFault::OutOfMemory) => return Err(AllocError),
-    };
+    }
     Ok(true)
 }
 

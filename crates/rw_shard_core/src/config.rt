@@ -1,6 +1,7 @@
 //! The configuration of a sender.
 
-ghost use Rattle.std.specs.Prelude.{◌≡◌, ◌≤◌, Some, None, codes, IfOk, if◌then◌else◌};
+ghost use Rattle.std.specs.Prelude.{◌≡◌, ◌≤◌, true, Some, None, codes, IfOk, if◌then◌else◌};
+ghost use Rattle.rw_types.specs.Requests.{is_host_name};
 ghost use Rattle.rw_shard_core.specs.Configs.{is_ordered, standard, choice_of};
 
 use rw_relabel::{Choice, Rules};
@@ -141,6 +142,22 @@ impl Config {
         Ok(Config {
             fields: ConfigFields::standard(alloc)?,
         })
+    }
+
+    /// Law: requests name a valid host, the numbers are in the ranges of their types, and the
+    /// bounds are in order. The call does nothing.
+    pub fn conforms(&self)
+        ensures host { is_host_name self.now.target.host ≡ true }
+        ensures shards { (1 ≤ self.now.shards) × (self.now.shards ≤ 1000) }
+        ensures capacity { 1 ≤ self.now.capacity }
+        ensures batch { 1 ≤ self.now.batch }
+        ensures min_shards { self.now.min_shards ≤ self.now.shards }
+        ensures max_shards { self.now.shards ≤ self.now.max_shards }
+        ensures backoff { self.now.min_backoff_ms ≤ self.now.max_backoff_ms }
+    {
+        let fields = &self.fields;
+        fields.target.host.conforms();
+        let _ = (fields.shards.get(), fields.capacity.get(), fields.batch.get());
     }
 
     /// Returns the fields of the configuration.

@@ -148,8 +148,8 @@ pub fn body_in_request<'a>(
         ((body : List ℕ) → request.now ≢ request_of target.now.host target.now.path body)
         (λ body. request.now ≡ request_of target.now.host target.now.path body.now)) }
 {
-    let _host = target.host.as_str();
-    let _path = target.path.as_str();
+    target.host.conforms();
+    target.path.conforms();
     let len = after_blank_line(request).len();
     let head = plain_head(alloc, target, len)?;
     match after_head(request, head.as_slice()) {

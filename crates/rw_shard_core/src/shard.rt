@@ -180,11 +180,18 @@ impl ShardCore {
         self.builder.is_full() || self.marked
     }
 
+    /// Law: what was taken is what is resolved, followed by what is in the builder or in the open
+    /// batch, and not both of these have samples. The call does nothing.
+    pub fn conforms(&self)
+        ensures { IsCore self.now }
+    {
+        let _ = &self.builder;
+    }
+
     /// Returns whether the next item may be taken: no batch is open, the builder is not due, and
     /// the shard was not killed.
     pub fn can_take(&self) -> bool
-        ensures can { result ≡ can_take self.now }
-        ensures core { IsCore self.now }
+        ensures { result ≡ can_take self.now }
     {
         !self.killed && self.current.is_none() && !self.due()
     }

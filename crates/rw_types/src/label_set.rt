@@ -288,6 +288,13 @@ impl LabelSet {
         Ok(LabelSet::of(labels)?)
     }
 
+    /// Law: it is a label set. The call does nothing.
+    pub fn conforms(&self)
+        ensures { IsLabelSet Utf8 self.now }
+    {
+        let _ = &self.labels;
+    }
+
     /// Returns the labels as (name, value), sorted by name in byte order.
     pub fn as_slice(&self) -> &[(String, String)]
         ensures labels { map text_label result.now ≡ self.now }

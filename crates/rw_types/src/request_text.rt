@@ -106,6 +106,13 @@ fn is_request_path(text: &[u8]) -> bool
 }
 
 impl HostName {
+    /// Law: it is a host name. The call does nothing.
+    pub fn conforms(&self)
+        ensures { is_host_name self.now ≡ true }
+    {
+        let _ = &self.text;
+    }
+
     /// Returns whether `text` may be a host name: 1 to 255 bytes, each from `!` to `~`.
     pub fn is_host(text: &str) -> bool
         ensures { result ≡ is_host_name text.now }
@@ -145,6 +152,13 @@ impl HostName {
 }
 
 impl RequestPath {
+    /// Law: it is a path of requests. The call does nothing.
+    pub fn conforms(&self)
+        ensures { is_request_path self.now ≡ true }
+    {
+        let _ = &self.text;
+    }
+
     /// Returns whether `text` may be a path: 1 to 255 bytes, of which the first is `/` and each
     /// other one an ASCII letter, an ASCII digit or one of `/-._~%?=&`.
     pub fn is_path(text: &str) -> bool

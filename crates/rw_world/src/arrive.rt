@@ -20,8 +20,8 @@ impl Engine {
     pub(crate) fn answers_bytes(&self)
         ensures { AnswersBytes self.now.setup self.now.world }
     {
-        let _host = self.host.as_str();
-        let _path = self.limits.path.as_str();
+        self.host.conforms();
+        self.limits.path.conforms();
         requests_are_read();
     }
 

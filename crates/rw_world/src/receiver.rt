@@ -54,8 +54,8 @@ fn ask(
     ensures { IsReplied
         (answer_to_batch limits.now.max_body_bytes head.old sent.now.batch) head.old result head.new }
 {
-    let _host = host.as_str();
-    let _path = limits.path.as_str();
+    host.conforms();
+    limits.path.conforms();
     requests_are_read();
     let request = sent.request();
     if request.len() > MOST_BYTES {

@@ -277,7 +277,7 @@ impl WorldShard {
     pub(crate) fn is_drained(&self) -> bool
         ensures { result ≡ is_drained self.now.shard }
     {
-        let _ = self.core.can_take();
+        self.core.conforms();
         if !self.core.has_ended() {
             return false;
         }
@@ -307,7 +307,7 @@ impl WorldShard {
     pub(crate) fn is_due(&self) -> bool
         ensures { result ≡ is_ready self.now.shard }
     {
-        let _ = self.core.can_take();
+        self.core.conforms();
         if !self.core.due() {
             return false;
         }

@@ -30,7 +30,7 @@ returns g c =
     let whole = all_kept stop.result.ended.folded c.args.shipper.fleet.ended stop.result.ended.items c.into_kept.result.items c.into_kept.ensures stop.ensures.folded c.requires.first in (
       record {
         r = stop.result;
-        placed = c.load.ensures.placed;
+        placed = c.conforms.ensures;
         stopped = stop.ensures.stopped;
         ended = ended_so c.args.shipper.fault c.args.shipper stop.result stop.ensures.ended stop.ensures.failed;
         failed = failed_so c.args.shipper.fault stop.result.outcome stop.ensures.failed;

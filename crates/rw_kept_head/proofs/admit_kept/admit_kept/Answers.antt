@@ -13,14 +13,14 @@ returns-in-Err-clause-any_moment g c = λ none.
     let new = (answer c.args.head c.args.body.now).head.store in
     let seen = g.J.Journal.seen c.args.log.now.journal in
     started g.J.Journal.moment g.J.Journal.left_since c.args.log.now.journal (IsLeft g.J.Journal.tears _ new seen)
-    (λ x left. is_unharmed g.J.Journal.tears _ new seen x (c.fault.ensures.synced (c.fault.ensures.fault ∙ none) x (g.met.J.Journal.only_now c.args.log.now.journal x left)))
+    (λ x left. is_unharmed g.J.Journal.tears _ new seen x (c.conforms.ensures.synced none x (g.met.J.Journal.only_now c.args.log.now.journal x left)))
 
 pub returns-then-exceeds-clause-any_moment : goal.returns-then-exceeds-clause-any_moment
 returns-then-exceeds-clause-any_moment g c = λ none.
     let new = (answer c.args.head c.args.body.now).head.store in
     let seen = g.J.Journal.seen c.args.log.now.journal in
     started g.J.Journal.moment g.J.Journal.left_since c.args.log.now.journal (IsLeft g.J.Journal.tears _ new seen)
-    (λ x left. is_unharmed g.J.Journal.tears _ new seen x (c.fault.ensures.synced (c.fault.ensures.fault ∙ none) x (g.met.J.Journal.only_now c.args.log.now.journal x left)))
+    (λ x left. is_unharmed g.J.Journal.tears _ new seen x (c.conforms.ensures.synced none x (g.met.J.Journal.only_now c.args.log.now.journal x left)))
 
 pub returns-in-Err-clause-says : goal.returns-in-Err-clause-says
 returns-in-Err-clause-says g c = λ none.
@@ -29,7 +29,7 @@ returns-in-Err-clause-says g c = λ none.
 
 pub keep-requires-clause-says : goal.keep-requires-clause-says
 keep-requires-clause-says g c =
-    let none = sym c.fault.ensures.fault ∙ unset c.fault.result (sym c.is_some-has_failed.ensures ∙ c.if-has_failed.false) in
+    let none = sym c.fault.ensures ∙ unset c.fault.result (sym c.is_some-has_failed.ensures ∙ c.if-has_failed.false) in
     subst (λ (h : State). SaysWhat (g.J.Journal.seen c.args.log.now.journal) h.store) (sym c.in-Ok.ensures.before) (c.requires.says none)
 
 pub returns-then-keep-clause-within : goal.returns-then-keep-clause-within
@@ -48,7 +48,7 @@ returns-then-has_failed-clause-any_moment g c = λ none.
     let new = (answer c.args.head c.args.body.now).head.store in
     let seen = g.J.Journal.seen c.args.log.now.journal in
     started g.J.Journal.moment g.J.Journal.left_since c.args.log.now.journal (IsLeft g.J.Journal.tears _ new seen)
-    (λ x left. is_unharmed g.J.Journal.tears _ new seen x (c.fault.ensures.synced (c.fault.ensures.fault ∙ none) x (g.met.J.Journal.only_now c.args.log.now.journal x left)))
+    (λ x left. is_unharmed g.J.Journal.tears _ new seen x (c.conforms.ensures.synced none x (g.met.J.Journal.only_now c.args.log.now.journal x left)))
 
 pub returns-then-keep-clause-any_moment : goal.returns-then-keep-clause-any_moment
 returns-then-keep-clause-any_moment g c = λ none.

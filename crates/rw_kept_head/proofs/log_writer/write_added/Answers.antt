@@ -34,7 +34,7 @@ returns-in_err-definitions-clause-any_moment g c =
 pub write_in_pages-requires-clause-fits : goal.write_in_pages-requires-clause-fits
 write_in_pages-requires-clause-fits g c =
     let grown = offset_more (g.J.Journal.seen c.spell.new.journal) c.spell.new.end.offset c.in_ok-bytes.after.offset c.in_ok-bytes.bytes.items c.in_ok-bytes.ensures.ok.ends c.in_ok-bytes.ensures.end in
-    omega (arith, grown, c.offset.ensures.offset, c.offset-within.ensures.offset, c.offset-within.ensures.bound, ap length c.deref-3.ensures.value)
+    omega (arith, grown, c.offset.ensures.offset, c.conforms.ensures.bound, ap length c.deref-3.ensures.value)
 
 pub returns-in_err-write_in_pages-clause-any_moment :
     goal.returns-in_err-write_in_pages-clause-any_moment

@@ -7,5 +7,5 @@ returns-clause-ok c = filled_all c.args.pages c.args.text.now c.in_ok-filled.fil
 
 pub returns-then-not-is_empty-clause-err : goal.returns-then-not-is_empty-clause-err
 returns-then-not-is_empty-clause-err c =
-    let judged = c.in_ok-_longest.ensures.ok in
+    let judged = c.in_ok-judge.ensures.ok in
     overfull c.args.pages c.args.text.now c.in_ok-filled.filled.segment.items c.in_ok-filled.filled.rest.now c.in_ok-filled.ensures (search rules) (judged.0, judged.1)

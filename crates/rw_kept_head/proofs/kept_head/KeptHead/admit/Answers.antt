@@ -7,8 +7,8 @@ use Rattle.rw_kept_head.proofs.kept_head.KeptHead.admit.Goals as goal
 pub returns-clause-kept : goal.returns-clause-kept
 returns-clause-kept g c = λ none. record {
   says = c.admit_kept-head.ensures.says none;
-  whole = c.fault-kept.ensures.whole (c.fault-kept.ensures.fault ∙ none);
-  synced = c.fault-kept.ensures.synced (c.fault-kept.ensures.fault ∙ none);
+  whole = c.conforms.ensures.whole none;
+  synced = c.conforms.ensures.synced none;
 }
 
 pub returns-clause-acknowledged : goal.returns-clause-acknowledged
@@ -16,8 +16,8 @@ returns-clause-acknowledged g c = λ ne.
     let none = c.admit_kept-head.ensures.open ne in
     record {
       says = c.admit_kept-head.ensures.says none;
-      whole = c.fault-kept.ensures.whole (c.fault-kept.ensures.fault ∙ none);
-      synced = c.fault-kept.ensures.synced (c.fault-kept.ensures.fault ∙ none);
+      whole = c.conforms.ensures.whole none;
+      synced = c.conforms.ensures.synced none;
     }
 
 pub returns-clause-begins : goal.returns-clause-begins
@@ -30,4 +30,4 @@ returns-clause-failed g c = λ e.
     (λ less. inr (subst (λ j. g.J.Journal.faults j < g.J.Journal.faults c.admit_kept-head.new.log.journal) (ap (λ k. k.journal) c.self.view_is) less)) (c.admit_kept-head.ensures.failed e)
 
 pub returns-clause-last : goal.returns-clause-last
-returns-clause-last g c = λ none. c.fault-kept.ensures.last (c.fault-kept.ensures.fault ∙ none)
+returns-clause-last g c = λ none. c.conforms.ensures.last none

@@ -6,14 +6,14 @@ use Rattle.rw_kept_log.proofs.references.References.insert.Goals as goal
 pub invariant_of-self-2 : goal.invariant_of-self-2
 invariant_of-self-2 c =
     table_grown c.self.inside.sets.entries c.insert.new.self.entries c.self.inside.defined c.self.inside.next c.len.result (c.self.inside.next + (c.len.result - c.self.inside.defined)) c.args.labels.now c.in_ok-set.set
-    c.args.self.now c.self.invariant c.self.view_is c.is_label_set.ensures c.requires.none c.in_ok-set.ensures c.in_ok-insert.ensures.entries c.len.ensures.len refl
+    c.args.self.now c.self.invariant c.self.view_is c.conforms.ensures c.requires.none c.in_ok-set.ensures c.in_ok-insert.ensures.entries c.len.ensures.len refl
 
 pub returns-clause-is : goal.returns-clause-is
 returns-clause-is c =
     let q = c.self.inside.next + (c.len.result - c.self.inside.defined) in
     last_named c.self.inside.sets.entries c.insert.new.self.entries c.self.inside.defined c.self.inside.next q c.args.labels.now
     (table_grown c.self.inside.sets.entries c.insert.new.self.entries c.self.inside.defined c.self.inside.next c.len.result q c.args.labels.now c.in_ok-set.set c.args.self.now c.self.invariant c.self.view_is
-    c.is_label_set.ensures c.requires.none c.in_ok-set.ensures c.in_ok-insert.ensures.entries c.len.ensures.len refl)
+    c.conforms.ensures c.requires.none c.in_ok-set.ensures c.in_ok-insert.ensures.entries c.len.ensures.len refl)
     (is_last c.self.inside.sets.entries c.insert.new.self.entries c.self.inside.defined c.self.inside.next q c.args.labels.now c.in_ok-set.set c.args.self.now c.self.invariant c.self.view_is c.requires.none
     c.in_ok-set.ensures c.in_ok-insert.ensures.entries)
 

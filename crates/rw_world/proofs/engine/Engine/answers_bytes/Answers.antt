@@ -10,6 +10,6 @@ pub returns : goal.returns
 returns c =
     let s = c.self.inside in
     let m : Machine = the_view s in
-    let host : is_host_name s.host ≡ true = ap is_host_name (sym c.as_str-host.ensures.text) ∙ c.as_str-host.ensures.host in
-    let path : is_request_path s.limits.path ≡ true = ap is_request_path (sym c.as_str-path.ensures.text) ∙ c.as_str-path.ensures.path in
+    let host : is_host_name s.host ≡ true = c.conforms.ensures in
+    let path : is_request_path s.limits.path ≡ true = c.conforms-2.ensures in
     subst (λ (x : Machine). AnswersBytes x.setup x.world) c.self.view_is (answers m.setup m.world s.host s.limits.path host path c.requests_are_read.ensures.read c.requests_are_read.ensures.refused c.self.invariant.1)

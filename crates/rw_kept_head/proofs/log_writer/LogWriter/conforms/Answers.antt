@@ -4,7 +4,7 @@ use Rattle.rw_wal_format.specs.Pieces.{page_size}
 use Rattle.rw_kept_log.specs.Logs.{IsWholeText}
 use Rattle.rw_kept_head.specs.Kept.{IsLastWithin}
 use Rattle.rw_kept_head.proofs.KeptLemmas.{ends_whole, last_within}
-use Rattle.rw_kept_head.proofs.log_writer.LogWriter.fault.Goals as goal
+use Rattle.rw_kept_head.proofs.log_writer.LogWriter.conforms.Goals as goal
 
 pub returns-clause-whole : goal.returns-clause-whole
 returns-clause-whole g c = λ none.
@@ -15,4 +15,4 @@ pub returns-clause-last : goal.returns-clause-last
 returns-clause-last g c = λ none.
     subst (λ w. IsLastWithin w.pages (g.J.Journal.seen w.journal)) c.self.view_is
     (last_within (g.J.Journal.seen c.self.inside.journal) c.self.inside.end.offset c.self.inside.end.pages c.self.inside.pages (c.self.invariant.3 none).ends
-    (subst (λ (n : ℕ). n ≤ c.self.inside.end.pages * page_size) c.offset-within.ensures.offset c.offset-within.ensures.place) c.self.invariant.2)
+    c.conforms.ensures.place c.self.invariant.2)
