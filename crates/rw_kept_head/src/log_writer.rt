@@ -152,8 +152,8 @@ impl<J: Journal> Model for LogWriter<J> {
 }
 
 impl<J: Journal> LogWriter<J> {
-    /// Law: if nothing has failed, the segments are whole, no other log is on the disk, and the last
-    /// segment has no more bytes than its pages. The call does nothing.
+    /// Law: if nothing has failed, the segments are whole, no other log is on the disk, and the
+    /// last segment has no more bytes than its pages. The call does nothing.
     pub(crate) fn conforms(&self)
         ensures whole { self.now.fault ≡ None
             → AllByRecursion (IsWholeText page_size) (J.seen self.now.journal) }

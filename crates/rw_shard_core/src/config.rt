@@ -157,7 +157,11 @@ impl Config {
     {
         let fields = &self.fields;
         fields.target.host.conforms();
-        let _ = (fields.shards.get(), fields.capacity.get(), fields.batch.get());
+        let _ = (
+            fields.shards.get(),
+            fields.capacity.get(),
+            fields.batch.get(),
+        );
     }
 
     /// Returns the fields of the configuration.

@@ -20,6 +20,7 @@ pub fn of_heads() {
     let _ = (Head::new, Head::apply, Head::answer, Head::samples);
     let _ = (Head::label_sets, Head::total, Head::series, Head::places);
     let _ = (Head::sealed, Head::open, Head::stage, Head::admit);
+    let _ = Head::conforms;
     let _ = (Block::samples, Capacity::unlimited);
     let _ = (HeldSeries::labels, HeldSeries::samples, Limits::standard);
 }

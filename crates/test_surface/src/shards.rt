@@ -11,6 +11,7 @@ use std::thread::Threads;
 pub fn of_configs() {
     let _ = (Config::new, Config::standard, Config::fields);
     let _ = (Config::into_fields, ConfigFields::standard);
+    let _ = (Config::conforms, ShardCore::conforms);
     let _ = (ConfigFields::into_choice, ConfigFields::is_ordered);
     let _ = Target::standard;
 }

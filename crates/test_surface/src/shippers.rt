@@ -72,6 +72,7 @@ pub fn of_resharded_shippers<C: Connect + Drop, R: Threads + Wait + Copy + Send 
 /// How far a shipper is.
 pub fn of_loads<C: Connect + Drop>() {
     let _ = (Shipper::<C>::entries_read, Shipper::<C>::load);
+    let _ = Shipper::<C>::conforms;
     let _ = Shipper::<C>::fault_place;
     let _ = (Shipper::<C>::dropped, Shipper::<C>::filtered);
     let _ = (Shipper::<C>::skipped_of, Shipper::<C>::newest);

@@ -10,7 +10,7 @@ use rw_types::{
 pub fn of_labels() {
     let _ = (LabelSet::empty, LabelSet::assign, LabelSet::is_over);
     let _ = (LabelSet::check_as, LabelSet::of_texts);
-    let _ = (LabelSet::as_slice, LabelSet::fields);
+    let _ = (LabelSet::as_slice, LabelSet::fields, LabelSet::conforms);
     let _ = (RawLabels::push, RawLabels::copy, RawLabels::len);
     let _ = (RawLabels::is_empty, RawLabels::as_slice);
     let _ = (LabelFault::number, is_metric_name, Entry::copy);
@@ -30,6 +30,7 @@ pub fn of_settings() {
     let _ = (HostName::is_host, HostName::check, HostName::as_str);
     let _ = (HostName::local_prometheus, RequestPath::is_path);
     let _ = (RequestPath::check, RequestPath::as_str);
+    let _ = (HostName::conforms, RequestPath::conforms);
     let _ = RequestPath::api_v1_write;
 }
 
