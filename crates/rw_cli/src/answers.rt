@@ -32,6 +32,25 @@ pub(crate) fn receiver_of<'a>(options: &ArgMatches<'a>) -> Option<SendTo<'a>> {
     Some(SendTo::Address(read_address(value)?))
 }
 
+/// Returns the milliseconds of a span of time: a number of minutes, hours or days, as `90m`, `3h`
+/// or `15d`. `None` if the text is no such span, or its number is 0.
+pub(crate) fn span_ms(text: &str) -> Option<u64> {
+    let (count, unit_ms) = if let Some(minutes) = text.strip_suffix("m") {
+        (minutes, 60_000)
+    } else if let Some(hours) = text.strip_suffix("h") {
+        (hours, 3_600_000)
+    } else {
+        (text.strip_suffix("d")?, 86_400_000)
+    };
+    let Ok(count) = count.parse::<u32>() else {
+        return None;
+    };
+    if count == 0 {
+        return None;
+    }
+    Some(count as u64 * unit_ms)
+}
+
 /// Returns the folder with a log that an option gives.
 pub(crate) fn dir_of<'a>(options: &ArgMatches<'a>) -> Option<LogDir<'a>> {
     let path = options.get_str("dir")?;

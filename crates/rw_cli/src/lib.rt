@@ -9,7 +9,7 @@ mod receiver_url;
 mod send;
 mod table;
 
-use answers::{dir_of, is_url, number_of, settings_of};
+use answers::{dir_of, is_url, number_of, settings_of, span_ms};
 use clap::ArgMatches;
 pub use commands::{VERSION, command_line};
 use receive::receive_task;
@@ -134,6 +134,8 @@ pub struct Receiving<'a> {
     pub dir: Option<&'a str>,
     /// Whether what is held is not printed at the end.
     pub is_quiet: bool,
+    /// For how many milliseconds samples stay in memory; none for all of them.
+    pub memory_ms: Option<u64>,
     /// Whether it stops once a write to that folder has failed.
     pub ends_on_write_error: bool,
     /// Whether it goes on in a folder with segments that no receiver wrote, or of a server.
@@ -234,6 +236,16 @@ pub fn bad_address<'a>(words: &ArgMatches<'a>) -> Option<(&'static str, &'a str)
     bad_option(options)
 }
 
+/// Returns the value of `--memory` that is not a valid span of time, if the arguments have one.
+pub fn bad_span<'a>(words: &ArgMatches<'a>) -> Option<&'a str> {
+    let (_, options) = words.subcommand()?;
+    let text = options.get_str("memory")?;
+    match span_ms(text) {
+        Some(_) => None,
+        None => Some(text),
+    }
+}
+
 /// Returns what the options of `inspect` ask for.
 fn inspect_task<'a>(options: &ArgMatches<'a>, is_explained: bool) -> Task<'a> {
     let dir = dir_of(options);
@@ -325,8 +337,9 @@ fn task_named<'a>(name: &str, options: &ArgMatches<'a>, is_explained: bool) -> O
     }
 }
 
-/// Returns what the arguments ask for, or `None` if a value is not a valid HOST:PORT, which
-/// `bad_address` returns. On a terminal, what fails is explained without `--explain`.
+/// Returns what the arguments ask for, or `None` if a value is not a valid HOST:PORT or span of
+/// time, which `bad_address` or `bad_span` returns. On a terminal, what fails is explained without
+/// `--explain`.
 pub fn task_of<'a>(words: &ArgMatches<'a>, on_terminal: bool) -> Option<Task<'a>> {
     let (name, options) = words.subcommand()?;
     let is_explained = on_terminal || options.get_flag("explain");

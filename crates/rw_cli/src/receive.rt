@@ -1,6 +1,6 @@
 //! The arguments of the command `receive`.
 
-use crate::answers::{address_of, number_of, reporting_of};
+use crate::answers::{address_of, number_of, reporting_of, span_ms};
 use crate::{Receiving, SettingsFile, Task, Until};
 use clap::ArgMatches;
 
@@ -29,6 +29,10 @@ pub(crate) fn receive_task<'a>(
     let Some(reporting) = reporting_of(options) else {
         return None;
     };
+    let memory_ms = match options.get_str("memory") {
+        Some(span) => Some(span_ms(span)?),
+        None => None,
+    };
     Some(Task::Receive {
         settings,
         receiving: Receiving {
@@ -41,6 +45,7 @@ pub(crate) fn receive_task<'a>(
             max_series: options.get_one::<u64>("max-series"),
             dir: options.get_str("dir"),
             is_quiet: options.get_flag("quiet"),
+            memory_ms,
             ends_on_write_error: options.get_flag("end-on-write-error"),
             adopts: options.get_flag("adopt"),
             allows_missing_start: options.get_flag("allow-missing-start"),

@@ -425,6 +425,16 @@ static RECEIVE: Words = Words {
             help: "With --dir: do not print at the end what is held",
         },
         Opt {
+            name: "memory",
+            takes: Takes::Text("TIME"),
+            bonds: &[
+                Bond::Needs("quiet"),
+                Bond::Excludes("connections"),
+                Bond::Excludes("max-samples"),
+            ],
+            help: "With --dir and --quiet: keep only the samples of the\nlast TIME in memory, as 3h or 90m; those in the\nfolder stay there",
+        },
+        Opt {
             name: "end-on-write-error",
             takes: Takes::Nothing,
             bonds: &[Bond::Needs("dir"), Bond::Excludes("connections")],

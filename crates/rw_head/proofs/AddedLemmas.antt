@@ -1,5 +1,5 @@
 -- What is staged at the places that are noted adds up.
-use Rattle.std.proofs.Common.{◌≡◌, ℕ, ◌+◌, ◌<◌, suc, zero, List, [], ◌∷◌, ◌++◌, length, map, drop, get_or, nat_eq, eqb-true, eq-eqb, Option, Some, None, Bool, true, false, cond, ◌||◌, ◌≢◌, refl, sym, ◌∙◌, ap, subst, arith, append-nil, All, AllPairs}
+use Rattle.std.proofs.Common.{◌≡◌, ℕ, ◌<◌, suc, zero, List, [], ◌∷◌, ◌++◌, length, map, drop, get_or, nat_eq, eqb-true, eq-eqb, Option, Some, None, Bool, true, false, cond, ◌||◌, ◌≢◌, refl, sym, ◌∙◌, ap, subst, arith, append-nil, All, AllPairs}
 use Rattle.std.specs.BTreeMap.{get}
 use Rattle.std.specs.List.{list_any}
 use Rattle.std.proofs.lemmas.Bool.{true≢false}

@@ -141,7 +141,7 @@ or_assoc : (a b c : Bool) → (a || (b || c)) ≡ ((a || b) || c)
 or_assoc true b c = refl
 or_assoc false b c = refl
 
-holds-append : (s : Point) (xs ys : List Point) → holds s (xs ++ ys) ≡ (holds s xs || holds s ys)
+pub holds-append : (s : Point) (xs ys : List Point) → holds s (xs ++ ys) ≡ (holds s xs || holds s ys)
 holds-append s [] ys = refl
 holds-append s (x ∷ xs) ys = ap (λ b. (int_eq x.0 s.0 && (x.1 == s.1)) || b) (holds-append s xs ys) ∙ or_assoc (int_eq x.0 s.0 && (x.1 == s.1)) (holds s xs) (holds s ys)
 

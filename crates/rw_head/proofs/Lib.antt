@@ -1,5 +1,7 @@
 pub mod AddedLemmas
 pub mod BlockLemmas
+pub mod ForgettingLemmas
+pub mod ForgottenLemmas
 pub mod KeyLemmas
 pub mod NameLemmas
 pub mod NotedLemmas

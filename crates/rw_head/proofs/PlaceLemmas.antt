@@ -446,7 +446,7 @@ all_with_samples ls (e ∷ es) h filled =
     ap (λ b. length (cond b ((e.0, (get_or ls e.1 no_lists).kept) ∷ with_samples ls es) (with_samples ls es))) (filled e.1 h.0) ∙ ap suc (all_with_samples ls es h.1 filled)
 
 abbrev as_kept : Lists → Lists
-as_kept x = record { kept = x.staged; staged = x.staged }
+as_kept x = record x { kept = x.staged }
 
 as_kept_at : (ls : List Lists) (n : ℕ) → (get_or (map as_kept ls) n no_lists).kept ≡ (get_or ls n no_lists).staged
 as_kept_at [] n = refl

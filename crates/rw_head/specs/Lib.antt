@@ -2,6 +2,7 @@ pub mod Added
 pub mod Blocks
 pub mod Bodies
 pub mod Capacity
+pub mod Forgetting
 pub mod Growth
 pub mod Head
 pub mod Lists

@@ -8,13 +8,15 @@ use Rattle.rw_head.specs.Order.{Point}
 abbrev pub IsEarlier : Point → Point → Type 0
 IsEarlier x y = int_lt x.0 y.0 ≡ true
 
--- the samples that are kept, and these with those of the message so far
+-- the samples that are gone, these and those that are kept, and all these with those of the message
+-- so far
 pub record Lists : Type 0 where
+  pub gone : List Point
   pub kept : List Point
   pub staged : List Point
 
 abbrev pub no_lists : Lists
-no_lists = record { kept = []; staged = [] }
+no_lists = record { gone = []; kept = []; staged = [] }
 
 -- the samples of a list that are staged, and how many they are
 abbrev pub more_of : Lists → List Point

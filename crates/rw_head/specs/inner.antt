@@ -1,6 +1,7 @@
 pub mod Blocks
 pub mod Bodies
 pub mod Finds
+pub mod Forgetting
 pub mod Growth
 pub mod Keys
 pub mod Lists

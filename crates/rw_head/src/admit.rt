@@ -12,8 +12,9 @@ ghost use Rattle.rw_write_request.specs.Read.{read};
 use crate::body::stage_body;
 use crate::capacity::{Admission, Capacity};
 use crate::head::{Head, status_of};
+use crate::memory::Memory;
 
-impl Head {
+impl<M: Memory> Head<M> {
     /// Takes the message that a body spells, unless that would take the head above the capacity.
     fn admit_body(&mut self, body: &[u8], capacity: &Capacity) -> Admission
         ensures status { status_of_admission result ≢ 503

@@ -1,6 +1,7 @@
 //! A full block of the samples of a series.
 
-ghost use Rattle.std.specs.Prelude.{◌≡◌, IfOk, length};
+ghost use Rattle.std.specs.Prelude.{◌≡◌, Some, IfOk, length};
+ghost use Rattle.rw_head.specs.Forgetting.{last_time};
 ghost use Rattle.rw_head.specs.inner.Blocks.{first_time};
 
 use rw_types::Word;
@@ -51,5 +52,12 @@ impl Block {
         ensures { result ≡ first_time self.now }
     {
         self.samples[0].0
+    }
+
+    /// Returns the timestamp of the last sample.
+    pub(crate) fn last(&self) -> i64
+        ensures { last_time self.now ≡ Some result }
+    {
+        self.samples[119].0
     }
 }

@@ -6,8 +6,10 @@ ghost use Rattle.rw_head.specs.Order.{is_later, holds};
 ghost use Rattle.rw_head.specs.Lists.{IsEarlier};
 ghost use Rattle.rw_head.specs.Blocks.{joined_blocks, AreFull, sealed_of};
 ghost use Rattle.rw_head.specs.inner.Blocks.{Begun, begins_after, open_of};
+ghost use Rattle.rw_head.specs.inner.Forgetting.{Moves};
 
 use crate::block::Block;
+use crate::forgotten::Forgotten;
 use rw_types::Word;
 use std::alloc::{AllocError, Global};
 use std::marker::Model;
@@ -191,6 +193,26 @@ impl Blocks {
         }
     }
 
+    /// Moves the first block to the samples that are gone, if all of it is earlier than `before`
+    /// and there are samples after it. Returns whether it did. This takes no memory.
+    pub(crate) fn forget_first(&mut self, before: i64, gone: &mut Forgotten) -> bool
+        requires { Rises IsEarlier self.old }
+        ensures { Moves result before self.old self.new gone.old gone.new }
+    {
+        if self.len() <= BLOCK_LEN {
+            return false;
+        }
+        let Some(first) = self.sealed.first() else {
+            return false;
+        };
+        if !is_later(first.samples(), before) {
+            return false;
+        }
+        let block = self.sealed.remove(0);
+        gone.push(&block);
+        true
+    }
+
     /// Returns whether a timestamp is later than the last of the samples, or there is none.
     pub(crate) fn is_later(&self, t: i64) -> bool
         ensures { result ≡ is_later t self.now }
@@ -201,6 +223,17 @@ impl Blocks {
         match self.sealed.last() {
             Some(block) => is_later(block.samples(), t),
             None => true,
+        }
+    }
+
+    /// Returns the timestamp of the last of the samples, if there is one.
+    pub(crate) fn latest(&self) -> Option<i64> {
+        if let Some(last) = self.rest.last() {
+            return Some(last.0);
+        }
+        match self.sealed.last() {
+            Some(block) => Some(block.last()),
+            None => None,
         }
     }
 

@@ -28,6 +28,7 @@ fn stage_whole(
     requires few { HasFewLabels bounds.now (read_series bytes.now) }
     requires short { length bytes.now ≤ 65536 }
     ensures kept { table.new.kept ≡ table.old.kept }
+    ensures forgets { table.new.forgets ≡ table.old.forgets }
     ensures staged { SeriesGives result bounds.now table.old.staged
         (read_series bytes.now) table.new.staged }
 {
@@ -45,6 +46,7 @@ fn stage_in_parts(
     requires within { HoldsNoneRefused bounds.now table.old.staged }
     requires few { HasFewLabels bounds.now (read_series bytes.now) }
     ensures kept { table.new.kept ≡ table.old.kept }
+    ensures forgets { table.new.forgets ≡ table.old.forgets }
     ensures staged { SeriesGives result bounds.now table.old.staged
         (read_series bytes.now) table.new.staged }
 {
@@ -71,6 +73,7 @@ fn stage_read(
     requires within { HoldsNoneRefused bounds.now table.old.staged }
     requires few { HasFewLabels bounds.now (read_series bytes.now) }
     ensures kept { table.new.kept ≡ table.old.kept }
+    ensures forgets { table.new.forgets ≡ table.old.forgets }
     ensures staged { SeriesGives result bounds.now table.old.staged
         (read_series bytes.now) table.new.staged }
 {
@@ -89,6 +92,7 @@ fn stage_series(
 ) -> Result<(), Verdict>
     requires { HoldsNoneRefused bounds.now table.old.staged }
     ensures kept { table.new.kept ≡ table.old.kept }
+    ensures forgets { table.new.forgets ≡ table.old.forgets }
     ensures staged { SeriesGives result bounds.now table.old.staged
         (read_series bytes.now) table.new.staged }
 {
@@ -112,6 +116,7 @@ fn stage_parts(
 ) -> Result<(), Verdict>
     requires { HoldsNoneRefused bounds.now table.old.staged }
     ensures kept { table.new.kept ≡ table.old.kept }
+    ensures forgets { table.new.forgets ≡ table.old.forgets }
     ensures staged { BodyGives result bounds.now table.old.staged body.now table.new.staged }
     ensures within { OnOk result (HoldsNoneRefused bounds.now table.new.staged) }
 {
@@ -136,6 +141,7 @@ pub(crate) fn stage_body(
 ) -> Result<(), Verdict>
     requires { HoldsNoneRefused bounds.now table.old.staged }
     ensures kept { table.new.kept ≡ table.old.kept }
+    ensures forgets { table.new.forgets ≡ table.old.forgets }
     ensures staged { BodyGives result bounds.now table.old.staged body.now table.new.staged }
     ensures within { OnOk result (HoldsNoneRefused bounds.now table.new.staged) }
     ensures memory { IfErr result

@@ -8,11 +8,15 @@ mod block;
 mod blocks;
 mod body;
 mod capacity;
+mod forgotten;
 mod head;
+mod in_memory;
 mod label_bounds;
 mod label_sets;
 mod laws;
 mod limits;
+mod memory;
+mod memory_bound;
 mod name;
 mod place;
 mod placed_head;
@@ -27,9 +31,15 @@ pub use added::{AddedSeries, AllAdded};
 pub use block::Block;
 pub use capacity::{Admission, Capacity};
 pub use head::Head;
+pub use in_memory::InMemory;
 pub use label_sets::LabelSets;
-pub use laws::{stores_are_lists, stores_hold_no_empty_list};
+pub use laws::{
+    stores_are_lists, stores_hold_no_empty_list, three_samples_of_which_two_are_gone,
+    what_can_be_judged,
+};
 pub use limits::Limits;
+pub use memory::{AllSamples, Memory, RecentSamples};
+pub use memory_bound::horizon;
 pub use placed_head::PlacedHead;
 pub use series::{AllSeries, HeldSeries};
 pub use staged_head::StagedHead;

@@ -10,14 +10,16 @@ ghost use Rattle.rw_head.specs.Verdicts.{apply};
 ghost use Rattle.rw_head.specs.inner.Placed.{SettlesTo};
 
 use crate::head::Head;
+use crate::in_memory::InMemory;
 use crate::label_bounds::LabelBounds;
 use crate::limits::Limits;
+use crate::memory::{AllSamples, Memory};
 use crate::table::Table;
 use crate::verdict::Verdict;
 use rw_types::Word;
 use rw_write_request::Series;
 use std::alloc::Global;
-use std::marker::Model;
+use std::marker::{Model, PhantomData};
 
 /// Keeps what was staged, or forgets it if it was refused, and returns the verdict.
 fn settle(table: &mut Table, staged: Result<(), Verdict>) -> Verdict
@@ -25,6 +27,7 @@ fn settle(table: &mut Table, staged: Result<(), Verdict>) -> Verdict
     ensures staged { table.new.staged ≡ table.new.kept }
     ensures noted { table.new.noted ≡ 0 }
     ensures placed { Begins table.old.placed table.new.placed }
+    ensures forgets { table.new.forgets ≡ table.old.forgets }
 {
     match staged {
         Ok(()) => Verdict::Stored(table.commit()),
@@ -39,14 +42,15 @@ fn settle(table: &mut Table, staged: Result<(), Verdict>) -> Verdict
 /// named by its place, so its labels need not be compared for each sample. Contracts see the head,
 /// and the label sets by place.
 #[derive(Debug, Drop)]
-pub struct PlacedHead {
+pub struct PlacedHead<M: Memory = AllSamples> {
     alloc: Global,
     table: Table,
     bounds: LabelBounds,
     busy: u64,
+    memory: PhantomData<M>,
 }
 
-impl Model for PlacedHead {
+impl<M: Memory> Model for PlacedHead<M> {
     ghost use Rattle.std.specs.Prelude.{◌≡◌};
     ghost use Rattle.std.specs.Coded.{codes};
     ghost use Rattle.std.specs.FinMap as map;
@@ -63,12 +67,13 @@ impl Model for PlacedHead {
 
     ghost use Rattle.rw_head.specs.inner.Growth.{IsReady, HoldsNoneRefused};
 
-    ghost invariant = { λ h. IsReady h.table × HoldsNoneRefused h.bounds h.table.kept };
+    ghost invariant = { λ h. IsReady h.table × HoldsNoneRefused h.bounds h.table.kept
+        × (h.table.forgets ≡ M.forgets) };
 }
 
-impl PlacedHead {
+impl<M: Memory> PlacedHead<M> {
     /// Returns this head without samples.
-    pub fn new(alloc: Global, limits: &Limits) -> PlacedHead
+    pub fn new(alloc: Global, limits: &Limits) -> PlacedHead<M>
         ensures store { result.head.store ≡ empty }
         ensures names { result.head.limits.names ≡ limits.now.names }
         ensures max_labels { result.head.limits.max_labels ≡ limits.now.max_labels }
@@ -80,12 +85,14 @@ impl PlacedHead {
             table,
             bounds,
             busy,
-        } = Head::new(alloc, limits);
+            memory,
+        } = Head::<M>::with_memory(alloc, limits);
         PlacedHead {
             alloc,
             table,
             bounds,
             busy,
+            memory,
         }
     }
 
@@ -132,8 +139,19 @@ impl PlacedHead {
         self.table.last_place(labels)
     }
 
+    /// Lets samples go from memory that are earlier than `before`, in milliseconds since the Unix
+    /// epoch, as `Head::forget` does, if the head may forget. Returns what is left in memory.
+    pub fn forget(&mut self, before: i64) -> InMemory
+        ensures { self.new ≡ self.old }
+    {
+        if !self.table.forgets() {
+            return InMemory::none();
+        }
+        self.table.forget(before)
+    }
+
     /// Returns the head.
-    pub fn into_head(self) -> Head
+    pub fn into_head(self) -> Head<M>
         ensures { result ≡ self.head }
     {
         let PlacedHead {
@@ -141,12 +159,14 @@ impl PlacedHead {
             table,
             bounds,
             busy,
+            memory,
         } = self;
         Head {
             alloc,
             table,
             bounds,
             busy,
+            memory,
         }
     }
 }

@@ -2,6 +2,7 @@
 
 ghost use Rattle.std.specs.Prelude.{◌≡◌, length, IfOk};
 ghost use Rattle.rw_head.specs.Lists.{with_samples};
+ghost use Rattle.rw_head.specs.inner.Forgetting.{AreWhole};
 ghost use Rattle.rw_head.specs.inner.Lists.{AreWithin};
 ghost use Rattle.std.specs.Iterator.{YieldsFirst, item_count};
 
@@ -20,12 +21,14 @@ pub struct HeldSeries<'a> {
 }
 
 impl<'a> Model for HeldSeries<'a> {
-    ghost use Rattle.std.specs.Prelude.{ℕ, List};
+    ghost use Rattle.std.specs.Prelude.{◌≡◌, ℕ, List, []};
     ghost use Rattle.rw_head.specs.Order.{Point};
 
     ghost Value = { List (List ℕ × List ℕ) × List Point };
 
     ghost view = { λ s. (s.labels.now, s.samples.now.kept) };
+
+    ghost invariant = { λ s. s.samples.now.gone ≡ [] };
 }
 
 impl<'a> HeldSeries<'a> {
@@ -56,6 +59,7 @@ pub struct AllSeries<'a> {
 impl<'a> Model for AllSeries<'a> {
     ghost use Rattle.std.specs.Prelude.{ℕ, List, length};
     ghost use Rattle.rw_head.specs.Lists.{with_samples};
+    ghost use Rattle.rw_head.specs.inner.Forgetting.{AreWhole};
     ghost use Rattle.rw_head.specs.inner.Lists.{AreWithin};
     ghost use Rattle.rw_head.specs.Order.{Point};
 
@@ -63,7 +67,7 @@ impl<'a> Model for AllSeries<'a> {
 
     ghost view = { λ s. with_samples s.lists.now s.places };
 
-    ghost invariant = { λ s. AreWithin (length s.lists.now) s.places };
+    ghost invariant = { λ s. AreWithin (length s.lists.now) s.places × AreWhole s.lists.now };
 }
 
 impl<'a> AllSeries<'a> {
@@ -72,7 +76,8 @@ impl<'a> AllSeries<'a> {
         places: btree_map::Iter<'a, Name, usize>,
         lists: &'a [SampleList],
     ) -> AllSeries<'a>
-        requires { AreWithin (length lists.now) places }
+        requires within { AreWithin (length lists.now) places }
+        requires whole { AreWhole lists.now }
         ensures { result ≡ with_samples lists.entry.now places.entry }
     {
         AllSeries { places, lists }

@@ -15,21 +15,23 @@ use crate::body::stage_body;
 use crate::capacity::Capacity;
 use crate::head::{Head, status_of};
 use crate::label_bounds::LabelBounds;
+use crate::memory::{AllSamples, Memory};
 use crate::table::Table;
 use std::alloc::Global;
-use std::marker::Model;
+use std::marker::{Model, PhantomData};
 
 /// A head in which a message is staged that it would take. Contracts see the head without the
 /// message and with it, and what the message adds.
 #[derive(Debug, Drop)]
-pub struct StagedHead {
+pub struct StagedHead<M: Memory = AllSamples> {
     alloc: Global,
     table: Table,
     bounds: LabelBounds,
     places: usize,
+    memory: PhantomData<M>,
 }
 
-impl Model for StagedHead {
+impl<M: Memory> Model for StagedHead<M> {
     ghost use Rattle.std.specs.Prelude.{◌≡◌, length};
     ghost use Rattle.std.specs.Coded.{codes};
     ghost use Rattle.std.specs.FinMap as map;
@@ -49,14 +51,15 @@ impl Model for StagedHead {
     ghost use Rattle.rw_head.specs.Store.{label_sets};
 
     ghost invariant = { λ h. IsStaging h.bounds h.table.kept h.table.staged
-        × (h.places ≡ length (label_sets h.table.kept)) };
+        × (h.places ≡ length (label_sets h.table.kept))
+        × (h.table.forgets ≡ M.forgets) };
 }
 
-impl Head {
+impl<M: Memory> Head<M> {
     /// Judges the body of a request as `answer` does, and stages its message if the head would take
     /// it. Otherwise returns the head with the status that `answer` gives: the busy count is one
     /// lower after 429, and nothing else has changed.
-    pub fn stage(self, body: &[u8]) -> Result<StagedHead, (Head, u16)>
+    pub fn stage(self, body: &[u8]) -> Result<StagedHead<M>, (Head<M>, u16)>
         ensures before { IfOk result (λ s. s.before ≡ self) }
         ensures after { IfOk result (λ s. s.after ≡ (answer self body.now).head) }
         ensures taken { IfOk result (λ s. (answer self body.now).status ≡ 204) }
@@ -75,6 +78,7 @@ impl Head {
             mut table,
             bounds,
             busy,
+            memory: _,
         } = self;
         if busy > 0 {
             let head = Head {
@@ -82,6 +86,7 @@ impl Head {
                 table,
                 bounds,
                 busy: busy - 1,
+                memory: PhantomData,
             };
             return Err((head, 429));
         }
@@ -92,6 +97,7 @@ impl Head {
                 table,
                 bounds,
                 places,
+                memory: PhantomData,
             }),
             Err(verdict) => {
                 table.abort();
@@ -100,6 +106,7 @@ impl Head {
                     table,
                     bounds,
                     busy,
+                    memory: PhantomData,
                 };
                 Err((head, status_of(verdict)))
             }
@@ -107,7 +114,7 @@ impl Head {
     }
 }
 
-impl StagedHead {
+impl<M: Memory> StagedHead<M> {
     /// Returns what the message adds: each label set that gets new samples, once. A sample that the
     /// head holds already is not new. This takes no memory.
     pub fn added(&self) -> AllAdded<'_>
@@ -128,7 +135,7 @@ impl StagedHead {
     }
 
     /// Returns the head with the message. This takes no memory.
-    pub fn commit(self) -> Head
+    pub fn commit(self) -> Head<M>
         ensures head { result ≡ self.after }
         ensures more { total self.before.store ≤ total result.store }
         ensures rises { EachRises result.store }
@@ -148,11 +155,12 @@ impl StagedHead {
             table,
             bounds,
             busy: 0,
+            memory: PhantomData,
         }
     }
 
     /// Returns the head without the message. This takes no memory.
-    pub fn abort(self) -> Head
+    pub fn abort(self) -> Head<M>
         ensures { result ≡ self.before }
     {
         let StagedHead {
@@ -168,6 +176,7 @@ impl StagedHead {
             table: kept,
             bounds,
             busy: 0,
+            memory: PhantomData,
         }
     }
 }

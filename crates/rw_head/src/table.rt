@@ -1,6 +1,6 @@
 //! The lists of all label sets, and what a message would make of them.
 
-ghost use Rattle.std.specs.Prelude.{◌≡◌, ◌≢◌, ◌↔◌, ◌+◌, ◌-◌, ◌^◌, ◌<◌, ◌≤◌, [], ℕ, length, None, Some, IsTrue, IfOk, IfSome, map, slice_index_or, slice_set, vec_len, vec_capacity};
+ghost use Rattle.std.specs.Prelude.{◌≡◌, ◌≢◌, ◌↔◌, ◌+◌, ◌-◌, ◌^◌, ◌<◌, ◌≤◌, [], ℕ, length, true, false, None, Some, IsTrue, IfOk, IfSome, map, slice_index_or, slice_set, vec_len, vec_capacity};
 ghost use Rattle.rw_types.specs.Beginnings.{Begins};
 ghost use Rattle.rw_types.specs.Labels.{text_label};
 ghost use Rattle.std.specs.BTreeMap.{get};
@@ -19,11 +19,12 @@ ghost use Rattle.rw_head.specs.inner.Blocks.{open_of};
 ghost use Rattle.rw_head.specs.Added.{AddsUp};
 ghost use Rattle.rw_head.specs.Capacity.{exceeds, is_above, unlimited};
 ghost use Rattle.rw_head.specs.Lists.{no_lists};
-ghost use Rattle.rw_head.specs.inner.Lists.{more_count, note_of, Settled, IsStagedAt, ListGives, StoreGives};
+ghost use Rattle.rw_head.specs.inner.Lists.{more_count, note_of, AllSettled, Settled, IsStagedAt, ListGives, StoreGives};
 
 use crate::added::AllAdded;
 use crate::block::Block;
 use crate::capacity::Capacity;
+use crate::in_memory::InMemory;
 use crate::label_bounds::{LabelBounds, Texts};
 use crate::name::Name;
 use crate::places::{Entered, Found, Places, put};
@@ -41,7 +42,8 @@ const MOST_SAMPLES: u64 = 1 << 60;
 /// A list of samples for each label set that has some. Those of a message that is not judged yet
 /// are staged, and then kept or forgotten together, with the label sets that the message brought.
 /// Contracts see the store that is kept, the store that it is with what is staged, what is staged
-/// of each label set, and how many places and label sets are noted for the message.
+/// of each label set, how many places and label sets are noted for the message, and whether samples
+/// may be gone from memory.
 #[derive(Debug, Drop)]
 pub(crate) struct Table {
     places: Places,
@@ -51,6 +53,7 @@ pub(crate) struct Table {
     count: u64,
     staged_count: u64,
     samples: Vec<(Word, i64)>,
+    forgets: bool,
 }
 
 impl Model for Table {
@@ -58,6 +61,7 @@ impl Model for Table {
     ghost use Rattle.std.specs.Coded.{codes};
     ghost use Rattle.std.specs.FinMap as map;
     ghost use Rattle.rw_head.specs.Lists.{added_of};
+    ghost use Rattle.rw_head.specs.inner.Forgetting.{AreListed};
     ghost use Rattle.rw_head.specs.inner.Lists.{Stores, kept_store, staged_store, settled_names, IsSound};
 
     ghost Value = { Stores };
@@ -70,10 +74,11 @@ impl Model for Table {
       added = added_of t.places.names.items t.lists.items t.touched.items;
       noted = length t.touched.items + length t.fresh.items;
       placed = settled_names t.places.names.items t.fresh.items;
+      forgets = t.forgets;
     } };
 
     ghost invariant = { λ t. IsSound t.places.tree t.lists.items t.touched.items t.fresh.items
-        t.count t.staged_count × (length t.places.names.items ≡ length t.lists.items) };
+        t.count t.staged_count × AreListed (length t.places.names.items) t.forgets t.lists.items };
 }
 
 /// Returns whether there is room for `more` samples beside `count`.
@@ -95,6 +100,8 @@ fn stage_at(
         + length samples.now ≤ 2 ^ 60 }
     ensures list { lists.new.items
         ≡ slice_set lists.old.items place (slice_index_or lists.new.items place no_lists) }
+    ensures gone { (slice_index_or lists.new.items place no_lists).gone
+        ≡ (slice_index_or lists.old.items place no_lists).gone }
     ensures kept { (slice_index_or lists.new.items place no_lists).kept
         ≡ (slice_index_or lists.old.items place no_lists).kept }
     ensures staged { ListGives result
@@ -167,6 +174,8 @@ fn commit_all(lists: &mut Vec<SampleList>, touched: &[usize])
         ≡ (slice_index_or lists.new.items n no_lists).staged }
     ensures staged { (n : ℕ) → (slice_index_or lists.new.items n no_lists).staged
         ≡ (slice_index_or lists.old.items n no_lists).staged }
+    ensures gone { (n : ℕ) → (slice_index_or lists.new.items n no_lists).gone
+        ≡ (slice_index_or lists.old.items n no_lists).gone }
 {
     for place in touched {
         lists[*place].commit();
@@ -182,10 +191,30 @@ fn abort_all(lists: &mut Vec<SampleList>, touched: &[usize])
         ≡ (slice_index_or lists.new.items n no_lists).staged }
     ensures kept { (n : ℕ) → (slice_index_or lists.new.items n no_lists).kept
         ≡ (slice_index_or lists.old.items n no_lists).kept }
+    ensures gone { (n : ℕ) → (slice_index_or lists.new.items n no_lists).gone
+        ≡ (slice_index_or lists.old.items n no_lists).gone }
 {
     for place in touched {
         lists[*place].abort();
     }
+}
+
+/// Lets samples go that are earlier than `before`, as `SampleList::forget` does, and returns what
+/// is left in memory.
+fn forget_all(lists: &mut Vec<SampleList>, before: i64) -> InMemory
+    requires { AllSettled lists.old.items }
+    ensures len { length lists.new.items ≡ length lists.old.items }
+    ensures kept { (n : ℕ) → (slice_index_or lists.new.items n no_lists).kept
+        ≡ (slice_index_or lists.old.items n no_lists).kept }
+    ensures staged { (n : ℕ) → (slice_index_or lists.new.items n no_lists).staged
+        ≡ (slice_index_or lists.old.items n no_lists).staged }
+{
+    let mut memory = InMemory::none();
+    for place in 0..lists.len() {
+        lists[place].forget(before);
+        memory.add(&mut lists[place]);
+    }
+    memory
 }
 
 /// Returns `Ok(true)` for a known series, or why it is refused.
@@ -208,13 +237,14 @@ fn is_above(limit: u64, before: u64, after: u64) -> bool
 
 impl Table {
     /// Returns a table without samples. This takes no memory.
-    pub(crate) fn new(alloc: Global) -> Table
+    pub(crate) fn new(alloc: Global, forgets: bool) -> Table
         ensures { result ≡ record {
           kept = empty;
           staged = empty;
           added = [];
           noted = 0;
           placed = [];
+          forgets = forgets;
         } }
     {
         Table {
@@ -225,6 +255,7 @@ impl Table {
             count: 0,
             staged_count: 0,
             samples: Vec::new(alloc),
+            forgets,
         }
     }
 
@@ -255,6 +286,7 @@ impl Table {
             (accepted name self.old.staged
             (accept (Some (list_of self.old.staged name)) (points samples.now))) self.new.staged }
         ensures placed { self.new.placed ≡ self.old.placed }
+        ensures forgets { self.new.forgets ≡ self.old.forgets }
     {
         self.lists.reserve(1)?;
         self.touched.reserve(1)?;
@@ -291,6 +323,7 @@ impl Table {
         ensures staged { StoreGives result (taken bounds.now self.old.staged
             (record { labels = labels_of texts.entry; samples = samples.now })) self.new.staged }
         ensures placed { self.new.placed ≡ self.old.placed }
+        ensures forgets { self.new.forgets ≡ self.old.forgets }
     {
         let alloc = *self.lists.allocator();
         if samples.is_empty() {
@@ -326,6 +359,7 @@ impl Table {
         ensures staged { StoreGives result
             (taken bounds.now self.old.staged series.now) self.new.staged }
         ensures placed { self.new.placed ≡ self.old.placed }
+        ensures forgets { self.new.forgets ≡ self.old.forgets }
     {
         self.stage(bounds, Texts::Lent(&series.labels), &series.samples)
     }
@@ -345,6 +379,7 @@ impl Table {
             }))
             self.new.staged }
         ensures placed { self.new.placed ≡ self.old.placed }
+        ensures forgets { self.new.forgets ≡ self.old.forgets }
     {
         if !has_room(self.count + self.staged_count, samples.len()) {
             return Err(Verdict::NoMemory);
@@ -374,6 +409,7 @@ impl Table {
         ensures kept { self.new.kept ≡ self.old.kept }
         ensures staged { (limits : LabelLimits) → HoldsNoneRefused limits self.old.staged
             → KnownGives result limits self.old.staged (read_series bytes.now) self.new.staged }
+        ensures forgets { self.new.forgets ≡ self.old.forgets }
     {
         let Some((place, rest)) = self.places.known(bytes) else {
             return Ok(false);
@@ -422,6 +458,7 @@ impl Table {
         ensures count { result ≡ total self.old.staged - total self.old.kept }
         ensures noted { self.new.noted ≡ 0 }
         ensures placed { Begins self.old.placed self.new.placed }
+        ensures forgets { self.new.forgets ≡ self.old.forgets }
     {
         commit_all(&mut self.lists, &self.touched);
         self.touched.clear();
@@ -438,6 +475,7 @@ impl Table {
         ensures staged { self.new.staged ≡ self.old.kept }
         ensures noted { self.new.noted ≡ 0 }
         ensures placed { self.new.placed ≡ self.old.placed }
+        ensures forgets { self.new.forgets ≡ self.old.forgets }
     {
         abort_all(&mut self.lists, &self.touched);
         let len = self.lists.len() - self.fresh.len();
@@ -448,6 +486,23 @@ impl Table {
         self.staged_count = 0;
     }
 
+    /// Returns whether samples may be gone from memory.
+    pub(crate) fn forgets(&self) -> bool
+        ensures { result ≡ self.now.forgets }
+    {
+        self.forgets
+    }
+
+    /// Lets samples go that are earlier than `before`, if nothing is staged. To contracts they
+    /// stay. Returns what is left in memory.
+    pub(crate) fn forget(&mut self, before: i64) -> InMemory
+        requires unnoted { self.old.noted ≡ 0 }
+        requires forgets { self.old.forgets ≡ true }
+        ensures { self.new ≡ self.old }
+    {
+        forget_all(&mut self.lists, before)
+    }
+
     /// Returns how many label sets have a place.
     pub(crate) fn places(&self) -> usize
         ensures { result ≡ length (label_sets self.now.staged) }
@@ -455,12 +510,13 @@ impl Table {
         self.places.len()
     }
 
-    /// Returns a copy of the kept samples of a label set.
+    /// Returns a copy of the kept samples of a label set, if all are in memory.
     pub(crate) fn to_vec(
         &self,
         alloc: Global,
         labels: &LabelSet,
     ) -> Result<Vec<(i64, Word)>, AllocError>
+        requires { self.now.forgets ≡ false }
         ensures { IfOk result (λ v. v.items ≡ list_of self.now.kept labels.now) }
     {
         match self.places.look(alloc, labels)? {
@@ -469,9 +525,10 @@ impl Table {
         }
     }
 
-    /// Returns the full blocks of a label set, if nothing is staged.
+    /// Returns the full blocks of a label set, if nothing is staged and all are in memory.
     pub(crate) fn sealed(&self, labels: &LabelSet) -> &[Box<Block>]
-        requires { self.now.staged ≡ self.now.kept }
+        requires settled { self.now.staged ≡ self.now.kept }
+        requires whole { self.now.forgets ≡ false }
         ensures { map (λ b. b.value) result.now ≡ sealed_of (list_of self.now.kept labels.now) }
     {
         match self.places.get(labels) {
@@ -480,9 +537,11 @@ impl Table {
         }
     }
 
-    /// Returns the samples of a label set after its full blocks, if nothing is staged.
+    /// Returns the samples of a label set after its full blocks, if nothing is staged and all are
+    /// in memory.
     pub(crate) fn open(&self, labels: &LabelSet) -> &[(i64, Word)]
-        requires { self.now.staged ≡ self.now.kept }
+        requires settled { self.now.staged ≡ self.now.kept }
+        requires whole { self.now.forgets ≡ false }
         ensures samples { result.now ≡ open_of (list_of self.now.kept labels.now) }
         ensures few { length result.now < 120 }
     {
@@ -492,8 +551,10 @@ impl Table {
         }
     }
 
-    /// Returns the label sets that have kept samples, in order, each with these.
+    /// Returns the label sets that have kept samples, in order, each with these, if all are in
+    /// memory.
     pub(crate) fn series(&self) -> AllSeries<'_>
+        requires { self.now.forgets ≡ false }
         ensures list { result ≡ held_series self.now.kept }
         ensures lists { AreListsOf self.now.kept result }
         ensures filled { HasNoEmptyList self.now.kept }

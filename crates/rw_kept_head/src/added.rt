@@ -6,7 +6,7 @@ ghost use Rattle.rw_types.specs.LabelOrder.{labels_eq};
 ghost use Rattle.rw_head.specs.Added.{AddsUp, samples_added};
 ghost use Rattle.rw_kept_log.specs.References.{AreReferenced, points_of, only_defined};
 
-use rw_head::{AddedSeries, StagedHead};
+use rw_head::{AddedSeries, Memory, StagedHead};
 use rw_kept_log::References;
 use rw_types::Word;
 use std::alloc::{AllocError, Global};
@@ -32,10 +32,10 @@ fn put_series(
 
 /// Returns the samples that a staged message adds, each as (reference, timestamp in milliseconds,
 /// value). A label set without a reference gets the next one.
-pub(crate) fn collect(
+pub(crate) fn collect<M: Memory>(
     alloc: Global,
     references: &mut References,
-    staged: &StagedHead,
+    staged: &StagedHead<M>,
 ) -> Result<Vec<(u64, i64, Word)>, AllocError>
     ensures of { IfOk result (λ v. AreReferenced references.new v.items) }
     ensures points { IfOk result (λ v. (l : Labels) → points_of references.new l v.items

@@ -1,11 +1,11 @@
 //! A head with a journal under a lock.
 
 use crate::kept_head::KeptHead;
-use rw_head::{Admission, Capacity, Head};
+use rw_head::{Admission, Capacity, Head, InMemory, Memory};
 use rw_kept_log::Journal;
-use rw_recv_head::Admit;
+use rw_recv_head::{Admit, Show};
 
-impl<J: Journal> Admit for KeptHead<J> {
+impl<J: Journal, M: Memory> Admit for KeptHead<J, M> {
     ghost use Rattle.rw_kept_head.specs.Answered.{IsKeptAnswer};
 
     ghost state = { λ k. k.head };
@@ -16,6 +16,20 @@ impl<J: Journal> Admit for KeptHead<J> {
         KeptHead::admit(self, body, capacity)
     }
 
+    fn forget(&mut self, before: i64) -> InMemory {
+        KeptHead::forget(self, before)
+    }
+
+    fn total(&self) -> u64 {
+        self.head.total()
+    }
+
+    fn places(&self) -> usize {
+        self.head.places()
+    }
+}
+
+impl<J: Journal> Show for KeptHead<J> {
     fn head(&self) -> &Head {
         KeptHead::head(self)
     }

@@ -14,17 +14,17 @@ ghost use Rattle.rw_head.specs.Store.{list_of, total};
 ghost use Rattle.rw_kept_head.specs.Kept.{ended_with, SaysWhat, IsLeft, StaysDefinedOnce};
 
 use crate::log_writer::LogWriter;
-use rw_head::{Admission, Capacity, Head};
+use rw_head::{Admission, Capacity, Head, Memory};
 use rw_kept_log::Journal;
 
 /// Answers a body as `Head::admit` does: 204 only once all that it brings is in the journal and
 /// synced.
-pub(crate) fn admit_kept<J: Journal>(
-    head: Head,
+pub(crate) fn admit_kept<J: Journal, M: Memory>(
+    head: Head<M>,
     log: &mut LogWriter<J>,
     body: &[u8],
     capacity: &Capacity,
-) -> (Head, Admission)
+) -> (Head<M>, Admission)
     requires says { log.old.fault ≡ None → SaysWhat (J.seen log.old.journal) head.store }
 
     ensures status { status_of_admission result.1 ≢ 503

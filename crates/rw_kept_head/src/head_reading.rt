@@ -19,8 +19,9 @@ use crate::log_writer::LogWriter;
 use crate::noted_references::note_all;
 use crate::oddities::Oddities;
 use crate::open_error::OpenError;
+use crate::reading_memory::KeepFor;
 use crate::restoring::{RestoredParts, Restoring};
-use rw_head::{Head, Limits};
+use rw_head::{AllSamples, Head, Limits, Memory, RecentSamples};
 use rw_kept_log::append_laws::an_empty_segment_ends_at_0;
 use rw_kept_log::{
     Damage, Journal, LogEnd, LogReading, ReadEnd, References, ReopenError, SegmentTaker, close_torn,
@@ -35,8 +36,8 @@ const MAX_REFERENCE: u64 = 1 << 63;
 /// A log that was read: the head that it says and its limits, the references that it defines, how
 /// it ended, and what is odd of it.
 #[derive(Drop)]
-struct ReadLog {
-    head: Head,
+struct ReadLog<M: Memory> {
+    head: Head<M>,
     limits: Limits,
     references: References,
     end: ReadEnd,
@@ -44,7 +45,10 @@ struct ReadLog {
 }
 
 /// Ends the reading of a log, closes what a crash left of a write, and begins a next segment.
-fn open_log<J: Journal>(reading: HeadReading, journal: &mut J) -> Result<ReadLog, OpenError>
+fn open_log<J: Journal, M: Memory>(
+    reading: HeadReading<M>,
+    journal: &mut J,
+) -> Result<ReadLog<M>, OpenError>
     requires synced { Only (J.seen journal.old) (J.may_leave journal.old) }
     requires read { reading.segments ≡ J.seen journal.old }
     ensures says { IfOk result (λ r. SaysWhat (J.seen journal.old) r.head.store) }
@@ -114,8 +118,8 @@ fn limits_of(alloc: Global, limits: &Limits) -> Result<Limits, AllocError>
 
 /// A head that was opened, and what was read of its log.
 #[derive(Drop)]
-pub struct Opened<J: Journal> {
-    pub kept: KeptHead<J>,
+pub struct Opened<J: Journal, M: Memory = AllSamples> {
+    pub kept: KeptHead<J, M>,
     /// How many segments were read.
     pub segments: usize,
     /// How the log ended: what a crash had left of a write, which was cut off, and where.
@@ -127,13 +131,13 @@ pub struct Opened<J: Journal> {
 /// Reads the log of a head as its segments are loaded, one after the other, and makes the head that
 /// it says. It keeps no segment. Contracts see the segments, and the limits of the head.
 #[derive(Drop)]
-pub struct HeadReading {
+pub struct HeadReading<M: Memory = AllSamples> {
     alloc: Global,
     limits: Limits,
-    log: LogReading<Restoring>,
+    log: LogReading<Restoring<M>>,
 }
 
-impl Model for HeadReading {
+impl<M: Memory> Model for HeadReading<M> {
     ghost use Rattle.std.specs.Prelude.{◌≡◌, false};
     ghost use Rattle.std.specs.Coded.{codes};
     ghost use Rattle.std.specs.FinMap as map;
@@ -161,8 +165,39 @@ impl HeadReading {
         ensures limits { IfOk result (λ r. r.setup.limits ≡ label_limits limits.now) }
         ensures busy { IfOk result (λ r. r.setup.busy ≡ limits.now.busy_first) }
     {
+        HeadReading::with_memory(alloc, limits, None)
+    }
+}
+
+impl HeadReading<RecentSamples> {
+    /// Begins with no segment, for a head with these limits that may forget. While the log is read,
+    /// samples stay in memory for as long as is said.
+    pub fn recent(
+        alloc: Global,
+        limits: &Limits,
+        keep: KeepFor,
+    ) -> Result<HeadReading<RecentSamples>, AllocError>
+        ensures segments { IfOk result (λ r. r.segments ≡ []) }
+        ensures limits { IfOk result (λ r. r.setup.limits ≡ label_limits limits.now) }
+        ensures busy { IfOk result (λ r. r.setup.busy ≡ limits.now.busy_first) }
+    {
+        HeadReading::with_memory(alloc, limits, Some(keep))
+    }
+}
+
+impl<M: Memory> HeadReading<M> {
+    /// Begins with no segment, for a head with these limits.
+    fn with_memory(
+        alloc: Global,
+        limits: &Limits,
+        keep: Option<KeepFor>,
+    ) -> Result<HeadReading<M>, AllocError>
+        ensures segments { IfOk result (λ r. r.segments ≡ []) }
+        ensures limits { IfOk result (λ r. r.setup.limits ≡ label_limits limits.now) }
+        ensures busy { IfOk result (λ r. r.setup.busy ≡ limits.now.busy_first) }
+    {
         let own = limits_of(alloc, limits)?;
-        let restoring = Restoring::new(alloc, &own);
+        let restoring = Restoring::new(alloc, &own, keep);
         Ok(HeadReading {
             alloc,
             limits: own,
@@ -180,7 +215,7 @@ impl HeadReading {
     }
 }
 
-impl SegmentTaker for HeadReading {
+impl<M: Memory> SegmentTaker for HeadReading<M> {
     ghost use Rattle.rw_kept_head.specs.Reading.{HeadSetup};
 
     ghost taken = { λ r. r.segments };
@@ -194,14 +229,18 @@ impl SegmentTaker for HeadReading {
     }
 }
 
-impl<J: Journal> KeptHead<J> {
+impl<J: Journal, M: Memory> KeptHead<J, M> {
     /// Opens a journal with the log of a head, whose segments were read as they were loaded: makes
     /// the head that it says, cuts off what a crash left of a write, and begins a next segment. A
     /// segment has at most `pages` pages of 32 KiB; 4096 are 128 MiB.
     ///
     /// A log that is damaged, or that no head with these limits has written, is refused, and
     /// nothing is changed.
-    pub fn open(reading: HeadReading, journal: J, pages: usize) -> Result<Opened<J>, (OpenError, J)>
+    pub fn open(
+        reading: HeadReading<M>,
+        journal: J,
+        pages: usize,
+    ) -> Result<Opened<J, M>, (OpenError, J)>
         // After a restart, what is read is what is on the disk.
         requires synced { Only (J.seen journal) (J.may_leave journal) }
         requires read { reading.segments ≡ J.seen journal }

@@ -15,23 +15,24 @@ ghost use Rattle.rw_kept_head.specs.Kept.{ended_with, KeepsStore, IsLastWithin, 
 
 use crate::admit_kept::admit_kept;
 use crate::log_writer::LogWriter;
-use rw_head::{Admission, Capacity, Head, Limits};
+use rw_head::{Admission, AllSamples, Capacity, Head, InMemory, Limits, Memory};
 use rw_kept_log::{Journal, JournalError};
 use std::alloc::Global;
 use std::marker::Model;
 use std::mem;
 
 /// A head whose samples are in a journal, as a log. Contracts see the head, the journal, the most
-/// pages of a segment, and the fault after which nothing more is kept.
+/// pages of a segment, and the fault after which nothing more is kept. Samples of a head with the
+/// memory `RecentSamples` may be gone from memory; they are in the journal all the same.
 #[derive(Drop)]
-pub struct KeptHead<J: Journal> {
+pub struct KeptHead<J: Journal, M: Memory = AllSamples> {
     pub(crate) alloc: Global,
     pub(crate) limits: Limits,
-    pub(crate) head: Head,
+    pub(crate) head: Head<M>,
     pub(crate) log: LogWriter<J>,
 }
 
-impl<J: Journal> Model for KeptHead<J> {
+impl<J: Journal, M: Memory> Model for KeptHead<J, M> {
     ghost use Rattle.std.specs.Prelude.{◌≡◌, None};
     ghost use Rattle.std.specs.Coded.{codes};
     ghost use Rattle.std.specs.FinMap as map;
@@ -51,7 +52,7 @@ impl<J: Journal> Model for KeptHead<J> {
     ghost invariant = { λ k. k.log.fault ≡ None → SaysWhat (J.seen k.log.journal) k.head.store };
 }
 
-impl<J: Journal> KeptHead<J> {
+impl<J: Journal, M: Memory> KeptHead<J, M> {
     /// Answers the body of a request as `Head::admit` does, and 204 only once all samples that it
     /// brings are in the journal and synced.
     ///
@@ -112,7 +113,7 @@ impl<J: Journal> KeptHead<J> {
         ensures failed { self.new.fault ≡ Some Failed → (self.old.fault ≡ Some Failed)
             ⊎ (J.faults self.old.journal < J.faults self.new.journal) }
     {
-        let blank = Head::new(self.alloc, &self.limits);
+        let blank = Head::with_memory(self.alloc, &self.limits);
         let head = mem::replace(&mut self.head, blank);
         let (head, admission) = admit_kept(head, &mut self.log, body, capacity);
         self.head = head;
@@ -120,8 +121,17 @@ impl<J: Journal> KeptHead<J> {
         admission
     }
 
+    /// Lets samples go from memory that are earlier than `before`, in milliseconds since the Unix
+    /// epoch, as `Head::forget` does. What is in the journal stays there. Returns what is left in
+    /// memory.
+    pub fn forget(&mut self, before: i64) -> InMemory
+        ensures { self.new ≡ self.old }
+    {
+        self.head.forget(before)
+    }
+
     /// Returns the head.
-    pub fn head(&self) -> &Head
+    pub fn head(&self) -> &Head<M>
         ensures { result.now ≡ self.now.head }
     {
         &self.head

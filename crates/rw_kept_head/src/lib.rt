@@ -12,9 +12,11 @@ mod log_writer;
 mod noted_references;
 mod oddities;
 mod open_error;
+mod reading_memory;
 mod restoring;
 
 pub use head_reading::{HeadReading, Opened};
 pub use kept_head::KeptHead;
 pub use oddities::Oddities;
 pub use open_error::OpenError;
+pub use reading_memory::KeepFor;

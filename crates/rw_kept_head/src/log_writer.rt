@@ -16,7 +16,7 @@ ghost use Rattle.rw_kept_head.specs.declared.keep_error.KeepError.TheVariants.{U
 
 use crate::added::collect;
 use crate::keep_error::KeepError;
-use rw_head::StagedHead;
+use rw_head::{Memory, StagedHead};
 use rw_kept_log::append_laws::{a_next_segment_may_begin, new_samples_are_read};
 use rw_kept_log::laws::segments_add_up;
 use rw_kept_log::{AppendError, Journal, JournalError, LogEnd, References, write_in_pages};
@@ -76,13 +76,13 @@ fn spell<J: Journal>(
 }
 
 /// Writes what a staged message adds to the end of a log, and syncs it.
-fn write_added<J: Journal>(
+fn write_added<J: Journal, M: Memory>(
     alloc: Global,
     journal: &mut J,
     references: &mut References,
     end: &mut LogEnd,
     pages: usize,
-    staged: &StagedHead,
+    staged: &StagedHead<M>,
 ) -> Result<(), KeepError>
     requires some { 1 ≤ pages }
     requires most { pages ≤ 4096 }
@@ -174,7 +174,7 @@ impl<J: Journal> LogWriter<J> {
     }
 
     /// Writes what a staged message adds, and syncs it. Returns whether that succeeded.
-    pub(crate) fn keep(&mut self, staged: &StagedHead) -> bool
+    pub(crate) fn keep<M: Memory>(&mut self, staged: &StagedHead<M>) -> bool
         requires open { self.old.fault ≡ None }
         requires says { SaysWhat (J.seen self.old.journal) staged.now.before.store }
         ensures open { result ≡ true → self.new.fault ≡ None }

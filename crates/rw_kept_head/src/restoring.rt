@@ -15,8 +15,9 @@ ghost use Rattle.rw_kept_head.specs.inner.Noting.{AreNames};
 ghost use Rattle.rw_kept_head.specs.inner.Restoring.{accepted_next, AddsOne, AddsTo, Defines, TakesSample, IsRestored, IsRestoredOrRefused, IsSeriesOf, HasPlace, ArePlaced};
 
 use crate::oddities::Oddities;
+use crate::reading_memory::{KeepFor, ReadingMemory, let_go, let_go_at_end};
 use indexmap::IndexMap;
-use rw_head::{Head, Limits, PlacedHead, Verdict};
+use rw_head::{Head, Limits, Memory, PlacedHead, Verdict};
 use rw_history::History;
 use rw_types::{Entry, LabelFault, LabelSet, Names, RawLabels, Word, utf8_takes_any_name};
 use rw_wal_tail::Taker;
@@ -74,7 +75,7 @@ fn is_new(verdict: Verdict) -> bool
 
 /// Appends the one sample of a series to what a head holds, and returns whether it did. A sample
 /// that the head holds already, or refuses, is not appended.
-fn append_series(head: &mut PlacedHead, series: &Series) -> Result<bool, AllocError>
+fn append_series<M: Memory>(head: &mut PlacedHead<M>, series: &Series) -> Result<bool, AllocError>
     ensures done { IfOk result (AddsOne head.old.head.limits head.old.head.store
         head.new.head.store (series.now ∷ [])) }
     ensures held { OnOk result (MayHold head.old.head.limits (list_of head.old.head.store)
@@ -90,7 +91,11 @@ fn append_series(head: &mut PlacedHead, series: &Series) -> Result<bool, AllocEr
 }
 
 /// Appends a sample of the label set at a place, as `append_series` does.
-fn append_at(head: &mut PlacedHead, place: usize, sample: (i64, Word)) -> Result<bool, AllocError>
+fn append_at<M: Memory>(
+    head: &mut PlacedHead<M>,
+    place: usize,
+    sample: (i64, Word),
+) -> Result<bool, AllocError>
     requires { place < length head.old.places }
     ensures done { IfOk result (AddsOne head.old.head.limits head.old.head.store
         head.new.head.store
@@ -141,8 +146,8 @@ fn define(
 /// Takes a sample of a reference of which this series is noted, and returns whether the head
 /// appended it, and the place of the label set if it is known. Without a series the head cannot
 /// hold it.
-fn add_to(
-    head: &mut PlacedHead,
+fn add_to<M: Memory>(
+    head: &mut PlacedHead<M>,
     known: &mut Option<Series>,
     sample: (i64, Word),
 ) -> Result<(bool, Option<usize>), AllocError>
@@ -168,8 +173,8 @@ fn add_to(
 
 /// Takes a sample of a reference whose place is not known, and returns whether the head appended
 /// it. The place is then noted. A sample without a definition is passed over.
-fn add_first(
-    head: &mut PlacedHead,
+fn add_first<M: Memory>(
+    head: &mut PlacedHead<M>,
     series: &mut IndexMap<u64, Option<Series>>,
     places: &mut IndexMap<u64, Option<usize>>,
     oddities: &mut Oddities,
@@ -204,8 +209,8 @@ fn add_first(
 
 /// Takes a sample, and returns whether the head appended it. If the place of its label set is
 /// known, its labels are not looked at.
-fn add_sample(
-    head: &mut PlacedHead,
+fn add_sample<M: Memory>(
+    head: &mut PlacedHead<M>,
     series: &mut IndexMap<u64, Option<Series>>,
     places: &mut IndexMap<u64, Option<usize>>,
     oddities: &mut Oddities,
@@ -237,9 +242,9 @@ fn add_sample(
 }
 
 /// Takes an entry, and returns whether a head like this one could be given it.
-fn take_entry(
+fn take_entry<M: Memory>(
     alloc: Global,
-    head: &mut PlacedHead,
+    head: &mut PlacedHead<M>,
     series: &mut IndexMap<u64, Option<Series>>,
     places: &mut IndexMap<u64, Option<usize>>,
     oddities: &mut Oddities,
@@ -292,8 +297,8 @@ fn count_accepted(accepted: u64, refused: bool) -> u64
 
 /// What the entries of a log say: the head, the series of each reference, and what is odd of them.
 #[derive(Drop)]
-pub(crate) struct RestoredParts {
-    pub(crate) head: Head,
+pub(crate) struct RestoredParts<M: Memory> {
+    pub(crate) head: Head<M>,
     pub(crate) series: IndexMap<u64, Option<Series>>,
     pub(crate) oddities: Oddities,
 }
@@ -301,13 +306,14 @@ pub(crate) struct RestoredParts {
 /// Makes the head that a log says, as its entries come. Contracts see the entries, what the head
 /// holds, whether an entry was refused, and whether memory ran out.
 #[derive(Drop)]
-pub(crate) struct Restoring {
+pub(crate) struct Restoring<M: Memory> {
     alloc: Global,
     taken: History<Entry>,
-    head: PlacedHead,
+    head: PlacedHead<M>,
     series: IndexMap<u64, Option<Series>>,
     /// The places in the head of the label sets of which samples came.
     places: IndexMap<u64, Option<usize>>,
+    memory: ReadingMemory,
     oddities: Oddities,
     /// How many entries came before the first one that was refused.
     accepted: u64,
@@ -317,7 +323,7 @@ pub(crate) struct Restoring {
     failed: bool,
 }
 
-impl Model for Restoring {
+impl<M: Memory> Model for Restoring<M> {
     ghost use Rattle.std.specs.Prelude.{◌≡◌, false, nat_eq};
     ghost use Rattle.std.specs.Coded.{codes};
     ghost use Rattle.std.specs.FinMap as map;
@@ -341,9 +347,10 @@ impl Model for Restoring {
         × ArePlaced (λ n. get nat_eq r.places n) (λ n. get nat_eq r.series n) r.head.places };
 }
 
-impl Restoring {
-    /// Begins with a head without samples, with these limits.
-    pub(crate) fn new(alloc: Global, limits: &Limits) -> Restoring
+impl<M: Memory> Restoring<M> {
+    /// Begins with a head without samples, with these limits. If it may forget, samples stay in
+    /// memory for as long as is said.
+    pub(crate) fn new(alloc: Global, limits: &Limits, keep: Option<KeepFor>) -> Restoring<M>
         ensures taken { result.taken ≡ [] }
         ensures limits { result.head.limits ≡ label_limits limits.now }
         ensures busy { result.head.busy ≡ limits.now.busy_first }
@@ -355,6 +362,7 @@ impl Restoring {
             head: PlacedHead::new(alloc, limits),
             series: IndexMap::new(alloc),
             places: IndexMap::new(alloc),
+            memory: ReadingMemory::new(keep),
             oddities: Oddities::none(),
             accepted: 0,
             refused: false,
@@ -370,7 +378,7 @@ impl Restoring {
     }
 
     /// Returns what the entries say; `None` if one of them was refused.
-    pub(crate) fn into_parts(self) -> Option<RestoredParts>
+    pub(crate) fn into_parts(self) -> Option<RestoredParts<M>>
         requires whole { self.failed ≡ false }
         ensures says { IfSome result (λ p. (l : Labels)
             → list_of p.head.store l ≡ samples_of_labels self.taken l) }
@@ -387,6 +395,7 @@ impl Restoring {
             head,
             series,
             places: _,
+            memory,
             oddities,
             accepted: _,
             refused,
@@ -395,15 +404,17 @@ impl Restoring {
         if refused {
             return None;
         }
+        let mut head = head.into_head();
+        let_go_at_end(&memory, &mut head);
         Some(RestoredParts {
-            head: head.into_head(),
+            head,
             series,
             oddities,
         })
     }
 }
 
-impl Taker for Restoring {
+impl<M: Memory> Taker for Restoring<M> {
     ghost use Rattle.rw_kept_head.specs.inner.Restoring.{Setting};
 
     ghost taken = { λ r. r.taken };
@@ -429,6 +440,7 @@ impl Taker for Restoring {
             &mut self.oddities,
             &entry,
         )?;
+        let_go(&mut self.memory, &mut self.head, &entry);
         self.taken.push(&entry);
         self.refused = is_refused(self.refused, done);
         self.accepted = count_accepted(self.accepted, self.refused);

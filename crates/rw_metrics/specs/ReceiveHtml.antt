@@ -3,8 +3,9 @@ use Rattle.std.specs.Prelude.{ℕ, List, [], ◌∷◌, ◌++◌, ◌/◌, Optio
 use Rattle.rw_metrics.specs.Html.{page_start, page_end, table_text}
 use Rattle.rw_metrics.specs.Rows.{table}
 use Rattle.rw_metrics.specs.declared.receive_numbers.KeptNumbers.{KeptNumbers}
+use Rattle.rw_metrics.specs.declared.receive_numbers.MemoryNumbers.{MemoryNumbers}
 use Rattle.rw_metrics.specs.declared.receive_numbers.ReceiveNumbers.{ReceiveNumbers}
-use Rattle.rw_metrics.specs.declared.receiver_html.TheConstants.{HELD, CONNECTIONS, ANSWERS, LOG}
+use Rattle.rw_metrics.specs.declared.receiver_html.TheConstants.{HELD, MEMORY, CONNECTIONS, ANSWERS, LOG}
 use Rattle.rw_metrics.specs.declared.rows.Shown.TheVariants as shown
 
 -- what is held, and how much may be
@@ -13,6 +14,15 @@ held_table n =
     table_text (table HELD)
     (shown.Count n.samples ∷ shown.Count n.label_sets ∷ shown.IfAny n.max_samples
     ∷ shown.IfAny n.max_label_sets ∷ []) []
+
+-- what is in memory
+unfoldable pub memory_table : MemoryNumbers → List ℕ
+memory_table n = table_text (table MEMORY) (shown.Count n.samples ∷ shown.Count n.asked ∷ []) []
+
+-- the same, if only the latest samples are in memory
+unfoldable pub recent_table : Option MemoryNumbers → List ℕ
+recent_table None = []
+recent_table (Some n) = memory_table n
 
 -- the connections
 abbrev pub connections_table : ReceiveNumbers → List ℕ
@@ -40,6 +50,7 @@ abbrev pub receive_html : ReceiveNumbers → List ℕ
 receive_html n =
     page_start (codes "rwship receive")
     ++ held_table n
+    ++ recent_table n.memory
     ++ connections_table n
     ++ answers_table n
     ++ kept_table n.kept

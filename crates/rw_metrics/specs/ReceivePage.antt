@@ -2,8 +2,9 @@
 use Rattle.std.specs.Prelude.{ℕ, List, [], ◌∷◌, ◌++◌, Option, None, Some, map}
 use Rattle.rw_metrics.specs.Exposition.{metric, family, metrics_text, family_text}
 use Rattle.rw_metrics.specs.declared.receive_numbers.KeptNumbers.{KeptNumbers}
+use Rattle.rw_metrics.specs.declared.receive_numbers.MemoryNumbers.{MemoryNumbers}
 use Rattle.rw_metrics.specs.declared.receive_numbers.ReceiveNumbers.{ReceiveNumbers}
-use Rattle.rw_metrics.specs.declared.receiver_page.TheConstants.{CONNECTIONS, REQUESTS, HELD, LOG}
+use Rattle.rw_metrics.specs.declared.receiver_page.TheConstants.{CONNECTIONS, REQUESTS, HELD, MEMORY, LOG}
 use Rattle.rw_metrics.specs.declared.rows.Shown.TheVariants as shown
 
 -- the connections
@@ -23,6 +24,15 @@ held_page n =
     (shown.Count n.samples ∷ shown.Count n.label_sets ∷ shown.Count n.max_samples
     ∷ shown.Count n.max_label_sets ∷ [])
 
+-- what is in memory
+unfoldable pub memory_page : MemoryNumbers → List ℕ
+memory_page n = metrics_text (map metric MEMORY) (shown.Count n.samples ∷ shown.Count n.asked ∷ [])
+
+-- the same, if only the latest samples are in memory
+unfoldable pub recent_page : Option MemoryNumbers → List ℕ
+recent_page None = []
+recent_page (Some n) = memory_page n
+
 -- how far the log of a folder was read at the start, and what was written to it
 unfoldable pub log_page : KeptNumbers → List ℕ
 log_page n =
@@ -36,4 +46,9 @@ kept_page None = []
 kept_page (Some n) = log_page n
 
 abbrev pub receive_page : ReceiveNumbers → List ℕ
-receive_page n = connections_page n ++ requests_page n ++ held_page n ++ kept_page n.kept
+receive_page n =
+    connections_page n
+    ++ requests_page n
+    ++ held_page n
+    ++ recent_page n.memory
+    ++ kept_page n.kept

@@ -3,6 +3,7 @@
 use crate::atomics::{add, read, set};
 use crate::codes::Codes;
 use crate::kept_counters::KeptCounters;
+use crate::memory_counters::MemoryCounters;
 use crate::receive_numbers::ReceiveNumbers;
 use std::alloc::{AllocError, Global};
 use std::sync::atomic::{AtomicU64, Ordering};
@@ -19,21 +20,33 @@ pub struct ReceiveCounters {
     label_sets: AtomicU64,
     max_samples: AtomicU64,
     max_label_sets: AtomicU64,
+    memory: Option<MemoryCounters>,
     kept: Option<KeptCounters>,
 }
 
 impl ReceiveCounters {
     /// Returns counters that are all 0, of a receiver that keeps no log.
     pub fn new(alloc: Global) -> Result<ReceiveCounters, AllocError> {
-        ReceiveCounters::with(alloc, None)
+        ReceiveCounters::with(alloc, None, None)
     }
 
     /// Returns counters that are all 0, of a receiver that writes to the log of a folder.
     pub fn of_kept_log(alloc: Global) -> Result<ReceiveCounters, AllocError> {
-        ReceiveCounters::with(alloc, Some(KeptCounters::default()))
+        ReceiveCounters::with(alloc, None, Some(KeptCounters::default()))
     }
 
-    fn with(alloc: Global, kept: Option<KeptCounters>) -> Result<ReceiveCounters, AllocError> {
+    /// Returns counters that are all 0, of a receiver that writes to the log of a folder, and keeps
+    /// only the latest samples in memory.
+    pub fn of_recent_log(alloc: Global) -> Result<ReceiveCounters, AllocError> {
+        let memory = Some(MemoryCounters::default());
+        ReceiveCounters::with(alloc, memory, Some(KeptCounters::default()))
+    }
+
+    fn with(
+        alloc: Global,
+        memory: Option<MemoryCounters>,
+        kept: Option<KeptCounters>,
+    ) -> Result<ReceiveCounters, AllocError> {
         let statuses = Codes::new(alloc)?;
         Ok(ReceiveCounters {
             accepted: AtomicU64::new(0),
@@ -44,6 +57,7 @@ impl ReceiveCounters {
             label_sets: AtomicU64::new(0),
             max_samples: AtomicU64::new(0),
             max_label_sets: AtomicU64::new(0),
+            memory,
             kept,
         })
     }
@@ -85,6 +99,15 @@ impl ReceiveCounters {
     pub fn set_limits(&self, max_samples: u64, max_label_sets: u64) {
         set(&self.max_samples, max_samples);
         set(&self.max_label_sets, max_label_sets);
+    }
+
+    /// Sets how many samples are in memory, and counts the series of which a sample came that may
+    /// be gone from there. It counts nothing if all samples are in memory.
+    pub fn hold_in_memory(&self, samples: u64, asked: u64) {
+        if let Some(memory) = &self.memory {
+            set(&memory.samples, samples);
+            add(&memory.asked, asked);
+        }
     }
 
     /// Counts bytes that were written to the log of a folder. This and the next five calls count
@@ -145,6 +168,7 @@ impl ReceiveCounters {
             label_sets: read(&self.label_sets),
             max_samples: read(&self.max_samples),
             max_label_sets: read(&self.max_label_sets),
+            memory: self.memory.as_ref().map(|memory| memory.numbers()),
             kept: self.kept.as_ref().map(|kept| kept.numbers()),
         })
     }

@@ -19,6 +19,15 @@ pub struct KeptNumbers {
     pub read: u64,
 }
 
+/// How much a receiver has in memory that keeps only the latest samples there.
+#[derive(Clone, Copy, Debug, PartialEq, Eq)]
+pub struct MemoryNumbers {
+    /// Samples that are in memory.
+    pub samples: u64,
+    /// Series of which a sample came that may be gone from memory, added up over all looks.
+    pub asked: u64,
+}
+
 /// The values of a receiver's counters when they were read, one after the other.
 #[derive(Drop)]
 pub struct ReceiveNumbers {
@@ -38,6 +47,8 @@ pub struct ReceiveNumbers {
     pub max_samples: u64,
     /// How many label sets they may be of; 0 if there is no limit.
     pub max_label_sets: u64,
+    /// What is in memory, if only the latest samples are.
+    pub memory: Option<MemoryNumbers>,
     /// What was written to the log of a folder, if the receiver has one.
     pub kept: Option<KeptNumbers>,
 }

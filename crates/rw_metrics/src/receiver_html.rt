@@ -1,16 +1,22 @@
 //! The page of a receiver for people.
 
 ghost use Rattle.std.specs.Prelude.{◌≡◌, ◌++◌, IfOk, OnOk};
-ghost use Rattle.rw_metrics.specs.ReceiveHtml.{connections_table, held_table, kept_table, log_table, receive_html};
+ghost use Rattle.rw_metrics.specs.ReceiveHtml.{connections_table, held_table, kept_table, log_table, memory_table, receive_html, recent_table};
 
 use crate::html::{push_page_end, push_page_start, push_table};
-use crate::receive_numbers::{KeptNumbers, ReceiveNumbers};
+use crate::receive_numbers::{KeptNumbers, MemoryNumbers, ReceiveNumbers};
 use crate::rows::{Shown, Table};
 use std::alloc::{AllocError, Global};
 
 const HELD: Table = (
     "Held",
     &["Samples", "Series", "Limit of samples", "Limit of series"],
+    "",
+);
+
+const MEMORY: Table = (
+    "Memory",
+    &["Samples in memory", "Series asked for that are too old"],
     "",
 );
 
@@ -47,6 +53,26 @@ fn push_held(out: &mut Vec<u8>, n: &ReceiveNumbers) -> Result<(), AllocError>
         Shown::IfAny(n.max_label_sets),
     ];
     push_table(out, &HELD, &numbers, &[])
+}
+
+/// Adds what is in memory.
+#[tactic(auto, unfolding(crate::specs::ReceiveHtml::memory_table))]
+fn push_memory(out: &mut Vec<u8>, n: &MemoryNumbers) -> Result<(), AllocError>
+    ensures { OnOk result (out.new.items ≡ out.old.items ++ memory_table n.now) }
+{
+    let numbers = [Shown::Count(n.samples), Shown::Count(n.asked)];
+    push_table(out, &MEMORY, &numbers, &[])
+}
+
+/// Adds what is in memory, if only the latest samples are.
+#[tactic(auto, unfolding(crate::specs::ReceiveHtml::recent_table))]
+fn push_recent(out: &mut Vec<u8>, memory: &Option<MemoryNumbers>) -> Result<(), AllocError>
+    ensures { OnOk result (out.new.items ≡ out.old.items ++ recent_table memory.now) }
+{
+    match memory {
+        None => Ok(()),
+        Some(numbers) => push_memory(out, numbers),
+    }
 }
 
 /// Adds the connections.
@@ -96,6 +122,7 @@ pub fn receive_html(alloc: Global, numbers: &ReceiveNumbers) -> Result<Vec<u8>, 
     let mut out = Vec::new(alloc);
     push_page_start(&mut out, "rwship receive")?;
     push_held(&mut out, numbers)?;
+    push_recent(&mut out, &numbers.memory)?;
     push_connections(&mut out, numbers)?;
     push_table(&mut out, &ANSWERS, &[], numbers.statuses.as_slice())?;
     push_kept(&mut out, &numbers.kept)?;

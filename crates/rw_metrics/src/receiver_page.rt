@@ -1,10 +1,10 @@
 //! The page of a receiver.
 
 ghost use Rattle.std.specs.Prelude.{◌≡◌, ◌++◌, IfOk, OnOk};
-ghost use Rattle.rw_metrics.specs.ReceivePage.{connections_page, held_page, kept_page, log_page, receive_page, requests_page};
+ghost use Rattle.rw_metrics.specs.ReceivePage.{connections_page, held_page, kept_page, log_page, memory_page, receive_page, recent_page, requests_page};
 
 use crate::exposition::{Family, Metric, metrics, push_family, push_metrics};
-use crate::receive_numbers::{KeptNumbers, ReceiveNumbers};
+use crate::receive_numbers::{KeptNumbers, MemoryNumbers, ReceiveNumbers};
 use crate::rows::Shown;
 use std::alloc::{AllocError, Global};
 
@@ -29,6 +29,13 @@ const HELD: [Metric; 4] = metrics! {
     "rwship_receive_label_sets" "gauge" "Label sets that are held."
     "rwship_receive_max_samples" "gauge" "Limit of held samples; 0 if none."
     "rwship_receive_max_label_sets" "gauge" "Limit of label sets; 0 if none."
+};
+
+/// What is in memory, if only the latest samples are.
+const MEMORY: [Metric; 2] = metrics! {
+    "rwship_receive_samples_in_memory" "gauge" "Samples that are in memory."
+    "rwship_receive_too_old_series_total" "counter"
+        "Series of which a sample came that is too old for memory, at each look."
 };
 
 /// How far the log of a folder was read at the start, and what was written to it.
@@ -82,6 +89,29 @@ fn push_held(out: &mut Vec<u8>, n: &ReceiveNumbers) -> Result<(), AllocError>
     )
 }
 
+/// Adds what is in memory.
+#[tactic(auto, unfolding(crate::specs::ReceivePage::memory_page))]
+fn push_memory(out: &mut Vec<u8>, n: &MemoryNumbers) -> Result<(), AllocError>
+    ensures { OnOk result (out.new.items ≡ out.old.items ++ memory_page n.now) }
+{
+    push_metrics(
+        out,
+        &MEMORY,
+        &[Shown::Count(n.samples), Shown::Count(n.asked)],
+    )
+}
+
+/// Adds what is in memory, if only the latest samples are.
+#[tactic(auto, unfolding(crate::specs::ReceivePage::recent_page))]
+fn push_recent(out: &mut Vec<u8>, memory: &Option<MemoryNumbers>) -> Result<(), AllocError>
+    ensures { OnOk result (out.new.items ≡ out.old.items ++ recent_page memory.now) }
+{
+    match memory {
+        None => Ok(()),
+        Some(numbers) => push_memory(out, numbers),
+    }
+}
+
 /// Adds how far the log of a folder was read, and what was written to it.
 #[tactic(auto, unfolding(crate::specs::ReceivePage::log_page))]
 fn push_log(out: &mut Vec<u8>, n: &KeptNumbers) -> Result<(), AllocError>
@@ -121,6 +151,7 @@ pub fn receive_page(alloc: Global, numbers: &ReceiveNumbers) -> Result<Vec<u8>, 
     push_connections(&mut out, numbers)?;
     push_requests(&mut out, numbers)?;
     push_held(&mut out, numbers)?;
+    push_recent(&mut out, &numbers.memory)?;
     push_kept(&mut out, &numbers.kept)?;
     Ok(out)
 }

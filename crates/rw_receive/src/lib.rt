@@ -4,6 +4,7 @@
 
 mod connection;
 mod counting_seat;
+mod forgetting;
 mod graceful_close;
 mod held;
 mod next_connection;
@@ -16,5 +17,6 @@ mod service;
 mod timed_stream;
 mod until;
 
+pub use forgetting::now_ms;
 pub use receive::{Received, Service, run_receive, serve_and_print, serve_connections};
 pub use until::ServeUntil;

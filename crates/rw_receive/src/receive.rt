@@ -14,7 +14,7 @@ use crate::service::serve_head;
 use crate::until::ServeUntil;
 use rw_head::{Capacity, Head, Limits};
 use rw_metrics::ReceiveCounters;
-use rw_recv_head::{Admit, Blank};
+use rw_recv_head::{Admit, Blank, Show};
 use rw_settings::Settings;
 use rw_text::ToolFault;
 use rw_types::{Bounded, Sink};
@@ -38,6 +38,9 @@ pub struct Service<'a> {
     /// How much the head may hold. A request that would add more is answered with 503, and changes
     /// nothing.
     pub capacity: Capacity,
+    /// For how many milliseconds samples stay in memory, by their timestamps, if the head may
+    /// forget (`Head<RecentSamples>`); none for all of them. No clause says anything about it.
+    pub memory_ms: Option<u64>,
     /// They count each connection and each answer of the head. No clause says anything about them.
     pub counters: &'a ReceiveCounters,
 }
@@ -98,6 +101,7 @@ pub fn serve_connections<R: Threads + Wait + Clock + Sync, H: Admit + Drop + Sen
         until: service.until,
         idle_ms: service.idle_ms,
         request_ms: service.request_ms,
+        memory_ms: service.memory_ms,
         seat_request: &seat_request,
         counters: service.counters,
     };
@@ -108,7 +112,7 @@ pub fn serve_connections<R: Threads + Wait + Clock + Sync, H: Admit + Drop + Sen
 /// prints what it holds: for each label set with samples, by byte order of its list of (name,
 /// value), `received LABELS` and for each sample ` T=VALUE`, the line ended by LF. If serving
 /// fails, nothing is printed.
-pub fn serve_and_print<R: Threads + Wait + Clock + Sync, H: Admit + Drop + Send, W: Sink>(
+pub fn serve_and_print<R: Threads + Wait + Clock + Sync, H: Show + Drop + Send, W: Sink>(
     rt: &R,
     alloc: Global,
     limits: &Limits,
@@ -144,6 +148,7 @@ pub fn serve_and_print<R: Threads + Wait + Clock + Sync, H: Admit + Drop + Send,
         idle_ms: service.idle_ms,
         request_ms: service.request_ms,
         capacity: service.capacity,
+        memory_ms: service.memory_ms,
         counters: service.counters,
     };
     let holder = serve_connections(rt, alloc, limits, bounds, listener, holder)?;
@@ -183,6 +188,7 @@ pub fn run_receive<R: Threads + Wait + Clock + Sync, W: Sink>(
         idle_ms: service.idle_ms,
         request_ms: service.request_ms,
         capacity: service.capacity,
+        memory_ms: service.memory_ms,
         counters: service.counters,
     };
     let received = serve_and_print(rt, alloc, &settings.limits, bounds, listener, head, writer)?;

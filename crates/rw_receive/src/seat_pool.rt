@@ -4,6 +4,7 @@ ghost use Rattle.std.specs.Prelude.{◌≡◌, ◌<◌, ◌⊎◌, IfOk, IfErr, 
 ghost use Rattle.rw_text.specs.declared.tool_fault.ToolFault.TheVariants.{OutOfMemory, Device};
 
 use crate::connection::{ActiveConnection, Connection, start_connection};
+use crate::forgetting::Forgetting;
 use crate::next_connection::next_connection;
 use crate::server_context::ServerContext;
 use rw_follow::StopRequest;
@@ -82,21 +83,6 @@ impl<L: Naming> SeatPool<L> {
         !self.free.is_empty()
     }
 
-    /// Waits until a seat is free, or a stop is requested. While all are taken, it asks connections
-    /// that are silent or too slow to end.
-    fn wait_for_seat<R: Threads + Wait + Clock>(&mut self, rt: &R, context: &ServerContext<'_>)
-        ensures { self.new ≡ self.old }
-    {
-        for _ in rt.forever() {
-            if self.has_free(rt) || context.until.request() != StopRequest::Continue {
-                break;
-            }
-            context.seat_request.make();
-            thread::sleep(rt, Duration::from_millis(SLEEP_MS));
-        }
-        context.seat_request.withdraw();
-    }
-
     /// Waits for the connections, and returns all seats.
     pub fn into_seats<R: Threads>(self, rt: &R) -> Vec<Seat<L>>
         ensures { vec_len result ≡ self }
@@ -108,6 +94,28 @@ impl<L: Naming> SeatPool<L> {
         }
         seats
     }
+}
+
+/// Waits until a seat is free, or a stop is requested, and lets samples go meanwhile. While all
+/// seats are taken, it asks connections that are silent or too slow to end.
+fn wait_for_seat<L: Holding<H>, H: Admit, R: Threads + Wait + Clock>(
+    pool: &mut SeatPool<L>,
+    rt: &R,
+    context: &ServerContext<'_>,
+    shared: &SharedHead<L, H>,
+    forgetting: &mut Forgetting,
+)
+    ensures { pool.new ≡ pool.old }
+{
+    for _ in rt.forever() {
+        if pool.has_free(rt) || context.until.request() != StopRequest::Continue {
+            break;
+        }
+        context.seat_request.make();
+        forgetting.step(rt, context, shared);
+        thread::sleep(rt, Duration::from_millis(SLEEP_MS));
+    }
+    context.seat_request.withdraw();
 }
 
 /// Serves the next connection in a thread of the scope, and returns whether one has come: in a
@@ -126,6 +134,7 @@ fn serve_next<
     listener: &TcpListener,
     context: &'s ServerContext<'s>,
     shared: &'s SharedHead<L, H>,
+    forgetting: &mut Forgetting,
 ) -> Result<bool, ToolFault>
     ensures kept { OnOk result (pool.new ≡ pool.old) }
     ensures faults { IfErr result (λ e. (e ≡ OutOfMemory) ⊎ (e ≡ Device)) }
@@ -134,7 +143,7 @@ fn serve_next<
     let Some(stream) = next_connection(rt, listener, context)? else {
         return Ok(false);
     };
-    pool.wait_for_seat(rt, context);
+    wait_for_seat(pool, rt, context, shared, forgetting);
     let Some(seat) = pool.free.pop() else {
         return Ok(true);
     };
@@ -164,11 +173,13 @@ pub(crate) fn serve_each<
     ensures faults { IfErr result (λ e. (e ≡ OutOfMemory) ⊎ (e ≡ Device)) }
 {
     let mut accepted: u64 = 0;
+    let mut forgetting = Forgetting::new();
     for _ in rt.forever() {
         if context.until.is_reached(accepted) {
             break;
         }
-        if serve_next(pool, scope, rt, listener, context, shared)? {
+        forgetting.step(rt, context, shared);
+        if serve_next(pool, scope, rt, listener, context, shared, &mut forgetting)? {
             accepted = accepted.saturating_add(1);
         }
     }

@@ -29,6 +29,8 @@ pub struct ServerContext<'a> {
     pub idle_ms: Bounded<10, 3_600_000>,
     /// How many milliseconds a request may take, and a reply; one more for each byte of a request.
     pub request_ms: Bounded<10, 3_600_000>,
+    /// For how many milliseconds samples stay in memory, if the head may forget; none for all.
+    pub memory_ms: Option<u64>,
     /// Made while a client waits for a seat. No clause says anything about it.
     pub seat_request: &'a SeatRequest,
     /// They count each connection and each answer of the head. No clause says anything about them.

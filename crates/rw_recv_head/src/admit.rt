@@ -1,13 +1,13 @@
 //! What may be under the lock: a head, or something that has one.
 
-ghost use Rattle.std.specs.Prelude.{◌≡◌, ◌≢◌, ℕ, ◌≤◌, List, true};
+ghost use Rattle.std.specs.Prelude.{◌≡◌, ◌≢◌, ℕ, ◌≤◌, List, length, true};
 ghost use Rattle.rw_head.specs.declared.capacity.Admission.TheVariants.{Full};
 ghost use Rattle.rw_head.specs.Capacity.{exceeds, status_of_admission, unlimited, StaysWithin};
 ghost use Rattle.rw_head.specs.Growth.{EachRises, HasStoredBody};
 ghost use Rattle.rw_head.specs.Head.{State, answer, IsStatus, SpellsMessage};
-ghost use Rattle.rw_head.specs.Store.{total};
+ghost use Rattle.rw_head.specs.Store.{total, label_sets};
 
-use rw_head::{Admission, Capacity, Head};
+use rw_head::{Admission, Capacity, Head, InMemory, Memory};
 
 /// A head, or something that has one and answers bodies as it does. What it does with the samples
 /// besides, such as writing them to disk before it answers, its own contracts say.
@@ -41,12 +41,29 @@ pub trait Admit {
         ensures limited { result ≡ Full → capacity.now ≢ unlimited }
         ensures admits { admits self.old body.now (status_of_admission result) self.new };
 
-    /// Returns the head.
-    fn head(&self) -> &Head
-        ensures { result.now ≡ state self.now };
+    /// Lets samples go from memory that are earlier than `before`, in milliseconds since the Unix
+    /// epoch, as `Head::forget` does, if the head may forget. Returns what is left in memory.
+    fn forget(&mut self, before: i64) -> InMemory
+        ensures forgets { self.new ≡ self.old };
+
+    /// Returns how many samples the head holds.
+    fn total(&self) -> u64
+        ensures total { result ≡ total (state self.now).store }
+        ensures rises { EachRises (state self.now).store };
+
+    /// Returns of how many label sets the head has samples.
+    fn places(&self) -> usize
+        ensures places { result ≡ length (label_sets (state self.now).store) };
 }
 
-impl Admit for Head {
+/// A head that shows what it holds, or something that has one.
+pub trait Show: Admit {
+    /// Returns the head.
+    fn head(&self) -> &Head
+        ensures { result.now ≡ Self.state self.now };
+}
+
+impl<M: Memory> Admit for Head<M> {
     ghost state = { λ h. h };
 
     ghost admits = { λ old body status new. Unit {0} };
@@ -55,6 +72,20 @@ impl Admit for Head {
         Head::admit(self, body, capacity)
     }
 
+    fn forget(&mut self, before: i64) -> InMemory {
+        Head::forget(self, before)
+    }
+
+    fn total(&self) -> u64 {
+        Head::total(self)
+    }
+
+    fn places(&self) -> usize {
+        Head::places(self)
+    }
+}
+
+impl Show for Head {
     fn head(&self) -> &Head {
         self
     }

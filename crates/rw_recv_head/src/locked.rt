@@ -13,7 +13,7 @@ use crate::admit::Admit;
 use crate::naming::Holding;
 use crate::questions::Questions;
 use crate::seat::Seat;
-use rw_head::{Admission, Capacity};
+use rw_head::{Admission, Capacity, InMemory};
 use std::marker::Model;
 use std::sync::ledger::{Share, Total};
 
@@ -65,9 +65,9 @@ impl<L: Holding<H>, H: Admit> Locked<L, H> {
         requires none_back { questions.back ≡ [] }
         requires one_part { rest.parts ≡ 1 }
         requires adds_up { total (H.state holder).store + rest.amount ≡ most }
+        requires rises { EachRises (H.state holder).store }
         ensures { result ≡ record { head = H.state holder; questions = questions } }
     {
-        holder.head().conforms();
         Locked {
             holder,
             questions,
@@ -114,13 +114,19 @@ impl<L: Holding<H>, H: Admit> Locked<L, H> {
         ensures limited { result ≡ Full → L.table.capacity ≢ unlimited }
         ensures admitted { (last : H) × HasAdmitted H.admits L.first seat.new.asked last }
     {
-        let old = self.holder.head();
-        let before = old.total();
+        let before = self.holder.total();
         let admission = self.holder.admit(body, &self.capacity);
         seat.note(&mut self.questions, admission.status(), body);
-        let new = self.holder.head();
-        seat.take(all, &mut self.rest, new.total() - before);
+        let after = self.holder.total();
+        seat.take(all, &mut self.rest, after - before);
         admission
+    }
+
+    /// Lets samples go from memory, as `Admit::forget` does.
+    pub(crate) fn forget(&mut self, before: i64) -> InMemory
+        ensures { self.new ≡ self.old }
+    {
+        self.holder.forget(before)
     }
 
     /// Returns of how many label sets the head has samples.
@@ -128,7 +134,7 @@ impl<L: Holding<H>, H: Admit> Locked<L, H> {
         ensures { result ≡ length (label_sets (store_after L.opening
             (bodies_of self.now.questions.asked))) }
     {
-        self.holder.head().places()
+        self.holder.places()
     }
 
     /// Returns how many samples the head holds.
@@ -138,6 +144,6 @@ impl<L: Holding<H>, H: Admit> Locked<L, H> {
         ensures within { StaysWithin L.table.capacity L.opening.store
             (store_after L.opening (bodies_of self.now.questions.asked)) }
     {
-        self.holder.head().total()
+        self.holder.total()
     }
 }

@@ -12,7 +12,7 @@ use crate::blank::Blank;
 use crate::locked::Locked;
 use crate::naming::Holding;
 use crate::seat::{Asked, Seat};
-use rw_head::Head;
+use rw_head::{Head, InMemory};
 use std::alloc::{AllocError, Global};
 use std::marker::Model;
 use std::sync::ledger::Total;
@@ -72,7 +72,7 @@ impl<L: Holding<H>, H: Admit> SharedHead<L, H> {
         let capacity = blank.capacity();
         let (ledger, mut questions) = blank.named::<L>();
         let (mut book, mut rest) = ledger.open::<L>();
-        book.add(&mut rest, u64::MAX - head.head().total());
+        book.add(&mut rest, u64::MAX - head.total());
         let all = book.close();
         for k in 0..n {
             let seen = questions.give(k as u64);
@@ -105,6 +105,15 @@ impl<L: Holding<H>, H: Admit> SharedHead<L, H> {
             label_sets: locked.label_sets(),
             samples: locked.samples(),
         }
+    }
+
+    /// Lets samples go from memory that are earlier than `before`, in milliseconds since the Unix
+    /// epoch, under the lock, if the head may forget. Returns what is left in memory. No answer to
+    /// a seat shows it, except that 503 may come in place of another status. It may wait for the
+    /// lock.
+    pub fn forget<R: Wait>(&self, rt: &R, before: i64) -> InMemory {
+        let mut locked = self.locked.lock(rt);
+        locked.forget(before)
     }
 
     /// Returns the head, once all seats were returned. It holds what was reported to each of them

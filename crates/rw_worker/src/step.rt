@@ -185,6 +185,7 @@ pub(crate) fn step<T: Transport, P: Pause, R: Wait>(
         return give_up(start, intake, sending, pause, stopped);
     }
     if sending.core.batch_id().is_some() {
+        sending.core.conforms();
         send(start, &intake, sending, pause);
         return Progress::Goes(intake);
     }

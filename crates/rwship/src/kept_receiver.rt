@@ -1,9 +1,11 @@
 //! The command `receive` with a folder in which it keeps what it takes.
 
+ghost use Rattle.std.specs.Prelude.{◌≡◌, [], IfOk};
+
 use crate::live_report::is_watched;
 use crate::program_end::{report_output_fault, report_result};
 use rw_cli::Receiving;
-use rw_head::Limits;
+use rw_head::{Memory, RecentSamples};
 use rw_kept_folder::{
     FaultCause, FolderError, FolderFault, FolderJournal, FolderMonitor, FolderRules, OpenFolder,
     open_journal, refuse_running_server,
@@ -13,7 +15,7 @@ use rw_kept_log::{Damage, ReopenError, whole_len};
 use rw_metrics::ReceiveCounters;
 use rw_receive::Received;
 use rw_text::ToolFault;
-use std::alloc::Global;
+use std::alloc::{AllocError, Global};
 use std::fs::{File, TryLockError};
 use std::io::{Error, Read};
 use std::process::ExitCode;
@@ -21,10 +23,13 @@ use std::sync::Arc;
 use std::{fs, io};
 
 /// A log in the files of a folder.
-type Log = FolderJournal<OpenFolder<HostRuntime>>;
+pub type Log = FolderJournal<OpenFolder<HostRuntime>>;
 
 /// A head whose log is in the files of a folder.
 pub type FolderHead = KeptHead<Log>;
+
+/// A head whose log is in the files of a folder, and that keeps only the latest samples in memory.
+pub type RecentFolderHead = KeptHead<Log, RecentSamples>;
 
 /// The most pages of a segment: 128 MiB, as a segment of Prometheus has.
 const PAGES: usize = 4096;
@@ -45,7 +50,7 @@ pub enum KeepError {
 }
 
 /// Returns why the last segment is not cut at its fault, if a whole record follows that.
-fn doubt_of(reading: &HeadReading, journal: &Log) -> Option<KeepError> {
+fn doubt_of<M: Memory>(reading: &HeadReading<M>, journal: &Log) -> Option<KeepError> {
     let (damage, at) = reading.record_after_fault()?;
     let number = journal.files().number_of(damage.place.segment);
     Some(KeepError::RecordFollows(damage, number, at))
@@ -188,12 +193,15 @@ impl<'a> KeptFolder<'a> {
         }
     }
 
-    /// Opens the log in the folder. The counters count what is written to it.
-    pub fn open(
+    /// Opens the log in the folder, which is read into the head of `reading`. The counters count
+    /// what is written to it.
+    pub fn open<M: Memory>(
         &self,
-        limits: &Limits,
+        reading: Result<HeadReading<M>, AllocError>,
         counters: &Arc<ReceiveCounters, Global>,
-    ) -> Result<Opened<Log>, KeepError> {
+    ) -> Result<Opened<Log, M>, KeepError>
+        requires { IfOk reading (λ r. r.segments ≡ []) }
+    {
         let (rt, dir, receiving) = (self.rt, self.dir, self.receiving);
         let Ok(counters) = Arc::try_clone(counters) else {
             return Err(KeepError::Folder(FolderError::OutOfMemory));
@@ -201,7 +209,7 @@ impl<'a> KeptFolder<'a> {
         if let Err(error) = refuse_running_server(rt, dir) {
             return Err(KeepError::Folder(error));
         }
-        let Ok(mut reading) = HeadReading::new(rt.alloc(), limits) else {
+        let Ok(mut reading) = reading else {
             return Err(KeepError::Folder(FolderError::OutOfMemory));
         };
         let monitor = FolderMonitor::new(counters);
@@ -280,7 +288,7 @@ impl<'a> KeptFolder<'a> {
     }
 
     /// Reports that the first segments are missing, if they are.
-    fn report_missing_start(&self, opened: &Opened<Log>) {
+    fn report_missing_start<M: Memory>(&self, opened: &Opened<Log, M>) {
         let (rt, dir) = (self.rt, self.dir);
         let first = opened.kept.journal().files().number_of(0);
         if first > 0 && opened.segments > 0 {
@@ -289,7 +297,7 @@ impl<'a> KeptFolder<'a> {
     }
 
     /// Reports what was cut off the end of the log, and what to do.
-    fn report_cut(&self, opened: &Opened<Log>) {
+    fn report_cut<M: Memory>(&self, opened: &Opened<Log, M>) {
         let (rt, dir) = (self.rt, self.dir);
         let torn = opened.end.torn.len();
         if torn == 0 {
@@ -334,7 +342,7 @@ impl<'a> KeptFolder<'a> {
 
     /// Reports what the folder holds, if somebody may read that, and in any case what was cut off,
     /// and what is odd of its log.
-    pub fn report_opened(&self, opened: &Opened<Log>) {
+    pub fn report_opened<M: Memory>(&self, opened: &Opened<Log, M>) {
         let (rt, dir, receiving) = (self.rt, self.dir, self.receiving);
         self.report_cut(opened);
         self.report_missing_start(opened);
@@ -358,7 +366,10 @@ impl<'a> KeptFolder<'a> {
     }
 
     /// Reports how serving, printing what is held, and keeping ended. Returns the exit status.
-    pub fn report_end(&self, outcome: Result<Received<FolderHead>, ToolFault>) -> ExitCode {
+    pub fn report_end<M: Memory>(
+        &self,
+        outcome: Result<Received<KeptHead<Log, M>>, ToolFault>,
+    ) -> ExitCode {
         let rt = self.rt;
         let Received { holder, printed } = match outcome {
             Ok(received) => received,

@@ -12,6 +12,7 @@ mod kept_receiver;
 mod live_report;
 mod log_fault;
 mod log_files;
+mod memory_watch;
 mod program_end;
 mod receive_command;
 mod send_command;
@@ -23,8 +24,8 @@ use clap::ArgMatches;
 use engines::{body, log, plan, replay};
 use inspect_command::{LogCommand, inspect_input};
 use program_end::{
-    print_version, report_bad_address, report_bad_arguments, report_output_fault,
-    report_parse_error, report_result, report_settings_fault,
+    print_version, report_bad_arguments, report_bad_value, report_output_fault, report_parse_error,
+    report_result, report_settings_fault,
 };
 use receive_command::receive;
 use rw_cli::{LogDir, SettingsFile, Task, command_line, positions_of, task_of};
@@ -67,7 +68,7 @@ fn perform<R: Threads + Wait + Clock + Copy + Send + Sync + 'static>(
     words: &ArgMatches<'_>,
 ) -> ExitCode {
     let Some(task) = task_of(words, rt.stderr().is_terminal()) else {
-        return report_bad_address(rt, words);
+        return report_bad_value(rt, words);
     };
     match task {
         Task::Body {

@@ -8,7 +8,7 @@ ghost use Rattle.rwship.specs.Statuses.{follow_status, unset_status};
 use crate::settings::Unset;
 use clap::ArgMatches;
 use clap::error::ErrorKind;
-use rw_cli::{UrlFault, VERSION, bad_address};
+use rw_cli::{UrlFault, VERSION, bad_address, bad_span};
 use rw_send::FollowFault;
 use rw_settings::SettingsNote;
 use rw_text::ToolFault;
@@ -214,11 +214,15 @@ pub fn report_misplaced(rt: &HostRuntime, stop_file: &str) -> ExitCode
     report_bad_arguments(rt, "For more information, try '--help'.")
 }
 
-/// Reports which HOST:PORT is not valid, in the form of the command-line parser.
-pub fn report_bad_address(rt: &HostRuntime, words: &ArgMatches<'_>) -> ExitCode {
+/// Reports which HOST:PORT or span of time is not valid, in the form of the command-line parser.
+pub fn report_bad_value(rt: &HostRuntime, words: &ArgMatches<'_>) -> ExitCode {
     if let Some((option, value)) = bad_address(words) {
         let _ = eprintln!(rt;
             "error: invalid value '{value}' for '--{option} <HOST:PORT>': expected a host, a colon and a port from 1 to 65535\n"
+        );
+    } else if let Some(value) = bad_span(words) {
+        let _ = eprintln!(rt;
+            "error: invalid value '{value}' for '--memory <TIME>': expected a number from 1 on, and m, h or d after it, as 3h\n"
         );
     }
     report_bad_arguments(rt, "For more information, try '--help'.")

@@ -1,11 +1,12 @@
 //! The command `receive`.
 
 use crate::event_log::EventLog;
-use crate::kept_receiver::{FolderHead, KeptFolder};
+use crate::kept_receiver::{FolderHead, KeptFolder, Log, RecentFolderHead};
 use crate::live_report::{
     OutputAfterReport, begin_reporting, end_reporting, name_to_listen_on, print_listen_error,
 };
 use crate::log_fault::has_output_failed;
+use crate::memory_watch::report_old_samples;
 use crate::program_end::{
     report_misplaced, report_output_fault, report_result, report_settings_fault,
 };
@@ -13,9 +14,12 @@ use crate::settings::settings_in;
 use crate::stop::{is_misplaced, note_left_file, report_stop, report_write_error, stop_signal};
 use rw_cli::{Receiving, SettingsFile, Until};
 use rw_follow::StopSignal;
-use rw_head::Capacity;
+use rw_head::{Capacity, Memory};
+use rw_kept_head::{HeadReading, KeepFor, KeptHead, Opened};
 use rw_metrics::{Counters, ReceiveCounters};
-use rw_receive::{Received, ServeUntil, Service, run_receive, serve_and_print, serve_connections};
+use rw_receive::{
+    Received, ServeUntil, Service, now_ms, run_receive, serve_and_print, serve_connections,
+};
 use rw_settings::Settings;
 use rw_text::{Address, ToolFault};
 use rw_types::{Bounded, Std};
@@ -54,9 +58,10 @@ fn new_counters(
     rt: &HostRuntime,
     receiving: &Receiving<'_>,
 ) -> Result<Arc<ReceiveCounters, Global>, AllocError> {
-    let counters = match receiving.dir {
-        Some(_) => ReceiveCounters::of_kept_log(rt.alloc())?,
-        None => ReceiveCounters::new(rt.alloc())?,
+    let counters = match (receiving.dir, receiving.memory_ms) {
+        (Some(_), Some(_)) => ReceiveCounters::of_recent_log(rt.alloc())?,
+        (Some(_), None) => ReceiveCounters::of_kept_log(rt.alloc())?,
+        (None, _) => ReceiveCounters::new(rt.alloc())?,
     };
     counters.set_limits(
         receiving.max_samples.unwrap_or(0),
@@ -149,6 +154,7 @@ impl<R: Threads + Wait + Clock + Sync> Receiver<'_, R> {
             idle_ms: self.receiving.idle_ms,
             request_ms: self.receiving.request_ms,
             capacity: capacity_of(self.receiving),
+            memory_ms: self.receiving.memory_ms,
             counters,
         }
     }
@@ -190,6 +196,25 @@ impl<R: Threads + Wait + Clock + Sync> Receiver<'_, R> {
         serve_and_print(self.threads, alloc, limits, service, listener, head, output)
     }
 
+    /// Serves connections over a head whose log is in a folder, and that keeps only the latest
+    /// samples in memory. Nothing is printed of what it holds.
+    fn serve_recent(
+        &self,
+        listener: TcpListener,
+        counters: &Arc<ReceiveCounters, Global>,
+        head: RecentFolderHead,
+    ) -> Result<Received<RecentFolderHead>, ToolFault> {
+        let signal = self.stop_signal(counters)?;
+        report_old_samples(self.rt, self.threads, counters)?;
+        let service = self.service(&signal, counters);
+        let (alloc, limits) = (self.rt.alloc(), &self.settings.limits);
+        let holder = serve_connections(self.threads, alloc, limits, service, listener, head)?;
+        Ok(Received {
+            holder,
+            printed: Ok(()),
+        })
+    }
+
     /// Serves connections and keeps nothing in a folder, and reports how that goes as far as it is
     /// asked for.
     fn receive_in_memory(
@@ -217,6 +242,76 @@ impl<R: Threads + Wait + Clock + Sync> Receiver<'_, R> {
         status
     }
 
+    /// Reports and counts what a head holds that was opened, and returns it.
+    fn begin_with<M: Memory>(
+        &self,
+        folder: &KeptFolder<'_>,
+        counters: &ReceiveCounters,
+        opened: Opened<Log, M>,
+    ) -> KeptHead<Log, M> {
+        folder.report_opened(&opened);
+        let head = opened.kept;
+        let (samples, series) = (head.head().total(), head.head().places());
+        counters.begin_with(samples, series);
+        self.log_opened(folder.dir(), samples, series);
+        head
+    }
+
+    /// Opens the log in a folder, and serves connections over it with all samples in memory.
+    fn receive_whole(
+        &self,
+        listener: TcpListener,
+        folder: &KeptFolder<'_>,
+        counters: &Arc<ReceiveCounters, Global>,
+        shown: &Counters,
+    ) -> ExitCode {
+        let reading = HeadReading::new(self.rt.alloc(), &self.settings.limits);
+        match folder.open(reading, counters) {
+            Ok(opened) => {
+                let head = self.begin_with(folder, counters, opened);
+                let output = Std::new(self.rt.stdout());
+                let reporting = &self.receiving.reporting;
+                let mut output = OutputAfterReport::new(self.rt, reporting, shown, output);
+                let outcome = self.serve_kept(listener, counters, head, &mut output);
+                output.report();
+                if outcome.is_ok() {
+                    self.note_ended_input(counters);
+                }
+                folder.report_end(outcome)
+            }
+            Err(error) => folder.report_error(error),
+        }
+    }
+
+    /// Opens the log in a folder, and serves connections over it with only the samples of the last
+    /// `span_ms` milliseconds in memory, also while the log is read.
+    fn receive_recent(
+        &self,
+        listener: TcpListener,
+        folder: &KeptFolder<'_>,
+        counters: &Arc<ReceiveCounters, Global>,
+        shown: &Counters,
+        span_ms: u64,
+    ) -> ExitCode {
+        let keep = KeepFor {
+            span_ms,
+            now_ms: now_ms(self.rt).unwrap_or(i64::MIN),
+        };
+        let reading = HeadReading::recent(self.rt.alloc(), &self.settings.limits, keep);
+        match folder.open(reading, counters) {
+            Ok(opened) => {
+                let head = self.begin_with(folder, counters, opened);
+                let outcome = self.serve_recent(listener, counters, head);
+                end_reporting(self.rt, &self.receiving.reporting, shown);
+                if outcome.is_ok() {
+                    self.note_ended_input(counters);
+                }
+                folder.report_end(outcome)
+            }
+            Err(error) => folder.report_error(error),
+        }
+    }
+
     /// Opens the log in a folder that is locked, and serves connections over it. What is asked for
     /// is reported from the beginning, so that one can see how far the log is read.
     fn receive_into(&self, listener: TcpListener, folder: &KeptFolder<'_>) -> ExitCode {
@@ -224,24 +319,9 @@ impl<R: Threads + Wait + Clock + Sync> Receiver<'_, R> {
             Ok(begun) => begun,
             Err(fault) => return report_result(self.rt, Err(fault)),
         };
-        match folder.open(&self.settings.limits, &counters) {
-            Ok(opened) => {
-                folder.report_opened(&opened);
-                let head = opened.kept;
-                let (samples, series) = (head.head().total(), head.head().places());
-                counters.begin_with(samples, series);
-                self.log_opened(folder.dir(), samples, series);
-                let output = Std::new(self.rt.stdout());
-                let reporting = &self.receiving.reporting;
-                let mut output = OutputAfterReport::new(self.rt, reporting, &shown, output);
-                let outcome = self.serve_kept(listener, &counters, head, &mut output);
-                output.report();
-                if outcome.is_ok() {
-                    self.note_ended_input(&counters);
-                }
-                folder.report_end(outcome)
-            }
-            Err(error) => folder.report_error(error),
+        match self.receiving.memory_ms {
+            Some(span_ms) => self.receive_recent(listener, folder, &counters, &shown, span_ms),
+            None => self.receive_whole(listener, folder, &counters, &shown),
         }
     }
 

@@ -137,6 +137,28 @@ rwship_receive_log_segments_total 1
 rwship_receive_log_writes_failed_total 1
 ";
 
+/// The page of a receiver that keeps only the latest samples in memory, up to its log.
+const MEMORY_PAGE: &str = "
+rwship_receive_max_label_sets 0
+# HELP rwship_receive_samples_in_memory Samples that are in memory.
+# TYPE rwship_receive_samples_in_memory gauge
+rwship_receive_samples_in_memory 400
+# HELP rwship_receive_too_old_series_total Series of which a sample came that is too old for memory, at each look.
+# TYPE rwship_receive_too_old_series_total counter
+rwship_receive_too_old_series_total 3
+# HELP rwship_receive_log_segments_found Segments of the log that were there at the start.
+";
+
+/// Its table on the page for people, up to the next one.
+const MEMORY_TABLE: &str = "
+<h2>Memory</h2>
+<table>
+<tr><th>Samples in memory</th><td>400</td></tr>
+<tr><th>Series asked for that are too old</th><td>3</td></tr>
+</table>
+<h2>Connections</h2>
+";
+
 /// Its table on the page for people, and what follows it.
 const LOG_TABLE: &str = "
 <h2>Log</h2>
@@ -408,5 +430,34 @@ fn counts_no_log(alloc: Global) -> Result<bool, AllocError> {
 fn a_receiver_with_a_log(rt: HostRuntime) -> Result<(), Fail> {
     assert!(rt; shows_its_log(rt.alloc())?);
     assert!(rt; counts_no_log(rt.alloc())?);
+    Ok(())
+}
+
+/// Returns whether a receiver that keeps only the latest samples in memory shows what it has there.
+fn shows_its_memory(alloc: Global) -> Result<bool, AllocError> {
+    let counters = ReceiveCounters::of_recent_log(alloc)?;
+    counters.hold_in_memory(500, 2);
+    counters.hold_in_memory(400, 1);
+    let numbers = counters.numbers(alloc)?;
+    let page = receive_page(alloc, &numbers)?;
+    let html = receive_html(alloc, &numbers)?;
+    Ok(
+        has_part(&page, MEMORY_PAGE.as_bytes())
+            && has_part(&html, MEMORY_TABLE.as_bytes())
+            && numbers.kept.is_some(),
+    )
+}
+
+/// Returns whether a receiver with all its samples in memory says nothing of that.
+fn says_nothing_of_memory(alloc: Global) -> Result<bool, AllocError> {
+    let counters = ReceiveCounters::of_kept_log(alloc)?;
+    counters.hold_in_memory(500, 2);
+    Ok(counters.numbers(alloc)?.memory.is_none())
+}
+
+#[test]
+fn a_receiver_that_forgets(rt: HostRuntime) -> Result<(), Fail> {
+    assert!(rt; shows_its_memory(rt.alloc())?);
+    assert!(rt; says_nothing_of_memory(rt.alloc())?);
     Ok(())
 }

@@ -13,6 +13,8 @@ mod failing_journal;
 #[cfg(test)]
 mod foreign_logs;
 #[cfg(test)]
+mod forgetting;
+#[cfg(test)]
 mod life;
 #[cfg(test)]
 mod long_messages;

@@ -74,6 +74,7 @@ pub(crate) fn serve<R: Threads + Wait + Clock + Sync>(
             max_samples: bounds.max_samples,
             max_series: u64::MAX,
         },
+        memory_ms: None,
         counters: bounds.counters,
     };
     let head = serve_connections(rt, alloc, bounds.limits, service, listener, head)?;

@@ -8,7 +8,7 @@ use rw_head::{Head, Verdict};
 use std::alloc::{AllocError, Global};
 
 /// Returns the samples `i` at `10 * i`, for `i` from the first to the last of each range.
-fn tens(alloc: Global, ranges: &[(u32, u32)]) -> Result<Vec<(i64, u64)>, AllocError> {
+pub(crate) fn tens(alloc: Global, ranges: &[(u32, u32)]) -> Result<Vec<(i64, u64)>, AllocError> {
     let mut samples = Vec::new(alloc);
     for (first, last) in ranges {
         for i in *first..=*last {

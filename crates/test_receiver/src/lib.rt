@@ -15,6 +15,8 @@ mod capacity;
 #[cfg(test)]
 mod connections;
 #[cfg(test)]
+mod forgetting;
+#[cfg(test)]
 mod head_replies;
 #[cfg(test)]
 mod limits;

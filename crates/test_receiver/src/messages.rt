@@ -1,6 +1,6 @@
 //! Messages as rows give them, and what a head makes of them.
 
-use rw_head::{Head, Limits, Verdict};
+use rw_head::{Head, Limits, Memory, Verdict};
 use rw_types::{Bounded, LabelFault, LabelSet, Names, Word};
 use rw_write_request::{Message, Series};
 use std::alloc::{AllocError, Global};
@@ -78,7 +78,7 @@ pub(crate) fn narrow(alloc: Global) -> Result<Head, AllocError> {
 }
 
 /// Returns the verdict on a message of these series.
-pub(crate) fn asked(alloc: Global, head: &mut Head, parts: Parts<'_>) -> Verdict {
+pub(crate) fn asked<M: Memory>(alloc: Global, head: &mut Head<M>, parts: Parts<'_>) -> Verdict {
     match message(alloc, parts) {
         Ok(message) => head.apply(&message),
         Err(_) => Verdict::NoMemory,

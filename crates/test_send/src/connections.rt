@@ -216,6 +216,7 @@ fn are_served<
                 idle_ms: Bounded::new(60_000),
                 request_ms: Bounded::new(60_000),
                 capacity: Capacity::unlimited(),
+                memory_ms: None,
                 counters: &counters,
             };
             run_receive(rt, alloc, settings, service, listener, printed)
@@ -457,6 +458,7 @@ fn fails_without_waiting<
         idle_ms: Bounded::new(60_000),
         request_ms: Bounded::new(60_000),
         capacity: Capacity::unlimited(),
+        memory_ms: None,
         counters: &counters,
     };
     let ended = run_receive(rt, alloc, settings, service, listener, &mut printed);

@@ -146,6 +146,7 @@ fn receives<R: Threads + Wait + Clock + Sync>(
         idle_ms: Bounded::new(60_000),
         request_ms: Bounded::new(60_000),
         capacity: Capacity::unlimited(),
+        memory_ms: None,
         counters: &counters,
     };
     let has_ended = match read_settings(alloc, row.settings) {

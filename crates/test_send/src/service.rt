@@ -92,6 +92,7 @@ fn service_of<'a>(
         idle_ms: bounds.idle_ms,
         request_ms: bounds.request_ms,
         capacity: Capacity::unlimited(),
+        memory_ms: None,
         counters,
     }
 }

@@ -2,7 +2,7 @@
 
 use rw_recv_head::{
     AddedSeries, Admission, Admit, AllAdded, Blank, Block, Capacity, Head, HeldSeries, Holding,
-    LabelSets, Limits, Seat, SharedHead, StagedHead, Verdict,
+    InMemory, LabelSets, Limits, Memory, Seat, SharedHead, Show, StagedHead, Verdict,
 };
 use rw_recv_http::{Answer, Asking, ServeEnd, serve};
 use rw_types::{Sink, Source};
@@ -16,19 +16,22 @@ pub type Types<'a, R, L> = (
 );
 
 /// The calls of rw_recv_head.
-pub fn of_heads() {
-    let _ = (Head::new, Head::apply, Head::answer, Head::samples);
-    let _ = (Head::label_sets, Head::total, Head::series, Head::places);
-    let _ = (Head::sealed, Head::open, Head::stage, Head::admit);
-    let _ = Head::conforms;
+pub fn of_heads<M: Memory>() {
+    let _ = (Head::new, Head::samples, Head::label_sets, Head::series);
+    let _ = (Head::sealed, Head::open);
+    let _ = (Head::<M>::apply, Head::<M>::answer, Head::<M>::total);
+    let _ = (Head::<M>::places, Head::<M>::stage, Head::<M>::admit);
+    let _ = (Head::<M>::with_memory, Head::<M>::forget);
+    let _ = (M::forgets, InMemory::none);
+    let _ = Head::<M>::conforms;
     let _ = (Block::samples, Capacity::unlimited);
     let _ = (HeldSeries::labels, HeldSeries::samples, Limits::standard);
 }
 
 /// The calls of a message that a head has staged, and of a head with a capacity.
-pub fn of_staged_messages() {
-    let _ = (StagedHead::added, StagedHead::exceeds);
-    let _ = (StagedHead::commit, StagedHead::abort);
+pub fn of_staged_messages<M: Memory>() {
+    let _ = (StagedHead::<M>::added, StagedHead::<M>::exceeds);
+    let _ = (StagedHead::<M>::commit, StagedHead::<M>::abort);
     let _ = (AddedSeries::place, AddedSeries::labels);
     let _ = AddedSeries::copy_samples;
     let _ = (Admission::status, Admission::is_full);
@@ -38,9 +41,15 @@ pub fn of_staged_messages() {
 pub fn of_shared_heads<R: Wait, L: Holding<H>, H: Admit>() {
     let _ = (Blank::new, Blank::with_capacity);
     let _ = (SharedHead::<L, H>::seats, SharedHead::<L, H>::gather);
+    let _ = SharedHead::<L, H>::forget::<R>;
     let _ = (Seat::<L>::answer::<R, H>, Seat::<L>::ask::<R, H>);
-    let _ = (H::admit, H::head);
+    let _ = (H::admit, H::forget, H::total, H::places);
     let _ = Seat::<L>::stored;
+}
+
+/// The call of a head that shows what it holds.
+pub fn of_shown_heads<H: Show>() {
+    let _ = H::head;
 }
 
 /// The calls of rw_recv_http.

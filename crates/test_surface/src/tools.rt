@@ -67,6 +67,10 @@ pub fn of_receive_counters() {
     let _ = (ReceiveCounters::answer, ReceiveCounters::hold_label_sets);
     let _ = ReceiveCounters::begin_with;
     let _ = (ReceiveCounters::set_limits, ReceiveCounters::of_kept_log);
+    let _ = (
+        ReceiveCounters::of_recent_log,
+        ReceiveCounters::hold_in_memory,
+    );
     let _ = (ReceiveCounters::write_log, ReceiveCounters::sync_log);
     let _ = (
         ReceiveCounters::begin_log_segment,

@@ -171,9 +171,9 @@ none_refused_empty : (limits : LabelLimits) → HoldsNoneRefused limits empty
 none_refused_empty limits l e = let none : has_samples (list_of empty l) ≡ false = ap has_samples (list_of-empty l) in absurd cc
 
 -- a head begins so
-pub ready_first : (limits : LabelLimits) (stores : Stores) → stores ≡ record { kept = empty; staged = empty; added = []; noted = 0; placed = [] }
+pub ready_first : (limits : LabelLimits) (forgets : Bool) (stores : Stores) → stores ≡ record { kept = empty; staged = empty; added = []; noted = 0; placed = []; forgets = forgets }
     → IsReady stores × HoldsNoneRefused limits stores.kept
-ready_first limits stores e = (
+ready_first limits forgets stores e = (
   subst IsReady (sym e) (record { settled = refl; rises = EachRises-empty; filled = HasNoEmptyList-empty; unnoted = refl }),
   subst (λ (s : Stores). HoldsNoneRefused limits s.kept) (sym e) (none_refused_empty limits),
 )

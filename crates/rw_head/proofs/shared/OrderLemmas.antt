@@ -28,7 +28,7 @@ later_rest : (t : ℤ) (x : Point) (xs : List Point) → is_later t (x ∷ xs) �
 later_rest t x [] e = refl
 later_rest t x (y ∷ ys) e = e
 
-earlier_each : (t : ℤ) (w : ℕ) (xs : List Point) → Rises IsEarlier xs → is_later t xs ≡ true → AllByRecursion (λ y. IsEarlier y (t, w)) xs
+pub earlier_each : (t : ℤ) (w : ℕ) (xs : List Point) → Rises IsEarlier xs → is_later t xs ≡ true → AllByRecursion (λ y. IsEarlier y (t, w)) xs
 earlier_each t w [] h e = tt
 earlier_each t w (x ∷ xs) h e = (later_than_first t x xs h e, earlier_each t w xs h.1 (later_rest t x xs e))
 
@@ -53,6 +53,11 @@ pub holds_nowhere : (s : Point) (xs : List Point) → ((i : ℕ) (d : Point) →
 holds_nowhere s [] none = refl
 holds_nowhere s (x ∷ xs) none =
     ap (λ b. (b && eqb x.1 s.1) || holds s xs) (none 0 x (omega arith)) ∙ holds_nowhere s xs (λ i d h. none (suc i) d (omega arith))
+
+-- each is earlier
+pub holds_earlier : (s : Point) (xs : List Point) → AllByRecursion (λ y. IsEarlier y s) xs → holds s xs ≡ false
+holds_earlier s [] all = refl
+holds_earlier s (x ∷ xs) all = ap (λ b. (b && eqb x.1 s.1) || holds s xs) (eq_apart x.0 s.0 all.0 _ refl) ∙ holds_earlier s xs all.1
 
 -- if one has it, its word decides
 pub holds_at : (s : Point) (xs : List Point) (i : ℕ) (d : Point) → Rises IsEarlier xs → i < length xs → int_eq (get_or xs i d).0 s.0 ≡ true → holds s xs ≡ eqb (get_or xs i d).1 s.1

@@ -17,7 +17,7 @@ use Rattle.rw_head.specs.declared.verdict.Verdict.TheVariants.{NoMemory}
 use Rattle.std.specs.Prelude.{OnOk, IfErr}
 use Rattle.rw_head.specs.Verdicts.{LabelLimits, refusal, accepted, taken_unless, taken}
 use Rattle.rw_head.specs.Lists.{Lists, no_lists, has_samples}
-use Rattle.rw_head.specs.inner.Lists.{IsStagedAt, ListGives, StoreGives, IsSound, IsFresh, AllFilled, kept_store, staged_store, HasPlaces, Settled}
+use Rattle.rw_head.specs.inner.Lists.{IsStagedAt, ListGives, StoreGives, AllSettled, IsSound, IsFresh, AllFilled, kept_store, staged_store, HasPlaces, Settled}
 use Rattle.rw_head.specs.inner.Names.{below}
 use Rattle.rw_head.proofs.shared.OrderLemmas.{accept-none}
 use Rattle.rw_head.proofs.shared.StoreLemmas.{no_points, with_list-same, total-with_list, total-empty}
@@ -130,9 +130,6 @@ IsSound-staged index lists news touched noted fresh count staged staged_new l n 
     }
 
 -- ---- all that is staged is kept, or forgotten
-abbrev pub AllSettled : List Lists → Type 0
-AllSettled ls = (n : ℕ) → n < length ls → (get_or ls n no_lists).kept ≡ (get_or ls n no_lists).staged
-
 none_touched : (touched : List ℕ) (ls : List Lists) → touched ≡ [] → AllSettled ls → Settled touched ls
 none_touched touched ls e h = subst (λ ts. Settled ts ls) (sym e) (record { within = λ k lt. absurd (omega arith); others = λ n lt none. h n lt })
 

@@ -19,6 +19,7 @@ Finds (Named name) l place = name ≡ l
 
 -- these are the points of a label set that had none, all of them staged
 pub record AreStaged (x : Lists) (points : List Point) : Type 0 where
+  pub gone : x.gone ≡ []
   pub kept : x.kept ≡ []
   pub staged : accept (Some []) points ≡ Some x.staged
   pub few : length x.staged ≤ length points

@@ -1,6 +1,6 @@
 -- Inner definitions beside those of Lists.antt: only invariants, private functions and
 -- proofs use them.
-use Rattle.std.specs.Prelude.{◌≡◌, ◌≢◌, ℕ, ◌+◌, ◌-◌, ◌^◌, ◌<◌, ◌≤◌, true, false, if◌then◌else◌, nat_eq, List, [], ◌∷◌, ◌++◌, length, map, slice_index, slice_index_or, slice_set, take, AllPairs, Option, Some, None, Result, Ok, Err}
+use Rattle.std.specs.Prelude.{◌≡◌, ◌≢◌, ℕ, ◌+◌, ◌-◌, ◌^◌, ◌<◌, ◌≤◌, Bool, true, false, if◌then◌else◌, nat_eq, List, [], ◌∷◌, ◌++◌, length, map, slice_index, slice_index_or, slice_set, take, AllPairs, Option, Some, None, Result, Ok, Err}
 use Rattle.std.specs.BTreeMap.{BTreeMap, get, Updates}
 use Rattle.std.specs.FinMap.{empty}
 use Rattle.std.specs.List.{list_any}
@@ -39,6 +39,10 @@ pub record Settled (touched : List ℕ) (lists : List Lists) : Type 0 where
   pub within : (k : ℕ) → k < length touched → slice_index touched k < length lists
   pub others : (n : ℕ) → n < length lists → list_any (nat_eq n) touched ≡ false → (slice_index_or lists n no_lists).kept ≡ (slice_index_or lists n no_lists).staged
 
+-- nothing is staged in any list
+abbrev pub AllSettled : List Lists → Type 0
+AllSettled lists = (n : ℕ) → n < length lists → (slice_index_or lists n no_lists).kept ≡ (slice_index_or lists n no_lists).staged
+
 abbrev pub more_count : Lists → ℕ
 more_count x = length x.staged - length x.kept
 
@@ -56,6 +60,7 @@ pub record AreNoted (touched : List ℕ) (lists : List Lists) : Type 0 where
 -- samples were staged in the list at place n, which is noted, and they are counted
 pub record IsStagedAt (old new : List Lists) (touched noted : List ℕ) (count more n : ℕ) : Type 0 where
   pub list : new ≡ slice_set old n (slice_index_or new n no_lists)
+  pub gone : (slice_index_or new n no_lists).gone ≡ (slice_index_or old n no_lists).gone
   pub kept : (slice_index_or new n no_lists).kept ≡ (slice_index_or old n no_lists).kept
   pub grown : length (slice_index_or old n no_lists).staged ≤ length (slice_index_or new n no_lists).staged
   pub begun : Begins (slice_index_or new n no_lists).kept (slice_index_or new n no_lists).staged
@@ -87,13 +92,15 @@ abbrev pub settled_names : List Labels → List Labels → List Labels
 settled_names names fresh = take (length names - length fresh) names
 
 -- the two stores, what is staged of each label set, how many places are noted that a message has
--- touched or made, and the label sets by place, without those that the message brought
+-- touched or made, the label sets by place, without those that the message brought, and whether
+-- samples may be gone from memory
 pub record Stores : Type 0 where
   pub kept : Store
   pub staged : Store
   pub added : List Added
   pub noted : ℕ
   pub placed : List Labels
+  pub forgets : Bool
 
 -- What a function that stages samples says is what the order rule gives, unless memory ran out.
 abbrev pub ListGives : Result (Unit {0}) Verdict → Option (List Point) → List Point → Type 0

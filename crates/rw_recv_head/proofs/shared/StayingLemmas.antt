@@ -1,5 +1,5 @@
 -- What a head has taken it keeps.
-use Rattle.std.proofs.Common.{◌≡◌, ℕ, List, [], ◌∷◌, ◌++◌, Result, Ok, Err, refl, sym, ap, ◌∙◌, subst}
+use Rattle.std.proofs.Common.{◌≡◌, ℕ, List, [], ◌∷◌, ◌++◌, Result, Ok, Err, refl, sym, ap, ◌∙◌, subst, false}
 use Rattle.rw_types.specs.Beginnings.{Begins}
 use Rattle.rw_types.proofs.shared.BeginningLemmas.{begins_itself, begins_twice}
 use Rattle.rw_types.specs.Labels.{Labels}
@@ -26,7 +26,7 @@ keeps_itself s h k = record { rises = h; filled = k; begins = λ l. begins_itsel
 -- a message that is taken
 pub message_keeps : (limits : LabelLimits) (m : WriteRequest) (store next : Store) → EachRises store → HasNoEmptyList store → taken_all limits (Ok store) m ≡ Ok next → Keeps store next
 message_keeps limits m store next h k e =
-    let g = kept_grown limits m (record { kept = store; staged = store; added = []; noted = 0; placed = [] }) next next (record { settled = refl; rises = h; filled = k; unnoted = refl }) e refl in
+    let g = kept_grown limits m (record { kept = store; staged = store; added = []; noted = 0; placed = []; forgets = false }) next next (record { settled = refl; rises = h; filled = k; unnoted = refl }) e refl in
     record { rises = g.rises; filled = g.filled; begins = g.begins }
 
 judged_keeps : (head : State) (m : WriteRequest) (r : Result Store Verdict) → EachRises head.store → HasNoEmptyList head.store

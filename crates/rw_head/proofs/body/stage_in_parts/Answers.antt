@@ -17,6 +17,7 @@ loop-rest-init c =
     let given = sym (ap₂ (λ ts (ss : List Sample). taken limits first (series_of_texts ts ss)) c.deref.ensures.value (c.deref-2.ensures.value ∙ c.new-samples.ensures.items)) ∙ c.in_ok-stage.ensures.staged in
     record {
       kept = c.in_ok-stage.ensures.kept;
+      forgets = c.in_ok-stage.ensures.forgets;
       within = taken_within limits (record { labels = names; samples = [] }) first c.stage.new.self.staged c.requires.within given;
       staged = labels_taken limits first c.stage.new.self.staged c.args.bytes.now names found.0 found.1 given;
     }
@@ -39,6 +40,7 @@ loop-rest-preserved c =
     let h = c.loop-rest.invariant.staged in
     record {
       kept = c.in_ok-stage-2.ensures.kept ∙ c.loop-rest.invariant.kept;
+      forgets = c.in_ok-stage-2.ensures.forgets ∙ c.loop-rest.invariant.forgets;
       within = taken_within limits (record { labels = names; samples = part }) store next c.loop-rest.invariant.within given;
       staged = one_part limits first store next c.args.bytes.now c.loop-rest.rest.now c.in_ok-rest.rest.now names part c.in_ok-rest.ensures.found given h;
     }

@@ -7,6 +7,7 @@ use Rattle.rw_head.proofs.body.stage_in_parts.Given as goal
 abbrev pub invariant-loop-rest : goal.invariant-loop-rest
 invariant-loop-rest l = record {
   kept : l.table.kept ≡ l.fn.table.kept;
+  forgets : l.table.forgets ≡ l.fn.table.forgets;
   within : HoldsNoneRefused l.bounds l.table.staged;
   staged : HasParts l.bounds l.fn.table.staged l.table.staged l.bytes l.rest (map text_label l.labels.items);
 }

@@ -26,6 +26,7 @@ loop-rest-preserved-in_ok-stage_series c =
     let t = c.in_ok-stage_series.ensures.staged in
     record {
       kept = c.in_ok-stage_series.ensures.kept ∙ c.loop-rest.invariant.kept;
+      forgets = c.in_ok-stage_series.ensures.forgets ∙ c.loop-rest.invariant.forgets;
       within = taken_within c.args.bounds.now t.0 c.loop-rest.table.staged c.stage_series.new.table.staged c.loop-rest.invariant.within t.2;
       staged = one_more c.args.bounds.now c.args.table.now.staged c.loop-rest.table.staged c.stage_series.new.table.staged c.args.body.now rest c.in-Some.bytes.now after follows t c.loop-rest.invariant.staged;
     }

@@ -14,6 +14,7 @@ returns-in_err-stage_lent-clause-staged c =
 pub loop-series-preserved : goal.loop-series-preserved
 loop-series-preserved c = record {
   kept = c.in_ok-stage_lent.ensures.kept ∙ c.loop-series.invariant.kept;
+  forgets = c.in_ok-stage_lent.ensures.forgets ∙ c.loop-series.invariant.forgets;
   within = taken_within c.args.bounds.now c.series-item.result c.loop-series.table.staged c.stage_lent.new.self.staged c.loop-series.invariant.within c.in_ok-stage_lent.ensures.staged;
   staged = taken_at c.args.bounds.now c.args.message.now c.loop-series.series-index c.series-item.result c.loop-series.table.staged c.stage_lent.new.self.staged _ c.loop-series-test.true c.series-item.is
       c.loop-series.invariant.staged c.in_ok-stage_lent.ensures.staged;

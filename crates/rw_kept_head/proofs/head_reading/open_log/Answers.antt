@@ -14,6 +14,7 @@ use Rattle.rw_kept_head.specs.Admitted.{IsRefusedAt}
 use Rattle.rw_kept_head.specs.Opening.{HasSameEntries}
 use Rattle.rw_kept_head.specs.Reading.{HeadTaken}
 use Rattle.rw_kept_head.specs.inner.Noting.{AreNames, no_references, noted_from}
+use Rattle.rw_kept_head.proofs.OpeningLemmas.{refused_by_fault}
 use Rattle.rw_kept_head.proofs.NotingLemmas.{can_note_log, none_fresh, noted_log}
 use Rattle.rw_kept_head.proofs.head_reading.open_log.Goals as goal
 
@@ -92,3 +93,7 @@ pub returns-clause-ends : goal.returns-clause-ends
 returns-clause-ends g c =
     let added = c.in_ok-close_torn.ensures.segments in
     subst (λ (ss : Segments). EndsAt ss 0) (sym added) (c.an_empty_segment_ends_at_0.ensures _ (subst (AllBefore (IsWholeText page_size)) added c.in_ok-close_torn.ensures.whole))
+
+pub returns-in_err-close_torn-clause-refused : goal.returns-in_err-close_torn-clause-refused
+returns-in_err-close_torn-clause-refused g c =
+    refused_by_fault (g.J.Journal.seen c.args.journal.now) (g.J.Journal.seen c.close_torn.new.journal) c.from_residual-in_err-close_torn.result _ c.from_residual-in_err-close_torn.ensures.1

@@ -6,7 +6,7 @@ use Rattle.rw_kept_head.specs.inner.Restoring.{AddsTo, AddsOne}
 use Rattle.rw_kept_head.proofs.restoring.add_to.Goals as goal
 
 pub returns-clause-done : goal.returns-clause-done
-returns-clause-done c =
+returns-clause-done g c =
     let fits : FitsSigned w64 c.args.sample.0 = search rules in
     let was : c.args.known.now ≡ Some c.in-Some.found = search rules in
     subst (λ (o : Option TimeSeries). AddsTo c.args.head.now.head.limits c.args.head.now.head.store c.append_series.new.head.head.store o (Some c.set_sample.new.series) c.args.sample c.in_ok-done.done) (sym was)

@@ -11,7 +11,7 @@ use Rattle.rw_kept_head.proofs.RestoringLemmas.{one_judged}
 use Rattle.rw_kept_head.proofs.restoring.append_at.Goals as goal
 
 pub returns-in_default : goal.returns-in_default
-returns-in_default c =
+returns-in_default g c =
     let known : c.apply_at.result ≢ NoMemory = search rules in
     let fits : FitsSigned w64 c.args.sample.0 = search rules in
     let l = get_or c.args.head.now.places c.args.place [] in

@@ -7,7 +7,7 @@ use Rattle.rw_kept_head.proofs.RestoringLemmas.{one_judged}
 use Rattle.rw_kept_head.proofs.restoring.append_series.Goals as goal
 
 pub returns-in_default : goal.returns-in_default
-returns-in_default c =
+returns-in_default g c =
     let known : c.apply.result ≢ NoMemory = search rules in
     let store = c.apply.ensures.store known in
     record {

@@ -10,12 +10,12 @@ use Rattle.rw_kept_head.proofs.RestoringLemmas.{defined_next, sample_taken}
 use Rattle.rw_kept_head.proofs.restoring.take_entry.Goals as goal
 
 pub returns-in_ok-first-in-Def-clause-done : goal.returns-in_ok-first-in-Def-clause-done
-returns-in_ok-first-in-Def-clause-done c = λ taken restored.
+returns-in_ok-first-in-Def-clause-done g c = λ taken restored.
     subst (λ (e : Entry). IsRestored Utf8 (taken ++ e ∷ []) (λ n. get nat_eq c.define.new.series n) c.args.head.now.head.store) (sym c.in-Def.is)
     (defined_next Utf8 taken (λ n. get nat_eq c.args.series.now n) (λ n. get nat_eq c.define.new.series n) c.args.head.now.head.store _ _ c.in_ok-first-in-Def.ensures.defined restored)
 
 pub returns-in_ok-done-in-Sample-clause-done : goal.returns-in_ok-done-in-Sample-clause-done
-returns-in_ok-done-in-Sample-clause-done c =
+returns-in_ok-done-in-Sample-clause-done g c =
     let fits : FitsSigned w64 c.in-Sample.t = search rules in
     λ taken restored.
     subst (λ (e : Entry). IsRestoredOrRefused c.args.head.now.head.limits (taken ++ e ∷ []) (λ n. get nat_eq c.add_sample.new.series n) c.add_sample.new.head.head.store c.in_ok-done-in-Sample.done) (sym c.in-Sample.is)

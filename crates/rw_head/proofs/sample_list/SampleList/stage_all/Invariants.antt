@@ -4,6 +4,7 @@ use Rattle.rw_head.proofs.sample_list.SampleList.stage_all.Given as goal
 
 abbrev pub invariant-loop-sample : goal.invariant-loop-sample
 invariant-loop-sample l = record {
+  gone : l.self.gone ≡ l.initial.self.gone;
   kept : l.self.kept ≡ l.initial.self.kept;
   grown : length l.initial.self.staged ≤ length l.self.staged;
   few : length l.self.staged ≤ length l.initial.self.staged + l.sample-index;

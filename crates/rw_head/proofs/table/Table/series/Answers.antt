@@ -1,12 +1,15 @@
-use Rattle.std.proofs.Common.{◌≡◌, length, arith, subst, ap, ◌∙◌}
+use Rattle.std.proofs.Common.{◌≡◌, length, arith, subst, sym, ap, ◌∙◌}
 use Rattle.rw_head.specs.Lists.{with_samples}
 use Rattle.rw_head.specs.Store.{held_series, HasNoEmptyList}
 use Rattle.rw_head.proofs.PlaceLemmas.{are_within, are_lists, series-kept, kept_filled, length-with_samples}
+use Rattle.rw_head.specs.inner.Forgetting.{AreWhole}
 use Rattle.rw_head.proofs.table.Table.series.Goals as goal
 
 pub new-requires : goal.new-requires
-new-requires c =
-    rw (c.as_slice.ensures.value, c.iter.ensures.rest) (are_within c.self.inside.places.tree c.self.inside.lists.items c.self.invariant.0.places c.iter.ensures.found)
+new-requires c = record {
+  within = rw (c.as_slice.ensures.value, c.iter.ensures.rest) (are_within c.self.inside.places.tree c.self.inside.lists.items c.self.invariant.0.places c.iter.ensures.found);
+  whole = subst AreWhole (sym c.as_slice.ensures.value) (c.self.invariant.1.whole (ap (λ s. s.forgets) c.self.view_is ∙ c.requires));
+}
 
 shown : (c : goal.After-new) → c.new.result ≡ with_samples c.self.inside.lists.items c.self.inside.places.tree.entries
 shown c = c.new.ensures ∙ ap (λ ls. with_samples ls c.iter.result) c.as_slice.ensures.value ∙ ap (with_samples c.self.inside.lists.items) c.iter.ensures.rest

@@ -1,5 +1,4 @@
-use Rattle.std.proofs.Common.{◌≡◌, length, get_or, refl, ap, subst, sym, ◌∙◌, arith}
-use Rattle.std.proofs.lemmas.List.{length-set}
+use Rattle.std.proofs.Common.{◌≡◌, length, refl, ap, subst, sym, ◌∙◌, arith}
 use Rattle.std.specs.BTreeMap.{get}
 use Rattle.rw_types.specs.LabelOrder.{labels_cmp}
 use Rattle.rw_write_request.specs.Message.{TimeSeries}
@@ -8,11 +7,11 @@ use Rattle.rw_head.specs.Order.{points}
 use Rattle.rw_head.specs.Store.{list_of, with_list}
 use Rattle.rw_head.specs.inner.Growth.{HoldsNoneRefused}
 use Rattle.rw_head.specs.inner.Texts.{labels_of}
-use Rattle.rw_head.specs.Lists.{no_lists}
 use Rattle.rw_head.specs.inner.Lists.{settled_names}
 use Rattle.rw_head.proofs.PlaceLemmas.{none_refused, staged_few}
 use Rattle.rw_head.proofs.shared.StagingLemmas.{taken_by, judged_alone, staged-same}
 use Rattle.rw_head.proofs.TableLemmas.{held_at}
+use Rattle.rw_head.proofs.ForgettingLemmas.{listed_at}
 use Rattle.rw_head.proofs.table.Table.stage.Goals as goal
 
 pub returns-then-is_empty-clause-staged : goal.returns-then-is_empty-clause-staged
@@ -49,7 +48,7 @@ invariant_of-self-in-At c =
     let room = c.has_room.ensures.0 c.if-not-has_room.false in
     let h = held_at c.stage_held.result l (points c.args.samples.now) c.find.ensures.tree c.reserve.ensures.items c.self.invariant.0 (ap (λ s. s.staged) c.self.view_is) found c.stage_held.ensures.held c.stage_held.ensures.staged (omega (arith, few, room)) in
     let held = c.stage_held.ensures.held in
-    (h.sound, omega (arith, c.self.invariant.1, ap length c.find.ensures.names, ap length held.list, length-set c.self.inside.lists.items c.in-At.place (get_or c.stage_held.new.lists.items c.in-At.place no_lists)))
+    (h.sound, listed_at c.self.invariant.1 refl (ap length c.find.ensures.names) (c.self.invariant.0.places.within l c.in-At.place found) held)
 
 pub returns-in_ok-reserve-in-At : goal.returns-in_ok-reserve-in-At
 returns-in_ok-reserve-in-At c =
@@ -62,4 +61,5 @@ returns-in_ok-reserve-in-At c =
       kept = h.kept ∙ ap (λ s. s.kept) c.self.view_is;
       staged = taken_by c.stage_held.result c.args.bounds.now c.args.self.now.staged _ series series refl c.in_ok-found.ensures.taken h.gives;
       placed = ap (λ ns. settled_names ns c.self.inside.fresh.items) c.find.ensures.names ∙ ap (λ s. s.placed) c.self.view_is;
+      forgets = ap (λ s. s.forgets) c.self.view_is;
     }

@@ -1,14 +1,13 @@
-use Rattle.std.proofs.Common.{◌≡◌, true, length, get_or, Ok, List, refl, ap, subst, sym, ◌∙◌, arith, rules}
-use Rattle.std.proofs.lemmas.List.{length-set}
+use Rattle.std.proofs.Common.{◌≡◌, true, length, Ok, List, refl, ap, subst, sym, ◌∙◌, arith, rules}
 use Rattle.rw_write_request.specs.Message.{Sample, TimeSeries}
 use Rattle.rw_write_request.specs.Read.{read_series}
 use Rattle.rw_head.specs.Order.{points}
 use Rattle.rw_head.specs.inner.Growth.{HoldsNoneRefused}
-use Rattle.rw_head.specs.Lists.{no_lists}
 use Rattle.rw_head.proofs.shared.BodyLemmas.{all_read, known_gives}
 use Rattle.rw_head.proofs.PlaceLemmas.{none_refused, staged_few}
 use Rattle.rw_head.proofs.shared.StagingLemmas.{taken_by}
 use Rattle.rw_head.proofs.TableLemmas.{held_at}
+use Rattle.rw_head.proofs.ForgettingLemmas.{listed_at}
 use Rattle.rw_head.proofs.table.Table.stage_known.Goals as goal
 
 pub stage_held-requires-clause-room : goal.stage_held-requires-clause-room
@@ -32,7 +31,7 @@ invariant_of-self-2 c =
     let len = c.len.ensures in
     let h = held_at c.stage_held.result k.labels (points c.deref.result.now) c.known.ensures.tree c.reserve.ensures.items c.self.invariant.0 (ap (λ s. s.staged) c.self.view_is) k.stands c.stage_held.ensures.held c.stage_held.ensures.staged (omega (arith, few, room, many, len)) in
     let held = c.stage_held.ensures.held in
-    (h.sound, omega (arith, c.self.invariant.1, ap length c.known.ensures.names, ap length held.list, length-set c.self.inside.lists.items c.in-Some.place (get_or c.stage_held.new.lists.items c.in-Some.place no_lists)))
+    (h.sound, listed_at c.self.invariant.1 refl (ap length c.known.ensures.names) (c.self.invariant.0.places.within k.labels c.in-Some.place k.stands) held)
 
 pub returns : goal.returns
 returns c =
@@ -53,4 +52,5 @@ returns c =
       staged = λ limits none.
           let good = none_refused limits c.self.inside.places.tree c.self.inside.lists.items c.self.invariant.0.places c.self.invariant.0.filled (subst (HoldsNoneRefused limits) (ap (λ s. s.staged) (sym c.self.view_is)) none) l c.in-Some.place k.stands in
           rw c.was_known.ensures (known_gives c.stage_held.result limits s _ (read_series c.args.bytes.now) series read (taken_by c.stage_held.result limits s _ series series refl good h.gives));
+      forgets = ap (λ s. s.forgets) c.self.view_is;
     }

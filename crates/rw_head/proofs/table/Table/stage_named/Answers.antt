@@ -1,5 +1,5 @@
 use Rattle.std.proofs.Common.{◌≡◌, ℕ, ◌+◌, ◌∷◌, ◌++◌, [], length, get_or, Some, Ok, Err, refl, ap, subst, sym, ◌∙◌, arith}
-use Rattle.std.proofs.lemmas.List.{length-set, length_push}
+use Rattle.std.proofs.lemmas.List.{length_push}
 use Rattle.std.proofs.lemmas.Result.{err_from_is_err_and}
 use Rattle.std.specs.BTreeMap.{is_at, Updates}
 use Rattle.std.specs.Map.{lookup}
@@ -14,6 +14,7 @@ use Rattle.rw_head.proofs.PlaceLemmas.{IsSound-same, staged_few, staged_nowhere}
 use Rattle.rw_head.proofs.shared.StagingLemmas.{accepted_has}
 use Rattle.rw_head.proofs.PlacedLemmas.{settled-push}
 use Rattle.rw_head.proofs.TableLemmas.{Holds, held_at, held_in, is_some, length_points}
+use Rattle.rw_head.proofs.ForgettingLemmas.{listed_at, listed_in}
 use Rattle.rw_head.proofs.table.Table.stage_named.Goals.{After-drop-share-inside-in-Had-1, After-put-in-New-2}
 use Rattle.rw_head.proofs.table.Table.stage_named.Goals as goal
 
@@ -50,8 +51,9 @@ after_had c =
 pub invariant_of-self-in-Had-1 : goal.invariant_of-self-in-Had-1
 invariant_of-self-in-Had-1 c =
     let held = c.stage_held.ensures.held in
+    let had = subst (λ e. Enters e c.self.inside.places.tree c.enter.new.self.tree c.args.name (length c.self.inside.places.names.items) (points c.args.samples.now)) c.in-Had.is c.in_ok-place.ensures.ok in
     let names = subst (λ e. c.enter.new.self.names.items ≡ names_after e c.self.inside.places.names.items c.args.name) c.in-Had.is c.in_ok-place.ensures.names in
-    ((after_had c).sound, omega (arith, c.self.invariant.1, ap length names, ap length held.list, ap length c.reserve.ensures.items, length-set c.reserve.new.self.items c.in-Had.place (get_or c.stage_held.new.lists.items c.in-Had.place no_lists)))
+    ((after_had c).sound, listed_at c.self.invariant.1 c.reserve.ensures.items (ap length names) (c.self.invariant.0.places.within c.args.name c.in-Had.place had.0) held)
 
 pub returns-in-Had-clause-kept : goal.returns-in-Had-clause-kept
 returns-in-Had-clause-kept c =
@@ -69,7 +71,7 @@ after_new c =
     let few = staged.few in
     let len : c.len.result ≡ length c.self.inside.lists.items = omega (arith, c.len.ensures, ap length c.reserve.ensures.items) in
     let add : IsAdded c.self.inside.places.tree c.enter.new.self.tree c.self.inside.lists.items c.put-in-New.new.items.items c.self.inside.touched.items c.put.new.items.items c.self.inside.fresh.items c.put-in-New-2.new.items.items c.args.name c.in-New.list = record {
-      place = subst (λ n. Updates labels_cmp c.self.inside.places.tree c.enter.new.self.tree c.args.name (Some n)) c.self.invariant.1 new.1.0;
+      place = subst (λ n. Updates labels_cmp c.self.inside.places.tree c.enter.new.self.tree c.args.name (Some n)) c.self.invariant.1.same new.1.0;
       list = c.put-in-New.ensures ∙ ap (λ ls. ls ++ c.in-New.list ∷ []) c.reserve.ensures.items;
       note = c.put.ensures ∙ ap (λ ts. ts ++ c.len.result ∷ []) c.reserve-2.ensures.items ∙ ap (λ n. c.self.inside.touched.items ++ n ∷ []) len;
       name = c.put-in-New-2.ensures ∙ ap (λ ns. ns ++ c.in_ok-share.share ∷ []) c.reserve-3.ensures.items ∙ ap (λ n. c.self.inside.fresh.items ++ n ∷ []) c.in_ok-share.ensures;
@@ -80,9 +82,12 @@ after_new c =
 
 pub invariant_of-self-in-New : goal.invariant_of-self-in-New
 invariant_of-self-in-New c =
+    let new = subst (λ e. Enters e c.self.inside.places.tree c.enter.new.self.tree c.args.name (length c.self.inside.places.names.items) (points c.args.samples.now)) c.in-New.is c.in_ok-place.ensures.ok in
+    let staged = new.1.1 in
     let names = subst (λ e. c.enter.new.self.names.items ≡ names_after e c.self.inside.places.names.items c.args.name) c.in-New.is c.in_ok-place.ensures.names in (
       subst (λ (m : ℕ). IsSound c.enter.new.self.tree c.put-in-New.new.items.items c.put.new.items.items c.put-in-New-2.new.items.items c.self.inside.count m) (ap (λ n. c.self.inside.staged_count + n) (sym c.staged_len.ensures)) (after_new c).sound,
-      omega (arith, c.self.invariant.1, ap length names, length_push c.self.inside.places.names.items c.args.name, ap length c.put-in-New.ensures, length_push c.reserve.new.self.items c.in-New.list, ap length c.reserve.ensures.items),
+      listed_in c.in-New.list c.self.invariant.1 (c.put-in-New.ensures ∙ ap (λ ls. ls ++ c.in-New.list ∷ []) c.reserve.ensures.items)
+          (omega (arith, ap length names, length_push c.self.inside.places.names.items c.args.name)) staged.gone,
     )
 
 pub returns-in-New-clause-kept : goal.returns-in-New-clause-kept

@@ -1,7 +1,13 @@
 use Rattle.std.proofs.Common.{◌≡◌, IfOk, sym, subst, ap, ◌∙◌}
 use Rattle.rw_head.specs.Store.{list_of}
 use Rattle.rw_head.proofs.PlaceLemmas.{kept_at, kept_nowhere}
+use Rattle.rw_head.proofs.ForgettingLemmas.{whole_here}
 use Rattle.rw_head.proofs.table.Table.to_vec.Goals as goal
+
+pub to_vec-requires : goal.to_vec-requires
+to_vec-requires c =
+    whole_here c.self.inside.lists.items c.in-Some.place c.index.result.now (c.self.invariant.1.whole (ap (λ s. s.forgets) c.self.view_is ∙ c.requires))
+    (c.self.invariant.0.places.within c.args.labels.now c.in-Some.place (sym (sym c.in-Some.is ∙ c.in_ok-place.ensures))) c.index.ensures
 
 pub returns-in-Some : goal.returns-in-Some
 returns-in-Some c =

@@ -10,7 +10,7 @@ use Rattle.rw_kept_head.proofs.RestoringLemmas.{nothing_yet, holds_nothing}
 use Rattle.rw_kept_head.proofs.restoring.Restoring.new.Goals as goal
 
 pub invariant_of-result : goal.invariant_of-result
-invariant_of-result c = λ _. (
+invariant_of-result g c = λ _. (
   record {
     restored = λ _.
         nothing_yet Utf8 c.new.result _ c.new-2.result.head.store c.new.ensures (λ r. ap (λ es. lookup (nat_eq r) es) c.new-3.ensures.empty) (λ l. ap (λ (s : Store). list_of s l) c.new-2.ensures.store ∙ list_of-empty l);

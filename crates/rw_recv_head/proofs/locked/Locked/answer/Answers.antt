@@ -1,6 +1,5 @@
 use Rattle.std.proofs.Common.{◌≡◌, ◌≢◌, List, refl, sym, ap, subst, ◌∙◌, arith}
 use Rattle.rw_head.specs.declared.capacity.Capacity.{Capacity}
-use Rattle.rw_head.specs.Head.{State}
 use Rattle.rw_head.specs.Store.{total}
 use Rattle.rw_head.specs.Capacity.{status_of_admission, unlimited, StaysWithin}
 use Rattle.rw_recv_head.proofs.CapacityLemmas.{stays_twice}
@@ -13,11 +12,11 @@ use Rattle.rw_recv_head.proofs.locked.Locked.answer.Goals as goal
 
 -- how many samples were held before
 held : (g : Over) (c : goal.After-take g) → c.total-before.result ≡ total (g.H.Admit.state c.self.inside.holder).store
-held g c = c.total-before.ensures.total ∙ ap (λ (h : State). total h.store) c.head-old.ensures
+held g c = c.total-before.ensures.total
 
 -- and how many are held after
-holds : (g : Over) (c : goal.After-take g) → c.total.result ≡ total (g.H.Admit.state c.admit-admission.new.self).store
-holds g c = c.total.ensures.total ∙ ap (λ (h : State). total h.store) c.head-new.ensures
+holds : (g : Over) (c : goal.After-take g) → c.total-after.result ≡ total (g.H.Admit.state c.admit-admission.new.self).store
+holds g c = c.total-after.ensures.total
 
 gives : (g : Over) (c : goal.After-take g) → Gives (g.H.Admit.state c.self.inside.holder) (g.H.Admit.state c.admit-admission.new.self) c.args.body.now (status_of_admission c.admit-admission.result)
 gives g c = record {
