@@ -21,8 +21,8 @@ impl FolderMonitor {
         FolderMonitor { counters: None }
     }
 
-    /// Returns a monitor that counts the segments that are read at the start, the bytes that are
-    /// written, the syncs, the segments that are begun, and the failed calls.
+    /// Returns a monitor that counts the segments that are read at the start and their bytes, the
+    /// bytes that are written, the syncs, the segments that are begun, and the failed calls.
     pub fn new(counters: Arc<ReceiveCounters, Global>) -> FolderMonitor {
         FolderMonitor {
             counters: Some(counters),
@@ -36,10 +36,10 @@ impl FolderMonitor {
         }
     }
 
-    /// Counts one of them that was read.
-    pub(crate) fn count_read(&self) {
+    /// Counts one of them that was read, of this many bytes.
+    pub(crate) fn count_read(&self, bytes: usize) {
         if let Some(counters) = &self.counters {
-            counters.read_log_segment();
+            counters.read_log_segment(bytes as u64);
         }
     }
 

@@ -113,7 +113,7 @@ fn load_all<R: Files + AllocGlobal + Copy, T: SegmentTaker>(
             Ok(text) => {
                 noted.note(&FileCall::Load(History::of(&text)));
                 taker.take(&text)?;
-                monitor.count_read();
+                monitor.count_read(text.len());
                 *last = Some(text);
             }
             Err(error) => return Err(error_of(FolderCall::Read, name.number, &error)),

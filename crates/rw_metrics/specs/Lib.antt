@@ -2,7 +2,9 @@ pub mod Rows
 pub mod Exposition
 pub mod SendCounts
 pub mod SendPage
+pub mod ReceiveCounts
 pub mod ReceivePage
+pub mod ProcessPage
 pub mod Html
 pub mod SendHtml
 pub mod ReceiveHtml

@@ -1,12 +1,14 @@
 -- The page of a receiver for people: the tables of the code, with their numbers.
-use Rattle.std.specs.Prelude.{ℕ, List, [], ◌∷◌, ◌++◌, ◌/◌, Option, None, Some, codes}
+use Rattle.std.specs.Prelude.{ℕ, List, [], ◌∷◌, ◌++◌, ◌/◌, if◌then◌else◌, Option, None, Some, codes}
 use Rattle.rw_metrics.specs.Html.{page_start, page_end, table_text}
+use Rattle.rw_metrics.specs.ReceiveCounts.{is_skipping}
 use Rattle.rw_metrics.specs.Rows.{table}
 use Rattle.rw_metrics.specs.declared.receive_numbers.KeptNumbers.{KeptNumbers}
 use Rattle.rw_metrics.specs.declared.receive_numbers.MemoryNumbers.{MemoryNumbers}
 use Rattle.rw_metrics.specs.declared.receive_numbers.ReceiveNumbers.{ReceiveNumbers}
-use Rattle.rw_metrics.specs.declared.receiver_html.TheConstants.{HELD, MEMORY, CONNECTIONS, ANSWERS, LOG}
+use Rattle.rw_metrics.specs.declared.receiver_html.TheConstants.{HELD, MEMORY, CONNECTIONS, ANSWERS, SKIPPED, LOG}
 use Rattle.rw_metrics.specs.declared.rows.Shown.TheVariants as shown
+use Rattle.rw_metrics.specs.declared.skipped_parts.SkippedParts.{SkippedParts}
 
 -- what is held, and how much may be
 abbrev pub held_table : ReceiveNumbers → List ℕ
@@ -30,9 +32,17 @@ connections_table n =
     table_text (table CONNECTIONS)
     (shown.Count n.connections ∷ shown.Count n.accepted ∷ shown.Count n.refused ∷ []) []
 
--- the requests with a body that the head was asked for, by status
+-- the requests that were answered, by status
 abbrev pub answers_table : ReceiveNumbers → List ℕ
 answers_table n = table_text (table ANSWERS) [] n.statuses.items
+
+-- what acknowledged requests had that is not held, if there is any of it
+unfoldable pub skipped_table : SkippedParts → List ℕ
+skipped_table s =
+    if is_skipping s
+    then table_text (table SKIPPED)
+    (shown.IfAny s.histograms ∷ shown.IfAny s.exemplars ∷ shown.IfAny s.metadata ∷ []) []
+    else []
 
 -- what was written to the log of a folder
 unfoldable pub log_table : KeptNumbers → List ℕ
@@ -53,5 +63,6 @@ receive_html n =
     ++ recent_table n.memory
     ++ connections_table n
     ++ answers_table n
+    ++ skipped_table n.skipped
     ++ kept_table n.kept
     ++ page_end

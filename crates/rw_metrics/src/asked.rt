@@ -1,7 +1,7 @@
 //! What a request asks for.
 
-ghost use Rattle.std.specs.Prelude.{◌≡◌};
-ghost use Rattle.rw_metrics.specs.inner.Asking.{AsksForHtml, AsksForPage};
+ghost use Rattle.std.specs.Prelude.{◌≡◌, codes};
+ghost use Rattle.rw_metrics.specs.inner.Asking.{Asks, AsksForHtml, AsksForPage};
 ghost use Rattle.rw_metrics.specs.declared.asked.Asked.TheVariants as Asked;
 
 use httparse::Status;
@@ -17,6 +17,10 @@ pub(crate) enum Asked {
     Page,
     /// The page for people.
     Html,
+    /// Whether the program runs.
+    Healthy,
+    /// Whether the program does what it is for.
+    Ready,
     /// Another path.
     Elsewhere,
     /// A page, by a method other than GET.
@@ -31,27 +35,26 @@ pub(crate) enum Asked {
 pub(crate) fn wanted(buf: &[u8]) -> Asked
     ensures page { result ≡ Asked.Page → AsksForPage buf.now }
     ensures html { result ≡ Asked.Html → AsksForHtml buf.now }
+    ensures healthy { result ≡ Asked.Healthy → Asks buf.now (codes "GET") (codes "/-/healthy") }
+    ensures ready { result ≡ Asked.Ready → Asks buf.now (codes "GET") (codes "/-/ready") }
 {
     let mut headers = [EMPTY_HEADER_SPAN; MOST_HEADERS];
     match parse_request(buf, &mut headers) {
         Ok(Status::Complete(head)) => {
             let path = head.path.of(buf);
             let is_get = head.method.of(buf) == b"GET".as_slice();
-            if path == b"/metrics".as_slice() {
-                if is_get {
-                    Asked::Page
-                } else {
-                    Asked::Otherwise
-                }
+            let asked = if path == b"/metrics".as_slice() {
+                Asked::Page
             } else if path == b"/".as_slice() {
-                if is_get {
-                    Asked::Html
-                } else {
-                    Asked::Otherwise
-                }
+                Asked::Html
+            } else if path == b"/-/healthy".as_slice() {
+                Asked::Healthy
+            } else if path == b"/-/ready".as_slice() {
+                Asked::Ready
             } else {
-                Asked::Elsewhere
-            }
+                return Asked::Elsewhere;
+            };
+            if is_get { asked } else { Asked::Otherwise }
         }
         Ok(Status::Partial) => Asked::More,
         Err(_) => Asked::Bad,

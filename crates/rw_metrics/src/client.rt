@@ -1,11 +1,12 @@
 //! A client of the pages.
 
 use crate::asked::{Asked, wanted};
-use crate::counters::Counters;
+use crate::page_source::PageSource;
 use crate::reply::write_reply;
 use rw_socket::{Deadline, Timely};
 use rw_types::Std;
-use std::alloc::Global;
+use std::alloc::{AllocGlobal, Global};
+use std::fs::Files;
 use std::io::{self, ErrorKind, Read};
 use std::net::{Shutdown, TcpStream};
 use std::time::{Clock, Duration};
@@ -33,7 +34,7 @@ fn is_passing(error: &io::Error) -> bool {
     )
 }
 
-impl<C: Clock + Copy> Client<C> {
+impl<C: Clock + Files + AllocGlobal + Copy> Client<C> {
     /// Returns a client from which nothing has been read, or `None` if its connection has failed.
     pub(crate) fn new(clock: C, alloc: Global, stream: TcpStream) -> Option<Client<C>> {
         if stream.set_nonblocking(true).is_err() {
@@ -72,23 +73,23 @@ impl<C: Clock + Copy> Client<C> {
     }
 
     /// Writes the reply, before the deadline.
-    fn answer(&self, alloc: Global, asked: Asked, counters: &Counters) {
+    fn answer(&self, alloc: Global, asked: Asked, source: &PageSource<C>) {
         if self.stream.set_nonblocking(false).is_ok() {
             let mut writer = Std::new(Timely::new(&self.stream, self.deadline));
-            write_reply(alloc, &mut writer, asked, counters);
+            write_reply(alloc, &mut writer, asked, source);
             let _ = self.stream.shutdown(Shutdown::Write);
         }
     }
 
     /// Reads what has come, and replies once it is a request. Returns the client while more of its
     /// request is to be waited for, at most up to its deadline.
-    pub(crate) fn serve(self, alloc: Global, counters: &Counters) -> Option<Client<C>> {
+    pub(crate) fn serve(self, alloc: Global, source: &PageSource<C>) -> Option<Client<C>> {
         let mut client = self;
         let Some(asked) = client.read() else {
             return None;
         };
         if asked != Asked::More {
-            client.answer(alloc, asked, counters);
+            client.answer(alloc, asked, source);
             return None;
         }
         if client.deadline.left().is_some() {

@@ -26,6 +26,15 @@ impl Counters {
         })
     }
 
+    /// Returns whether a receiver takes requests, or would: it does not while the log of its folder
+    /// is read.
+    pub(crate) fn is_ready(&self) -> bool {
+        match self {
+            Counters::Send(_) => true,
+            Counters::Receive(counters) => counters.is_ready(),
+        }
+    }
+
     /// Returns their page.
     pub(crate) fn page(&self, alloc: Global) -> Result<Vec<u8>, AllocError> {
         match self {

@@ -14,6 +14,9 @@ pub(crate) struct KeptCounters {
     pub(crate) failed: AtomicU64,
     pub(crate) found: AtomicU64,
     pub(crate) read: AtomicU64,
+    pub(crate) opening_bytes: AtomicU64,
+    /// 1 once all of it was read, and requests are answered.
+    pub(crate) is_open: AtomicU64,
 }
 
 impl KeptCounters {
@@ -26,6 +29,7 @@ impl KeptCounters {
             failed: read(&self.failed),
             found: read(&self.found),
             read: read(&self.read),
+            opening_bytes: read(&self.opening_bytes),
         }
     }
 }

@@ -1,10 +1,13 @@
 //! Counters of a receiver.
 
 use crate::atomics::{add, read, set};
+use crate::body_contents::contents_of;
 use crate::codes::Codes;
 use crate::kept_counters::KeptCounters;
 use crate::memory_counters::MemoryCounters;
 use crate::receive_numbers::ReceiveNumbers;
+use crate::refusals::{Refusal, RefusalCounters, RefusalReason};
+use crate::skipped_parts::SkippedPartCounters;
 use std::alloc::{AllocError, Global};
 use std::sync::atomic::{AtomicU64, Ordering};
 
@@ -16,6 +19,8 @@ pub struct ReceiveCounters {
     ended: AtomicU64,
     refused: AtomicU64,
     statuses: Codes,
+    refusals: RefusalCounters,
+    skipped: SkippedPartCounters,
     samples: AtomicU64,
     label_sets: AtomicU64,
     max_samples: AtomicU64,
@@ -53,6 +58,8 @@ impl ReceiveCounters {
             ended: AtomicU64::new(0),
             refused: AtomicU64::new(0),
             statuses,
+            refusals: RefusalCounters::new(),
+            skipped: SkippedPartCounters::default(),
             samples: AtomicU64::new(0),
             label_sets: AtomicU64::new(0),
             max_samples: AtomicU64::new(0),
@@ -83,6 +90,43 @@ impl ReceiveCounters {
         add(&self.samples, stored);
     }
 
+    /// Counts what a body that was acknowledged has and that is not held: native histograms,
+    /// exemplars and metadata.
+    pub fn skip_parts(&self, body: &[u8]) {
+        self.skipped.count(&contents_of(body));
+    }
+
+    /// Counts the samples of a body that was refused, by the reason if that is known, and returns
+    /// how many it has.
+    pub fn refuse_body(&self, reason: Option<RefusalReason>, body: &[u8]) -> u64 {
+        let samples = contents_of(body).samples;
+        if let Some(reason) = reason {
+            self.refusals.count(reason, samples);
+        }
+        samples
+    }
+
+    /// Counts a request that was answered without asking the head.
+    pub fn answer_unasked(&self, status: u16) {
+        self.statuses.count(status);
+    }
+
+    /// Returns whether an example of a refused request is wanted: there is none since the last call
+    /// of `take_refusal`.
+    pub fn wants_refusal(&self) -> bool {
+        self.refusals.lacks_example()
+    }
+
+    /// Takes an example of a refused request.
+    pub fn set_refusal(&self, refusal: Refusal) {
+        self.refusals.set_example(refusal);
+    }
+
+    /// Returns the example of a refused request, if there is one, and has none from then on.
+    pub fn take_refusal(&self) -> Option<Refusal> {
+        self.refusals.take_example()
+    }
+
     /// Sets of how many label sets the head holds samples. The number never becomes smaller.
     pub fn hold_label_sets(&self, count: usize) {
         self.label_sets.fetch_max(count as u64, Ordering::Relaxed);
@@ -93,6 +137,18 @@ impl ReceiveCounters {
     pub fn begin_with(&self, samples: u64, label_sets: usize) {
         add(&self.samples, samples);
         self.hold_label_sets(label_sets);
+        if let Some(kept) = &self.kept {
+            set(&kept.is_open, 1);
+        }
+    }
+
+    /// Returns whether requests are answered: they are not before `begin_with`, if the receiver
+    /// keeps a log.
+    pub(crate) fn is_ready(&self) -> bool {
+        match &self.kept {
+            Some(kept) => read(&kept.is_open) > 0,
+            None => true,
+        }
     }
 
     /// Takes how many samples may be held, and of how many label sets; 0 if there is no limit.
@@ -147,10 +203,11 @@ impl ReceiveCounters {
         }
     }
 
-    /// Counts one of them that was read.
-    pub fn read_log_segment(&self) {
+    /// Counts one of them that was read, of this many bytes.
+    pub fn read_log_segment(&self, bytes: u64) {
         if let Some(kept) = &self.kept {
             add(&kept.read, 1);
+            add(&kept.opening_bytes, bytes);
         }
     }
 
@@ -164,6 +221,8 @@ impl ReceiveCounters {
             accepted,
             refused: read(&self.refused),
             statuses,
+            refused_samples: self.refusals.samples(),
+            skipped: self.skipped.read(),
             samples: read(&self.samples),
             label_sets: read(&self.label_sets),
             max_samples: read(&self.max_samples),

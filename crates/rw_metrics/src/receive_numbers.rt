@@ -1,5 +1,8 @@
 //! Numbers of a receiver.
 
+use crate::refusals::RefusedSamples;
+use crate::skipped_parts::SkippedParts;
+
 /// How much a receiver has written to the log of a folder.
 #[derive(Clone, Copy, Debug, PartialEq, Eq)]
 pub struct KeptNumbers {
@@ -17,6 +20,8 @@ pub struct KeptNumbers {
     pub found: u64,
     /// How many of them were read. Nothing is answered before that is all.
     pub read: u64,
+    /// How many bytes these have.
+    pub opening_bytes: u64,
 }
 
 /// How much a receiver has in memory that keeps only the latest samples there.
@@ -37,8 +42,12 @@ pub struct ReceiveNumbers {
     pub accepted: u64,
     /// Accepts that failed.
     pub refused: u64,
-    /// What the head has answered: the statuses in ascending order, each with how often it came.
+    /// What was answered: the statuses in ascending order, each with how often it came.
     pub statuses: Vec<(u16, u64)>,
+    /// How many samples the refused requests had, by reason.
+    pub refused_samples: RefusedSamples,
+    /// How much acknowledged requests had that is not held, by kind.
+    pub skipped: SkippedParts,
     /// Samples that are held.
     pub samples: u64,
     /// Label sets of which samples are held.

@@ -1,11 +1,12 @@
 //! The page of a receiver for people.
 
 ghost use Rattle.std.specs.Prelude.{◌≡◌, ◌++◌, IfOk, OnOk};
-ghost use Rattle.rw_metrics.specs.ReceiveHtml.{connections_table, held_table, kept_table, log_table, memory_table, receive_html, recent_table};
+ghost use Rattle.rw_metrics.specs.ReceiveHtml.{connections_table, held_table, kept_table, log_table, memory_table, receive_html, recent_table, skipped_table};
 
 use crate::html::{push_page_end, push_page_start, push_table};
 use crate::receive_numbers::{KeptNumbers, MemoryNumbers, ReceiveNumbers};
 use crate::rows::{Shown, Table};
+use crate::skipped_parts::SkippedParts;
 use std::alloc::{AllocError, Global};
 
 const HELD: Table = (
@@ -26,7 +27,13 @@ const CONNECTIONS: Table = (
     "",
 );
 
-const ANSWERS: Table = ("Bodies answered", &[], "With status ");
+const ANSWERS: Table = ("Requests answered", &[], "With status ");
+
+const SKIPPED: Table = (
+    "Acknowledged, but not held",
+    &["Native histograms", "Exemplars", "Metadata"],
+    "",
+);
 
 const LOG: Table = (
     "Log",
@@ -87,6 +94,22 @@ fn push_connections(out: &mut Vec<u8>, n: &ReceiveNumbers) -> Result<(), AllocEr
     push_table(out, &CONNECTIONS, &numbers, &[])
 }
 
+/// Adds what acknowledged requests had that is not held, if there is any of it.
+#[tactic(auto, unfolding(crate::specs::ReceiveHtml::skipped_table))]
+fn push_skipped(out: &mut Vec<u8>, s: &SkippedParts) -> Result<(), AllocError>
+    ensures { OnOk result (out.new.items ≡ out.old.items ++ skipped_table s.now) }
+{
+    if !s.is_some() {
+        return Ok(());
+    }
+    let numbers = [
+        Shown::IfAny(s.histograms),
+        Shown::IfAny(s.exemplars),
+        Shown::IfAny(s.metadata),
+    ];
+    push_table(out, &SKIPPED, &numbers, &[])
+}
+
 /// Adds what was written to the log of a folder.
 #[tactic(auto, unfolding(crate::specs::ReceiveHtml::log_table))]
 fn push_log(out: &mut Vec<u8>, n: &KeptNumbers) -> Result<(), AllocError>
@@ -125,6 +148,7 @@ pub fn receive_html(alloc: Global, numbers: &ReceiveNumbers) -> Result<Vec<u8>, 
     push_recent(&mut out, &numbers.memory)?;
     push_connections(&mut out, numbers)?;
     push_table(&mut out, &ANSWERS, &[], numbers.statuses.as_slice())?;
+    push_skipped(&mut out, &numbers.skipped)?;
     push_kept(&mut out, &numbers.kept)?;
     push_page_end(&mut out)?;
     Ok(out)

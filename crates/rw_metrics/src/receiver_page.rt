@@ -1,11 +1,13 @@
 //! The page of a receiver.
 
 ghost use Rattle.std.specs.Prelude.{◌≡◌, ◌++◌, IfOk, OnOk};
-ghost use Rattle.rw_metrics.specs.ReceivePage.{connections_page, held_page, kept_page, log_page, memory_page, receive_page, recent_page, requests_page};
+ghost use Rattle.rw_metrics.specs.ReceivePage.{connections_page, held_page, kept_page, log_page, memory_page, receive_page, recent_page, refused_page, requests_page, skipped_page};
 
 use crate::exposition::{Family, Metric, metrics, push_family, push_metrics};
 use crate::receive_numbers::{KeptNumbers, MemoryNumbers, ReceiveNumbers};
+use crate::refusals::{REFUSALS, RefusedSamples};
 use crate::rows::Shown;
+use crate::skipped_parts::{KINDS, SkippedParts};
 use std::alloc::{AllocError, Global};
 
 /// The connections.
@@ -18,8 +20,24 @@ const CONNECTIONS: [Metric; 3] = metrics! {
 /// The requests, by status.
 const REQUESTS: Family = (
     "rwship_receive_requests_total",
-    "Requests that the head has answered, by status.",
+    "Requests that were answered, by status.",
     "{code=\"",
+    "",
+);
+
+/// The samples of refused requests, by reason.
+const REFUSED: Family = (
+    "rwship_receive_refused_samples_total",
+    "Samples of requests that were refused, by reason.",
+    "{reason=\"",
+    "",
+);
+
+/// What acknowledged requests had that is not held, by kind.
+const SKIPPED: Family = (
+    "rwship_receive_skipped_total",
+    "Parts of acknowledged requests that are not held, by kind.",
+    "{kind=\"",
     "",
 );
 
@@ -39,10 +57,11 @@ const MEMORY: [Metric; 2] = metrics! {
 };
 
 /// How far the log of a folder was read at the start, and what was written to it.
-const LOG: [Metric; 7] = metrics! {
+const LOG: [Metric; 8] = metrics! {
     "rwship_receive_log_segments_found" "gauge" "Segments of the log that were there at the start."
     "rwship_receive_log_segments_read" "gauge"
         "How many of them were read. Nothing is answered before that is all."
+    "rwship_receive_opening_bytes" "gauge" "Bytes of the segments that were read at the start."
     "rwship_receive_log_bytes_written_total" "counter" "Bytes that were written to the log."
     "rwship_receive_log_syncs_total" "counter" "Syncs of the log to the disk."
     "rwship_receive_log_sync_seconds_total" "counter" "Seconds that syncs of the log took."
@@ -71,6 +90,20 @@ fn push_requests(out: &mut Vec<u8>, n: &ReceiveNumbers) -> Result<(), AllocError
     ensures { OnOk result (out.new.items ≡ out.old.items ++ requests_page n.now) }
 {
     push_family(out, &REQUESTS, &[], &[], n.statuses.as_slice())
+}
+
+/// Adds the samples of refused requests, by reason.
+fn push_refused(out: &mut Vec<u8>, r: &RefusedSamples) -> Result<(), AllocError>
+    ensures { OnOk result (out.new.items ≡ out.old.items ++ refused_page r.now) }
+{
+    push_family(out, &REFUSED, &REFUSALS, &r.by_reason(), &[])
+}
+
+/// Adds what acknowledged requests had that is not held, by kind.
+fn push_skipped(out: &mut Vec<u8>, s: &SkippedParts) -> Result<(), AllocError>
+    ensures { OnOk result (out.new.items ≡ out.old.items ++ skipped_page s.now) }
+{
+    push_family(out, &SKIPPED, &KINDS, &s.by_kind(), &[])
 }
 
 /// Adds what is held.
@@ -123,6 +156,7 @@ fn push_log(out: &mut Vec<u8>, n: &KeptNumbers) -> Result<(), AllocError>
         &[
             Shown::Count(n.found),
             Shown::Count(n.read),
+            Shown::Count(n.opening_bytes),
             Shown::Count(n.bytes),
             Shown::Count(n.syncs),
             Shown::Micros(n.sync_micros),
@@ -150,6 +184,8 @@ pub fn receive_page(alloc: Global, numbers: &ReceiveNumbers) -> Result<Vec<u8>, 
     let mut out = Vec::new(alloc);
     push_connections(&mut out, numbers)?;
     push_requests(&mut out, numbers)?;
+    push_refused(&mut out, &numbers.refused_samples)?;
+    push_skipped(&mut out, &numbers.skipped)?;
     push_held(&mut out, numbers)?;
     push_recent(&mut out, &numbers.memory)?;
     push_kept(&mut out, &numbers.kept)?;

@@ -5,12 +5,13 @@ ghost use Rattle.std.specs.VecDeque.{deque_len};
 
 use crate::client::Client;
 use crate::counters::Counters;
+use crate::page_source::PageSource;
 use rw_socket::{accept, limit_accepts};
-use std::alloc::{AllocError, Global};
+use std::alloc::{AllocGlobal, Global};
 use std::collections::VecDeque;
+use std::fs::Files;
 use std::net::TcpListener;
 use std::thread;
-use std::thread::Threads;
 use std::time::{Clock, Duration};
 
 /// How many clients may wait at once. The oldest of them is closed if one more comes.
@@ -36,10 +37,10 @@ fn admit<C: Clock + Copy>(clients: &mut VecDeque<Client<C>>, client: Client<C>)
 }
 
 /// Looks at each client that waits, and keeps those that are not done.
-fn serve_each<C: Clock + Copy>(
+fn serve_each<C: Clock + Files + AllocGlobal + Copy>(
     alloc: Global,
     clients: &mut VecDeque<Client<C>>,
-    counters: &Counters,
+    source: &PageSource<C>,
 )
     requires few { deque_len clients.old ≤ 16 }
     ensures few { deque_len clients.new ≤ 16 }
@@ -48,61 +49,54 @@ fn serve_each<C: Clock + Copy>(
         let Some(client) = clients.pop_front() else {
             break;
         };
-        if let Some(client) = client.serve(alloc, counters) {
+        if let Some(client) = client.serve(alloc, source) {
             admit(clients, client);
         }
     }
 }
 
 /// Accepts a client, if one comes within a tick, and looks at all that wait.
-fn serve_round<C: Clock + Copy>(
-    clock: C,
+fn serve_round<C: Clock + Files + AllocGlobal + Copy>(
     alloc: Global,
     listener: &TcpListener,
     clients: &mut VecDeque<Client<C>>,
-    counters: &Counters,
+    source: &PageSource<C>,
 )
     requires few { deque_len clients.old ≤ 16 }
     ensures few { deque_len clients.new ≤ 16 }
 {
     match accept(listener) {
         Ok(Some(stream)) => {
-            if let Some(client) = Client::new(clock, alloc, stream) {
+            if let Some(client) = Client::new(source.rt, alloc, stream) {
                 admit(clients, client);
             }
         }
         Ok(None) => {}
-        Err(_) => thread::sleep(&clock, Duration::from_millis(NAP_MS)),
+        Err(_) => thread::sleep(&source.rt, Duration::from_millis(NAP_MS)),
     }
-    serve_each(alloc, clients, counters);
+    serve_each(alloc, clients, source);
 }
 
-/// Serves clients until the process ends. None of them waits for another. If the listener cannot be
-/// given a timeout, those that wait are looked at when the next one comes.
-fn serve<C: Clock + Copy>(clock: C, alloc: Global, listener: &TcpListener, counters: &Counters) {
+/// Answers `GET /metrics` with the page of the counters for Prometheus, `GET /` with their page for
+/// people, `GET /-/healthy` and `GET /-/ready`, until the process ends. A client has 2 seconds in
+/// all, and none of them waits for another. After an accept that fails the thread sleeps for a
+/// moment and accepts again. If the listener cannot be given a timeout, those that wait are looked
+/// at when the next one comes.
+pub fn serve_metrics<C: Clock + Files + AllocGlobal + Copy>(
+    host: C,
+    alloc: Global,
+    listener: &TcpListener,
+    counters: Counters,
+    version: String,
+) {
+    let source = PageSource {
+        rt: host,
+        counters,
+        version,
+    };
     let _ = limit_accepts(listener, Duration::from_millis(TICK_MS));
     let mut clients = VecDeque::new(alloc);
     for _ in 0..u64::MAX {
-        serve_round(clock, alloc, listener, &mut clients, counters);
-    }
-}
-
-/// Answers `GET /metrics` with the page of the counters for Prometheus, and `GET /` with their page
-/// for people, in a thread that is never joined: it ends with the process. A client has 2 seconds
-/// in all, and no other one waits for it. After an accept that fails the thread sleeps for a moment
-/// and accepts again.
-pub fn serve_metrics<R: Threads, C: Clock + Copy + Send + 'static>(
-    rt: &R,
-    clock: C,
-    alloc: Global,
-    listener: TcpListener,
-    counters: Counters,
-) -> Result<(), AllocError> {
-    match thread::spawn(rt, move || serve(clock, alloc, &listener, &counters)) {
-        Ok(server) => {
-            drop(server);
-            Ok(())
-        }
-        Err(_) => Err(AllocError),
+        serve_round(alloc, listener, &mut clients, &source);
     }
 }

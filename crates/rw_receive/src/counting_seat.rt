@@ -1,7 +1,9 @@
 //! A seat that answers bodies, and counts.
 
+use crate::refusal_reason::reason_of;
+use crate::request_trace::RequestTrace;
+use crate::server_context::ServerContext;
 use rw_endpoint::Answer;
-use rw_metrics::ReceiveCounters;
 use rw_recv_head::{Admit, Holding, Seat, SharedHead};
 use std::sync::Wait;
 
@@ -13,7 +15,8 @@ pub(crate) struct CountingSeat<'a, R, L: Holding<H>, H: Admit> {
     pub(crate) shared: &'a SharedHead<L, H>,
     /// A seat of that shared head.
     pub(crate) seat: &'a mut Seat<L>,
-    pub(crate) counters: &'a ReceiveCounters,
+    pub(crate) context: &'a ServerContext<'a>,
+    pub(crate) trace: &'a RequestTrace<'a>,
 }
 
 impl<R: Wait, L: Holding<H>, H: Admit> Answer for CountingSeat<'_, R, L, H> {
@@ -27,8 +30,15 @@ impl<R: Wait, L: Holding<H>, H: Admit> Answer for CountingSeat<'_, R, L, H> {
         let before = self.seat.stored();
         let asked = self.seat.ask(self.rt, self.shared, body);
         let stored = self.seat.stored().saturating_sub(before);
-        self.counters.answer(asked.status, stored);
-        self.counters.hold_label_sets(asked.label_sets);
+        let counters = self.context.counters;
+        counters.answer(asked.status, stored);
+        counters.hold_label_sets(asked.label_sets);
+        if asked.status == 204 {
+            self.trace.note_acknowledged(body);
+        } else {
+            let reason = reason_of(self.context.alloc, self.context.limits, &asked, body);
+            self.trace.note_refused(asked.status, reason, body);
+        }
         asked.status
     }
 }

@@ -10,6 +10,8 @@ mod held;
 mod next_connection;
 mod pace;
 mod receive;
+mod refusal_reason;
+mod request_trace;
 mod seat_pool;
 mod seat_request;
 mod server_context;

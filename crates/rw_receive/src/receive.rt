@@ -41,7 +41,7 @@ pub struct Service<'a> {
     /// For how many milliseconds samples stay in memory, by their timestamps, if the head may
     /// forget (`Head<RecentSamples>`); none for all of them. No clause says anything about it.
     pub memory_ms: Option<u64>,
-    /// They count each connection and each answer of the head. No clause says anything about them.
+    /// They count each connection and each request. No clause says anything about them.
     pub counters: &'a ReceiveCounters,
 }
 

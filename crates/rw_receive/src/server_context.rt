@@ -2,6 +2,7 @@
 
 use crate::counting_seat::CountingSeat;
 use crate::graceful_close::close_gracefully;
+use crate::request_trace::RequestTrace;
 use crate::seat_request::SeatRequest;
 use crate::timed_stream::{Stage, TimedStream};
 use crate::until::ServeUntil;
@@ -33,7 +34,7 @@ pub struct ServerContext<'a> {
     pub memory_ms: Option<u64>,
     /// Made while a client waits for a seat. No clause says anything about it.
     pub seat_request: &'a SeatRequest,
-    /// They count each connection and each answer of the head. No clause says anything about them.
+    /// They count each connection and each request. No clause says anything about them.
     pub counters: &'a ReceiveCounters,
 }
 
@@ -63,7 +64,8 @@ fn serve_to_end<L: Holding<H>, H: Admit, R: Wait + Clock>(
 ) -> Seat<L> {
     let mut seat = seat;
     let stage = Cell::new(Stage::new(rt));
-    let Ok(timed) = TimedStream::new(&stream, context, &stage, rt) else {
+    let trace = RequestTrace::new(context.alloc, context.counters, &stream);
+    let Ok(timed) = TimedStream::new(&stream, context, &stage, &trace, rt) else {
         return seat;
     };
     let mut reader = Std::new(timed);
@@ -72,7 +74,8 @@ fn serve_to_end<L: Holding<H>, H: Admit, R: Wait + Clock>(
         rt,
         shared,
         seat: &mut seat,
-        counters: context.counters,
+        context,
+        trace: &trace,
     };
     serve(
         context.alloc,

@@ -4,6 +4,7 @@
 ghost use Rattle.std.specs.Prelude.{◌+◌, ◌*◌, ◌<◌, ◌≤◌};
 
 use crate::pace::{GRACE_MS, Pace};
+use crate::request_trace::RequestTrace;
 use crate::server_context::ServerContext;
 use rw_follow::StopRequest;
 use rw_types::Bounded;
@@ -77,6 +78,7 @@ pub(crate) struct TimedStream<'s, C> {
     stream: &'s TcpStream,
     context: &'s ServerContext<'s>,
     stage: &'s Cell<Stage<C>>,
+    trace: &'s RequestTrace<'s>,
     clock: C,
     patience: Patience,
 }
@@ -95,6 +97,7 @@ impl<'s, C: Clock + Copy> TimedStream<'s, C> {
         stream: &'s TcpStream,
         context: &'s ServerContext<'s>,
         stage: &'s Cell<Stage<C>>,
+        trace: &'s RequestTrace<'s>,
         clock: C,
     ) -> io::Result<TimedStream<'s, C>> {
         let patience = Patience::of(context.idle_ms);
@@ -105,6 +108,7 @@ impl<'s, C: Clock + Copy> TimedStream<'s, C> {
             stream,
             context,
             stage,
+            trace,
             clock,
             patience,
         })
@@ -150,14 +154,15 @@ impl<'s, C: Clock + Copy> TimedStream<'s, C> {
         io::Error::from(ErrorKind::TimedOut)
     }
 
-    /// Counts bytes that were read. The first ones begin a request.
-    fn count_read(&self, count: usize) {
+    /// Takes bytes that were read. The first ones begin a request.
+    fn take_read(&self, bytes: &[u8]) {
         let mut stage = self.stage.get();
         if !stage.is_inside {
             stage.is_inside = true;
             stage.pace = Pace::new(self.clock);
+            self.trace.begin(bytes);
         }
-        stage.pace.add(count);
+        stage.pace.add(bytes.len());
         self.stage.set(stage);
     }
 
@@ -186,7 +191,7 @@ impl<C: Clock + Copy> Read for TimedStream<'_, C> {
                 Err(e) if is_passing(&e) => {}
                 Err(e) => return Err(e),
                 Ok(n) => {
-                    self.count_read(n);
+                    self.take_read(buf.get(..n).unwrap_or(&[]));
                     return Ok(n);
                 }
             }
@@ -209,7 +214,10 @@ impl<C: Clock + Copy> Write for TimedStream<'_, C> {
             match stream.write(buf) {
                 Err(e) if is_passing(&e) => {}
                 Err(e) => return Err(e),
-                Ok(n) => return Ok(n),
+                Ok(n) => {
+                    self.trace.note_written(buf);
+                    return Ok(n);
+                }
             }
         }
         Err(io::Error::from(ErrorKind::TimedOut))

@@ -1,6 +1,7 @@
 //! The log of a run: with `--log` a line on standard error for each thing that happens, with its
 //! time and level, in the form of the log of a Prometheus.
 
+use crate::refusal_lines::RefusalsSeen;
 use jiff::Timestamp;
 use rw_metrics::{Cause, ReceiveCounters, ReceiveNumbers, SendCounters, SendNumbers};
 use std::alloc::{AllocError, Global};
@@ -97,7 +98,7 @@ impl EventLog {
             for _ in 0..u64::MAX {
                 thread::sleep(&log.rt, Duration::from_millis(LOOK_MS));
                 if let Ok(numbers) = counters.numbers(log.alloc()) {
-                    seen.look(&log, &numbers);
+                    seen.look(&log, &counters, &numbers);
                 }
             }
         })?;
@@ -108,14 +109,14 @@ impl EventLog {
 
 /// The last line on a count: how large that was, and how many looks ago the line was written.
 #[derive(Clone, Copy)]
-struct LastLine {
+pub struct LastLine {
     count: u64,
     looks: u64,
 }
 
 impl LastLine {
     /// Returns what it is before the first line.
-    fn new() -> LastLine {
+    pub fn new() -> LastLine {
         LastLine {
             count: 0,
             looks: LOOKS_BETWEEN,
@@ -124,7 +125,7 @@ impl LastLine {
 
     /// Returns by how much a count is larger than it was at the last line, if it is, and that line
     /// is long enough ago.
-    fn news(&mut self, count: u64) -> Option<u64> {
+    pub fn news(&mut self, count: u64) -> Option<u64> {
         self.looks = self.looks.saturating_add(1);
         let more = count.saturating_sub(self.count);
         if more == 0 || self.looks < LOOKS_BETWEEN {
@@ -228,30 +229,7 @@ struct ReceiverSeen {
     segments: u64,
     syncs: u64,
     sync_micros: u64,
-    refused: LastLine,
-}
-
-/// Returns how many requests were refused.
-fn refused_in(numbers: &ReceiveNumbers) -> u64 {
-    let mut sum = 0_u64;
-    for (status, count) in &numbers.statuses {
-        if *status >= 400 {
-            sum = sum.saturating_add(*count);
-        }
-    }
-    sum
-}
-
-/// Returns the line on requests that were refused: `more` of them since the last such line.
-fn refusals_text(alloc: Global, more: u64, numbers: &ReceiveNumbers) -> Result<String, AllocError> {
-    let mut text = format!(in alloc; "requests were refused: {more}; since the start")?;
-    for (status, count) in &numbers.statuses {
-        if *status >= 400 {
-            let part = format!(in alloc; " {count} with status {status}")?;
-            text.push_str(part.as_str())?;
-        }
-    }
-    Ok(text)
+    refusals: RefusalsSeen,
 }
 
 impl ReceiverSeen {
@@ -262,19 +240,31 @@ impl ReceiverSeen {
             segments: 0,
             syncs: 0,
             sync_micros: 0,
-            refused: LastLine::new(),
+            refusals: RefusalsSeen::new(),
         }
     }
 
-    /// Writes a line if the first client has come, or requests were refused.
+    /// Writes a line if the first client has come.
     fn look_at_clients(&mut self, log: &EventLog, numbers: &ReceiveNumbers) {
         let alloc = log.alloc();
         if numbers.accepted > 0 && !self.has_client {
             log.info(String::from_str(alloc, "a first client has connected"));
             self.has_client = true;
         }
-        if let Some(more) = self.refused.news(refused_in(numbers)) {
-            log.warn(refusals_text(alloc, more, numbers));
+    }
+
+    /// Writes a line if requests were refused, and one if a limit is reached.
+    fn look_at_refusals(
+        &mut self,
+        log: &EventLog,
+        counters: &ReceiveCounters,
+        numbers: &ReceiveNumbers,
+    ) {
+        if let Some(text) = self.refusals.refusals(log.alloc(), counters, numbers) {
+            log.warn(text);
+        }
+        if let Some(text) = self.refusals.limit(log.alloc(), numbers) {
+            log.warn(text);
         }
     }
 
@@ -299,8 +289,9 @@ impl ReceiverSeen {
     }
 
     /// Writes a line for each thing that has happened since the last look.
-    fn look(&mut self, log: &EventLog, numbers: &ReceiveNumbers) {
+    fn look(&mut self, log: &EventLog, counters: &ReceiveCounters, numbers: &ReceiveNumbers) {
         self.look_at_clients(log, numbers);
+        self.look_at_refusals(log, counters, numbers);
         self.look_at_folder(log, numbers);
     }
 }

@@ -2,13 +2,13 @@
 
 ghost use Rattle.std.specs.Prelude.{◌≡◌};
 
-use rw_cli::Reporting;
+use rw_cli::{Reporting, VERSION};
 use rw_metrics::{Counters, Screen, serve_metrics, show_progress, write_end};
 use rw_text::{Address, ToolFault};
 use rw_types::{Failed, Sink};
 use std::io::{Error, IsTerminal};
 use std::net::TcpListener;
-use std::thread::Threads;
+use std::thread::{self, Threads};
 
 /// Returns the name of the host to listen on: without one, as in `:9090`, all IPv4 addresses of the
 /// machine.
@@ -45,7 +45,8 @@ pub fn is_watched(rt: &HostRuntime, reporting: &Reporting<'_>) -> bool {
     reporting.has_progress || rt.stderr().is_terminal()
 }
 
-/// Serves the page of the counters at an address.
+/// Serves the page of the counters at an address, in a thread that is never joined: it ends with
+/// the process.
 fn serve_at<R: Threads>(
     rt: &HostRuntime,
     threads: &R,
@@ -54,8 +55,18 @@ fn serve_at<R: Threads>(
 ) -> Result<(), ToolFault> {
     match TcpListener::bind(rt, (name_to_listen_on(address), address.port)) {
         Ok(listener) => {
-            serve_metrics(threads, *rt, rt.alloc(), listener, counters.share()?)?;
-            Ok(())
+            let (host, theirs) = (*rt, counters.share()?);
+            let version = String::from_str(rt.alloc(), VERSION)?;
+            let server = thread::spawn(threads, move || {
+                serve_metrics(host, host.alloc(), &listener, theirs, version)
+            });
+            match server {
+                Ok(server) => {
+                    drop(server);
+                    Ok(())
+                }
+                Err(_) => Err(ToolFault::OutOfMemory),
+            }
         }
         Err(error) => {
             print_metrics_error(rt, address, &error);

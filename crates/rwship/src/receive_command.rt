@@ -3,13 +3,15 @@
 use crate::event_log::EventLog;
 use crate::kept_receiver::{FolderHead, KeptFolder, Log, RecentFolderHead};
 use crate::live_report::{
-    OutputAfterReport, begin_reporting, end_reporting, name_to_listen_on, print_listen_error,
+    OutputAfterReport, begin_reporting, end_reporting, is_watched, name_to_listen_on,
+    print_listen_error,
 };
 use crate::log_fault::has_output_failed;
 use crate::memory_watch::report_old_samples;
 use crate::program_end::{
     report_misplaced, report_output_fault, report_result, report_settings_fault,
 };
+use crate::refusal_lines::report_refusals;
 use crate::settings::settings_in;
 use crate::stop::{is_misplaced, note_left_file, report_stop, report_write_error, stop_signal};
 use rw_cli::{Receiving, SettingsFile, Until};
@@ -77,12 +79,17 @@ impl<R: Threads + Wait + Clock + Sync> Receiver<'_, R> {
     }
 
     /// Returns counters that have counted nothing, and reports them from here on, as far as that is
-    /// asked for. The second ones are what is shown.
+    /// asked for. With `--log` refused requests are in its lines. The second counters are what is
+    /// shown.
     fn begin_counting(&self) -> Result<(Arc<ReceiveCounters, Global>, Counters), ToolFault> {
         let counters = new_counters(self.rt, self.receiving)?;
         let shown = Counters::Receive(Arc::try_clone(&counters)?);
         begin_reporting(self.rt, self.threads, &self.receiving.reporting, &shown)?;
         self.log().watch_receiver(self.threads, &counters)?;
+        let reporting = &self.receiving.reporting;
+        if !reporting.has_log && (self.is_explained || is_watched(self.rt, reporting)) {
+            report_refusals(self.rt, self.threads, &counters)?;
+        }
         Ok((counters, shown))
     }
 

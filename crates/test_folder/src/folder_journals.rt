@@ -223,6 +223,7 @@ fn a_journal_is_counted_up_to_its_fault(rt: HostRuntime) -> Result<(), Fail> {
         failed: 1,
         found: 0,
         read: 0,
+        opening_bytes: 0,
     };
     assert!(rt; has_failed);
     assert_eq!(rt; counted, Some(wanted));

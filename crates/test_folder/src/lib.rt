@@ -1,7 +1,10 @@
 //! Tests of folders: which files of a log are read, what a crash leaves of a journal, in which
-//! folders a journal is opened, and what it writes into them; and of the pages for people.
+//! folders a journal is opened, and what it writes into them; of the pages for people, and of what
+//! a receiver counts.
 #![tactic(auto)]
 
+#[cfg(test)]
+mod bodies;
 #[cfg(test)]
 mod failing_files;
 #[cfg(test)]

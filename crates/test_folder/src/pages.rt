@@ -100,10 +100,16 @@ const RECEIVER: &str = "</style>
 <tr><th>Accepted in all</th><td>2</td></tr>
 <tr><th>Accepts that failed</th><td>1</td></tr>
 </table>
-<h2>Bodies answered</h2>
+<h2>Requests answered</h2>
 <table>
 <tr><th>With status 204</th><td>2</td></tr>
+<tr><th>With status 404</th><td>1</td></tr>
 <tr><th>With status 429</th><td>1</td></tr>
+</table>
+<h2>Acknowledged, but not held</h2>
+<table>
+<tr><th>Native histograms</th><td>2</td></tr>
+<tr><th>Metadata</th><td>1</td></tr>
 </table>
 <footer>The numbers are best effort and are read one after the other. This page is loaded again every \
 5 seconds. <a href=\"metrics\">The metrics for Prometheus</a></footer>
@@ -120,6 +126,9 @@ rwship_receive_log_segments_found 3
 # HELP rwship_receive_log_segments_read How many of them were read. Nothing is answered before that is all.
 # TYPE rwship_receive_log_segments_read gauge
 rwship_receive_log_segments_read 1
+# HELP rwship_receive_opening_bytes Bytes of the segments that were read at the start.
+# TYPE rwship_receive_opening_bytes gauge
+rwship_receive_opening_bytes 4711
 # HELP rwship_receive_log_bytes_written_total Bytes that were written to the log.
 # TYPE rwship_receive_log_bytes_written_total counter
 rwship_receive_log_bytes_written_total 32771
@@ -379,7 +388,9 @@ fn is_receivers(alloc: Global) -> Result<bool, AllocError> {
     counters.refuse_connection();
     counters.answer(204, 10);
     counters.answer(204, 7);
+    counters.skip_parts(b"\x0a\x04\x22\0\x22\0\x1a\0");
     counters.answer(429, 0);
+    counters.answer_unasked(404);
     counters.hold_label_sets(3);
     counters.set_limits(1_000, 0);
     let page = receive_html(alloc, &counters.numbers(alloc)?)?;
@@ -395,7 +406,7 @@ fn a_receiver_for_people(rt: HostRuntime) -> Result<(), Fail> {
 /// Counts what a receiver has written to its log.
 fn count_log(counters: &ReceiveCounters) {
     counters.find_log_segments(3);
-    counters.read_log_segment();
+    counters.read_log_segment(4_711);
     counters.begin_log_segment();
     counters.write_log(32_768);
     counters.sync_log(11_999_000);

@@ -5,8 +5,8 @@ use crate::logs::{Torn, UP, segment};
 use crate::shipped::settings_of;
 use rw_ledger::Reason;
 use rw_metrics::{
-    Cause, Counters, ReceiveCounters, SendCounters, Skipped, drops_line, receive_page, send_line,
-    serve_metrics,
+    Cause, Counters, ReceiveCounters, RefusalReason, SendCounters, Skipped, drops_line,
+    receive_page, send_line, serve_metrics,
 };
 use rw_send::{SendOptions, StopFlag, run_send};
 use rw_text::ToolFault;
@@ -17,13 +17,13 @@ use std::io::{Read, Write};
 use std::net::{Net, SocketAddr, TcpListener, TcpStream};
 use std::sync::{Arc, Wait};
 use std::test::Fail;
-use std::thread::Threads;
+use std::thread::{self, Threads};
 use std::time::Clock;
 
 /// A name, a request, and how its reply begins.
 type Row<'a> = (&'static str, &'a [u8], &'a [u8]);
 
-static ASKED: [Row<'static>; 7] = [
+static ASKED: [Row<'static>; 10] = [
     (
         "the metrics",
         b"GET /metrics HTTP/1.1\r\nHost: a\r\n\r\n",
@@ -33,6 +33,21 @@ static ASKED: [Row<'static>; 7] = [
         "the page",
         b"GET / HTTP/1.1\r\n\r\n",
         b"HTTP/1.1 200 OK\r\nContent-Type: text/html; charset=utf-8\r\n",
+    ),
+    (
+        "whether it runs",
+        b"GET /-/healthy HTTP/1.1\r\n\r\n",
+        b"HTTP/1.1 200 OK\r\nContent-Type: text/plain; charset=utf-8\r\n",
+    ),
+    (
+        "whether it serves",
+        b"GET /-/ready HTTP/1.1\r\n\r\n",
+        b"HTTP/1.1 200 OK\r\nContent-Type: text/plain; charset=utf-8\r\n",
+    ),
+    (
+        "another method at /-/ready",
+        b"POST /-/ready HTTP/1.1\r\n\r\n",
+        b"HTTP/1.1 405 Method Not Allowed\r\n",
     ),
     (
         "another path",
@@ -53,6 +68,9 @@ static ASKED: [Row<'static>; 7] = [
     ("half a request", b"GET /metrics", b""),
 ];
 
+/// Asks whether the program is ready.
+const READY: &[u8] = b"GET /-/ready HTTP/1.1\r\n\r\n";
+
 const PAGE: &[u8] = b"# HELP rwship_receive_connections Open connections.
 # TYPE rwship_receive_connections gauge
 rwship_receive_connections 1
@@ -62,10 +80,25 @@ rwship_receive_connections_total 2
 # HELP rwship_receive_accepts_failed_total Accepts that failed.
 # TYPE rwship_receive_accepts_failed_total counter
 rwship_receive_accepts_failed_total 1
-# HELP rwship_receive_requests_total Requests that the head has answered, by status.
+# HELP rwship_receive_requests_total Requests that were answered, by status.
 # TYPE rwship_receive_requests_total counter
 rwship_receive_requests_total{code=\"204\"} 2
+rwship_receive_requests_total{code=\"405\"} 1
 rwship_receive_requests_total{code=\"429\"} 1
+# HELP rwship_receive_refused_samples_total Samples of requests that were refused, by reason.
+# TYPE rwship_receive_refused_samples_total counter
+rwship_receive_refused_samples_total{reason=\"order\"} 0
+rwship_receive_refused_samples_total{reason=\"labels\"} 0
+rwship_receive_refused_samples_total{reason=\"limits\"} 0
+rwship_receive_refused_samples_total{reason=\"body\"} 0
+rwship_receive_refused_samples_total{reason=\"full\"} 0
+rwship_receive_refused_samples_total{reason=\"unavailable\"} 0
+rwship_receive_refused_samples_total{reason=\"busy\"} 2
+# HELP rwship_receive_skipped_total Parts of acknowledged requests that are not held, by kind.
+# TYPE rwship_receive_skipped_total counter
+rwship_receive_skipped_total{kind=\"histogram\"} 1
+rwship_receive_skipped_total{kind=\"exemplar\"} 0
+rwship_receive_skipped_total{kind=\"metadata\"} 0
 # HELP rwship_receive_samples_held Samples that are held.
 # TYPE rwship_receive_samples_held gauge
 rwship_receive_samples_held 17
@@ -95,15 +128,32 @@ fn reply_to<N: Net<Stream = TcpStream>>(
     Ok(reply)
 }
 
+/// Serves the pages of these counters in a thread.
+fn serve<T: Threads>(
+    threads: &T,
+    host: HostRuntime,
+    listener: TcpListener,
+    counters: Counters,
+) -> io::Result<()> {
+    let version = String::from_str(host.alloc(), "1")?;
+    let server = thread::spawn(threads, move || {
+        serve_metrics(host, host.alloc(), &listener, counters, version)
+    })?;
+    drop(server);
+    Ok(())
+}
+
 /// Returns the name of the first request that the page of a receiver that has done nothing answers
 /// differently.
-fn wrong_reply<
-    N: Net<Stream = TcpStream, Listener = TcpListener> + Threads + Clock + Copy + Send + 'static,
->(rt: &N, alloc: Global) -> io::Result<Option<&'static str>> {
+fn wrong_reply<N: Net<Stream = TcpStream, Listener = TcpListener> + Threads>(
+    rt: &N,
+    host: HostRuntime,
+) -> io::Result<Option<&'static str>> {
+    let alloc = host.alloc();
     let listener = TcpListener::bind(rt, "127.0.0.1:0")?;
     let address = listener.local_addr()?;
     let counters = Arc::new(alloc, ReceiveCounters::new(alloc)?)?;
-    serve_metrics(rt, *rt, alloc, listener, Counters::Receive(counters))?;
+    serve(rt, host, listener, Counters::Receive(counters))?;
     for row in &ASKED {
         let reply = reply_to(rt, alloc, address, row.1)?;
         if !reply.starts_with(row.2) || reply.is_empty() != row.2.is_empty() {
@@ -115,8 +165,32 @@ fn wrong_reply<
 
 #[test]
 fn the_page_is_served(rt: HostRuntime) -> Result<(), Fail> {
-    let wrong = wrong_reply(&rt, rt.alloc())?;
+    let wrong = wrong_reply(&rt, rt)?;
     assert_eq!(rt; wrong, None);
+    Ok(())
+}
+
+/// Asks a receiver that keeps a log whether it is ready, before and after its log was read, and
+/// returns whether the replies say so.
+fn is_ready_once_read<N: Net<Stream = TcpStream, Listener = TcpListener> + Threads>(
+    rt: &N,
+    host: HostRuntime,
+) -> io::Result<bool> {
+    let alloc = host.alloc();
+    let listener = TcpListener::bind(rt, "127.0.0.1:0")?;
+    let address = listener.local_addr()?;
+    let counters = Arc::new(alloc, ReceiveCounters::of_kept_log(alloc)?)?;
+    let theirs = Counters::Receive(Arc::try_clone(&counters)?);
+    serve(rt, host, listener, theirs)?;
+    let before = reply_to(rt, alloc, address, READY)?;
+    counters.begin_with(0, 0);
+    let after = reply_to(rt, alloc, address, READY)?;
+    Ok(before.starts_with(b"HTTP/1.1 503 ") && after.starts_with(b"HTTP/1.1 200 "))
+}
+
+#[test]
+fn a_receiver_is_ready_once_its_log_is_read(rt: HostRuntime) -> Result<(), Fail> {
+    assert!(rt; is_ready_once_read(&rt, rt)?);
     Ok(())
 }
 
@@ -130,7 +204,10 @@ fn is_counted(alloc: Global) -> Result<bool, AllocError> {
     counters.begin_with(4, 2);
     counters.answer(204, 6);
     counters.answer(204, 7);
+    counters.skip_parts(b"\x0a\x02\x22\0");
     counters.answer(429, 0);
+    counters.refuse_body(Some(RefusalReason::Busy), b"\x0a\x04\x12\0\x12\0");
+    counters.answer_unasked(405);
     counters.hold_label_sets(3);
     counters.hold_label_sets(2);
     let page = receive_page(alloc, &counters.numbers(alloc)?)?;

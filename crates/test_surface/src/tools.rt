@@ -78,6 +78,13 @@ pub fn of_receive_counters() {
         ReceiveCounters::find_log_segments,
         ReceiveCounters::read_log_segment,
     );
+    let _ = (ReceiveCounters::skip_parts, ReceiveCounters::refuse_body);
+    let _ = ReceiveCounters::answer_unasked;
+    let _ = (
+        ReceiveCounters::wants_refusal,
+        ReceiveCounters::set_refusal,
+        ReceiveCounters::take_refusal,
+    );
 }
 
 /// The counters of a sender: what was read and placed.

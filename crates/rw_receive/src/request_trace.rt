@@ -1,0 +1,133 @@
+//! What is known of the request of a connection that is being answered, for the counters. It is
+//! best effort: no clause says anything about it.
+
+use rw_metrics::{ReceiveCounters, Refusal, RefusalReason};
+use std::alloc::Global;
+use std::cell::Cell;
+use std::net::TcpStream;
+use std::str;
+
+/// How many of the first bytes of a request are looked at.
+const MOST_BYTES: usize = 256;
+
+/// What is known of the request of a connection that is being answered.
+#[derive(Drop)]
+pub(crate) struct RequestTrace<'s> {
+    alloc: Global,
+    counters: &'s ReceiveCounters,
+    stream: &'s TcpStream,
+    /// The method and the target of the request, if they are known.
+    asked: Cell<Option<String>>,
+    /// Whether the head was asked, and its answer is not written yet.
+    is_answered: Cell<bool>,
+}
+
+/// Returns the first bytes that are printable.
+fn printable(bytes: &[u8]) -> &[u8] {
+    let mut len = 0usize;
+    for byte in bytes {
+        if *byte < 32 || *byte > 126 {
+            break;
+        }
+        len = len.saturating_add(1);
+    }
+    bytes.get(..len).unwrap_or(bytes)
+}
+
+/// Returns the method and the target of a request that begins with these bytes, if they have its
+/// first line, and that is printable.
+fn target_of(request: &[u8]) -> Option<&str> {
+    let first = request.get(..MOST_BYTES).unwrap_or(request);
+    let Ok(line) = str::from_utf8(printable(first)) else {
+        return None;
+    };
+    match line.strip_suffix(" HTTP/1.1") {
+        Some(target) => Some(target),
+        None => line.strip_suffix(" HTTP/1.0"),
+    }
+}
+
+/// Returns the status of a reply that begins with these bytes, or `None` if no reply begins there.
+fn status_of(bytes: &[u8]) -> Option<u16> {
+    let Some(rest) = bytes.strip_prefix(b"HTTP/1.1 ") else {
+        return None;
+    };
+    let Some(digits) = rest.get(..3) else {
+        return None;
+    };
+    let mut status = 0u16;
+    for digit in digits {
+        if *digit < b'0' || *digit > b'9' {
+            return None;
+        }
+        let value = (*digit - b'0') as u16;
+        status = status.saturating_mul(10).saturating_add(value);
+    }
+    Some(status)
+}
+
+impl<'s> RequestTrace<'s> {
+    /// Returns what is known before the first request.
+    pub(crate) fn new(
+        alloc: Global,
+        counters: &'s ReceiveCounters,
+        stream: &'s TcpStream,
+    ) -> RequestTrace<'s> {
+        RequestTrace {
+            alloc,
+            counters,
+            stream,
+            asked: Cell::new(None),
+            is_answered: Cell::new(false),
+        }
+    }
+
+    /// Takes the bytes with which a request begins.
+    pub(crate) fn begin(&self, bytes: &[u8]) {
+        let asked = match target_of(bytes) {
+            Some(target) => String::from_str(self.alloc, target).ok(),
+            None => None,
+        };
+        self.asked.set(asked);
+    }
+
+    /// Takes that the head was asked, and has acknowledged this body.
+    pub(crate) fn note_acknowledged(&self, body: &[u8]) {
+        self.is_answered.set(true);
+        self.counters.skip_parts(body);
+    }
+
+    /// Takes that the head was asked, and has refused this body.
+    pub(crate) fn note_refused(&self, status: u16, reason: Option<RefusalReason>, body: &[u8]) {
+        self.is_answered.set(true);
+        let samples = self.counters.refuse_body(reason, body);
+        self.give_example(status, reason, samples);
+    }
+
+    /// Takes bytes that were written. If a reply begins with them that the head was not asked for,
+    /// it is counted.
+    pub(crate) fn note_written(&self, bytes: &[u8]) {
+        let Some(status) = status_of(bytes) else {
+            return;
+        };
+        if !self.is_answered.replace(false) {
+            self.counters.answer_unasked(status);
+            self.give_example(status, None, 0);
+        }
+        self.asked.set(None);
+    }
+
+    /// Gives the counters the request as an example of a refused one, if they want one.
+    fn give_example(&self, status: u16, reason: Option<RefusalReason>, samples: u64) {
+        if !self.counters.wants_refusal() {
+            return;
+        }
+        self.counters.set_refusal(Refusal {
+            status,
+            reason,
+            samples,
+            asked: self.asked.replace(None),
+            from: self.stream.peer_addr().ok(),
+        });
+    }
+}
