@@ -109,6 +109,9 @@ pub struct Sending<'a> {
     pub fails_on_gap: bool,
     /// Whether a record that is skipped and may hold samples is a fault.
     pub fails_on_skip: bool,
+    /// Whether it stops if the receiver refuses the first batch that it answers as it would refuse
+    /// all others.
+    pub stops_on_refusal: bool,
     /// The most bytes of a batch's body, or `None` for no limit.
     pub max_batch_bytes: Option<u64>,
     /// Whether bodies are sent as Snappy blocks, whatever the settings say.

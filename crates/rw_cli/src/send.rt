@@ -42,6 +42,7 @@ pub(crate) fn send_task<'a>(
             fails_on_empty: options.get_flag("fail-on-empty"),
             fails_on_gap: options.get_flag("fail-on-gap"),
             fails_on_skip: options.get_flag("fail-on-skip"),
+            stops_on_refusal: options.get_flag("stop-on-refusal"),
             max_batch_bytes: options.get_one::<u64>("max-batch-bytes"),
             sends_snappy: options.get_flag("snappy"),
         },

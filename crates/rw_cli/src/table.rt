@@ -327,6 +327,12 @@ static SEND: Words = Words {
             help: "End with status 1 if records were skipped that may\nhold samples, such as histograms",
         },
         Opt {
+            name: "stop-on-refusal",
+            takes: Takes::Nothing,
+            bonds: &[],
+            help: "Stop with status 4 if the receiver answers 400, 401,\n403, 404, 405 or 415 before it takes a batch",
+        },
+        Opt {
             name: "max-batch-bytes",
             takes: Takes::Number(1, 1_099_511_627_776),
             bonds: &[],

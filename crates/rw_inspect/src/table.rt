@@ -2,7 +2,7 @@
 
 ghost use Rattle.std.specs.Prelude.{◌≡◌, ◌++◌, ◌≤◌, OnOk, IfOk, codes, flat_map, map, length};
 ghost use Rattle.rw_inspect.specs.Cells.{cell_text};
-ghost use Rattle.rw_inspect.specs.Table.{columns_text, found_text, head_text, line_text, report_text, right_text, row_text, title_text};
+ghost use Rattle.rw_inspect.specs.Table.{columns_text, found_text, head_text, line_text, name_width, report_text, right_text, row_text, title_text};
 ghost use Rattle.rw_inspect.specs.inner.Table.{column_of};
 
 use crate::cells::{Cell, found_cells, push_fields, push_numbers, push_text};
@@ -41,7 +41,7 @@ const FOUND: [&str; 4] = [
 
 const FIRST: &str = "\ntheir first positions      ";
 
-const SPACES: &str = "                        ";
+const SPACES: &str = "                                ";
 
 /// Adds a text at the right end of a column.
 #[tactic(auto, unfolding(crate::specs::Table::right_text))]
@@ -64,12 +64,24 @@ fn push_titles(out: &mut Vec<u8>, columns: &[Column]) -> Result<(), AllocError>
     Ok(())
 }
 
-/// Adds the titles of all columns.
-#[tactic(auto, unfolding(crate::specs::Table::head_text))]
-fn push_head(out: &mut Vec<u8>) -> Result<(), AllocError>
-    ensures { OnOk result (out.new.items ≡ out.old.items ++ head_text) }
+/// Returns the width of the column of names: that of its title, or of the longest name if it is
+/// longer.
+fn name_width(segments: &[Segment]) -> usize
+    ensures { result ≡ name_width segments.now }
 {
-    push_right(out, NAME.1, NAME.0.as_bytes())?;
+    let mut width = NAME.1;
+    for segment in segments {
+        width = width.max(segment.name.as_bytes().len());
+    }
+    width
+}
+
+/// Adds the titles of all columns, of which that of the names has this width.
+#[tactic(auto, unfolding(crate::specs::Table::head_text))]
+fn push_head(out: &mut Vec<u8>, width: usize) -> Result<(), AllocError>
+    ensures { OnOk result (out.new.items ≡ out.old.items ++ head_text width) }
+{
+    push_right(out, width, NAME.0.as_bytes())?;
     push_titles(out, &COLUMNS)?;
     push_text(out, "\n")
 }
@@ -99,10 +111,17 @@ fn push_columns(out: &mut Vec<u8>, columns: &[Column], cells: &[Cell]) -> Result
     Ok(())
 }
 
-/// Adds a row.
+/// Adds a row, whose name has this width.
 #[tactic(auto, unfolding(crate::specs::Table::row_text))]
-fn push_row(out: &mut Vec<u8>, name: &[u8], sizes: &Sizes, sums: &Sums) -> Result<(), AllocError>
-    ensures { OnOk result (out.new.items ≡ out.old.items ++ row_text name.now sizes.now sums.now) }
+fn push_row(
+    out: &mut Vec<u8>,
+    width: usize,
+    name: &[u8],
+    sizes: &Sizes,
+    sums: &Sums,
+) -> Result<(), AllocError>
+    ensures { OnOk result
+        (out.new.items ≡ out.old.items ++ row_text width name.now sizes.now sums.now) }
 {
     let cells = [
         Cell::Count(sizes.bytes),
@@ -114,18 +133,20 @@ fn push_row(out: &mut Vec<u8>, name: &[u8], sizes: &Sizes, sums: &Sums) -> Resul
         Cell::Time(sums.earliest),
         Cell::Time(sums.latest),
     ];
-    push_right(out, NAME.1, name)?;
+    push_right(out, width, name)?;
     push_columns(out, &COLUMNS, &cells)?;
     push_text(out, "\n")
 }
 
 /// Adds the rows of all segments.
-fn push_rows(out: &mut Vec<u8>, segments: &[Segment]) -> Result<(), AllocError>
-    ensures { OnOk result (out.new.items ≡ out.old.items ++ flat_map line_text segments.now) }
+fn push_rows(out: &mut Vec<u8>, width: usize, segments: &[Segment]) -> Result<(), AllocError>
+    ensures { OnOk result
+        (out.new.items ≡ out.old.items ++ flat_map (line_text width) segments.now) }
 {
     for segment in segments {
         push_row(
             out,
+            width,
             segment.name.as_bytes(),
             &sizes_of(segment),
             &segment.sums,
@@ -154,9 +175,10 @@ pub fn table_of(alloc: Global, report: &Report) -> Result<Vec<u8>, AllocError>
 {
     let mut out = Vec::new(alloc);
     let sizes = sizes_in(&report.segments)?;
-    push_head(&mut out)?;
-    push_rows(&mut out, &report.segments)?;
-    push_row(&mut out, b"all", &sizes, &report.counts.sums)?;
+    let width = name_width(&report.segments);
+    push_head(&mut out, width)?;
+    push_rows(&mut out, width, &report.segments)?;
+    push_row(&mut out, width, b"all", &sizes, &report.counts.sums)?;
     push_found(&mut out, &report.counts, &report.first_not_rising)?;
     push_damage(
         &mut out,

@@ -1,4 +1,4 @@
-//! What a request carries, by a look at its bytes.
+//! What a request or a reply carries, by a look at its bytes.
 
 use crate::fields::{SAMPLE, SERIES, next_field};
 
@@ -35,29 +35,44 @@ fn timestamp_of(sample: &[u8]) -> u64 {
     0
 }
 
-/// Counts the samples of a series.
+/// Counts the samples of a series. The last one of them is the latest, since those of a series
+/// rise.
 fn count_series(cargo: &mut Cargo, series: &[u8]) {
     let mut rest = series;
+    let mut last: &[u8] = &[];
     for _ in 0..series.len() {
         let Some((field, after)) = next_field(rest) else {
-            return;
+            break;
         };
         if field.tag == SAMPLE {
             cargo.samples = cargo.samples.saturating_add(1);
-            cargo.newest_ms = cargo.newest_ms.max(timestamp_of(field.held));
+            last = field.held;
         }
         rest = after;
     }
+    cargo.newest_ms = cargo.newest_ms.max(timestamp_of(last));
 }
 
-/// Returns the bytes after the head of a request.
-fn body_of(request: &[u8]) -> &[u8] {
-    for at in 0..request.len() {
-        if let Some(body) = request[at..].strip_prefix(b"\r\n\r\n") {
+/// Returns the bytes after the head of a request or a reply.
+fn body_of(message: &[u8]) -> &[u8] {
+    for at in 0..message.len() {
+        if let Some(body) = message[at..].strip_prefix(b"\r\n\r\n") {
             return body;
         }
     }
     &[]
+}
+
+/// Returns the bytes after the head of a reply, before which informational ones may come.
+pub(crate) fn reply_body(reply: &[u8]) -> &[u8] {
+    let mut body = body_of(reply);
+    for _ in 0..reply.len() {
+        if !body.starts_with(b"HTTP/") {
+            break;
+        }
+        body = body_of(body);
+    }
+    body
 }
 
 /// Looks at what a request carries: a head, and a message of Remote-Write 1.0 as this program

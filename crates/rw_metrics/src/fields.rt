@@ -27,6 +27,20 @@ fn split(bytes: &[u8], len: u64) -> Option<(&[u8], &[u8])> {
     Some(bytes.split_at(len as usize))
 }
 
+/// Returns the varint at the start of these bytes, and the bytes after it; `None` if there is none.
+/// Most have one byte, which is read here.
+fn varint(bytes: &[u8]) -> Option<(u64, &[u8])> {
+    let (first, rest) = bytes.split_first()?;
+    if *first < 128 {
+        return Some((*first as u64, rest));
+    }
+    let Ok((number, len)) = get_uvarint(bytes) else {
+        return None;
+    };
+    let (_, rest) = split(bytes, len as u64)?;
+    Some((number, rest))
+}
+
 /// Returns a field whose bytes are as many as that, and the bytes after it.
 fn held_field(tag: u64, len: u64, bytes: &[u8]) -> Option<(Field<'_>, &[u8])> {
     let (held, rest) = split(bytes, len)?;
@@ -38,18 +52,13 @@ fn held_field(tag: u64, len: u64, bytes: &[u8]) -> Option<(Field<'_>, &[u8])> {
 fn field_of(tag: u64, bytes: &[u8]) -> Option<(Field<'_>, &[u8])> {
     match tag % 8 {
         0 => {
-            let Ok((number, len)) = get_uvarint(bytes) else {
-                return None;
-            };
-            let (held, rest) = split(bytes, len as u64)?;
+            let (number, rest) = varint(bytes)?;
+            let held: &[u8] = &[];
             Some((Field { tag, number, held }, rest))
         }
         1 => held_field(tag, 8, bytes),
         2 => {
-            let Ok((size, len)) = get_uvarint(bytes) else {
-                return None;
-            };
-            let (_, rest) = split(bytes, len as u64)?;
+            let (size, rest) = varint(bytes)?;
             held_field(tag, size, rest)
         }
         5 => held_field(tag, 4, bytes),
@@ -59,9 +68,6 @@ fn field_of(tag: u64, bytes: &[u8]) -> Option<(Field<'_>, &[u8])> {
 
 /// Returns the field at the start of these bytes, and the bytes after it; `None` if there is none.
 pub(crate) fn next_field(bytes: &[u8]) -> Option<(Field<'_>, &[u8])> {
-    let Ok((tag, len)) = get_uvarint(bytes) else {
-        return None;
-    };
-    let (_, rest) = split(bytes, len as u64)?;
+    let (tag, rest) = varint(bytes)?;
     field_of(tag, rest)
 }

@@ -12,6 +12,7 @@ mod codes;
 mod counters;
 mod exposition;
 mod fields;
+mod heard_text;
 mod html;
 mod kept_counters;
 mod lines;

@@ -1,9 +1,10 @@
 //! Counters of a sender.
 
 use crate::atomics::{add, read, set};
-use crate::body::cargo_of;
+use crate::body::{Cargo, cargo_of, reply_body};
 use crate::cause::{Cause, cause_of, number_of};
 use crate::codes::Codes;
+use crate::heard_text::HeardText;
 use crate::send_numbers::{Drops, Failures, SendNumbers, Skipped};
 use crate::skipped_counters::SkippedCounters;
 use rw_ledger::Reason;
@@ -129,11 +130,27 @@ pub struct SendCounters {
     shards: AtomicU64,
     attempts: AtomicU64,
     failures: FailureCounters,
+    heard: HeardText,
+    /// Whether it is looked at what a request carries.
+    has_readers: bool,
 }
 
 impl SendCounters {
-    /// Returns counters that are all 0.
+    /// Returns counters that are all 0, for a run in which they are read.
     pub fn new(alloc: Global) -> Result<SendCounters, AllocError> {
+        SendCounters::for_readers(alloc, true)
+    }
+
+    /// Returns counters that are all 0, for a run in which nobody reads them before it has ended:
+    /// they do not look at what a request carries. So how many samples are acknowledged or refused
+    /// is counted only once the work has ended, and which of them are the newest, never.
+    pub fn without_readers(alloc: Global) -> Result<SendCounters, AllocError> {
+        SendCounters::for_readers(alloc, false)
+    }
+
+    /// Returns counters that are all 0, for a run in which somebody reads them if `has_readers`
+    /// says so.
+    fn for_readers(alloc: Global, has_readers: bool) -> Result<SendCounters, AllocError> {
         let drops = DropCounters::new(alloc)?;
         let failures = FailureCounters::new(alloc)?;
         Ok(SendCounters {
@@ -154,7 +171,20 @@ impl SendCounters {
             shards: AtomicU64::new(0),
             attempts: AtomicU64::new(0),
             failures,
+            heard: HeardText::new(),
+            has_readers,
         })
+    }
+
+    /// Returns what a request carries, if somebody reads that, and else nothing.
+    fn cargo_of(&self, request: &[u8]) -> Cargo {
+        if self.has_readers {
+            return cargo_of(request);
+        }
+        Cargo {
+            samples: 0,
+            newest_ms: 0,
+        }
     }
 
     /// Sets the number of the segment that is read, from its first byte on.
@@ -265,7 +295,7 @@ impl SendCounters {
 
     /// Counts an attempt that succeeded, and the samples of its request, which are acknowledged.
     pub fn acknowledge(&self, request: &[u8]) {
-        let cargo = cargo_of(request);
+        let cargo = self.cargo_of(request);
         add(&self.acknowledged, cargo.samples);
         self.newest_acknowledged_ms
             .fetch_max(cargo.newest_ms, Ordering::Relaxed);
@@ -275,10 +305,22 @@ impl SendCounters {
     /// Counts an attempt that was refused permanently with this status, and the samples of its
     /// request, which are dropped.
     pub fn refuse(&self, status: u16, request: &[u8]) {
-        let cargo = cargo_of(request);
+        let cargo = self.cargo_of(request);
         self.drops.heard.add(status, cargo.samples);
         add(&self.drops.heard_in_all, cargo.samples);
         self.fail(Cause::Status(status));
+    }
+
+    /// Keeps the first bytes of the body of a reply that did not take its batch. `reply` is what
+    /// was read of it, from its head on.
+    pub fn keep_reply(&self, status: u16, reply: &[u8]) {
+        self.heard.keep(status, reply_body(reply));
+    }
+
+    /// Returns the status of the last reply that did not take its batch and had a body, and the
+    /// first 200 bytes of this body as one line of printable characters; `None` if there is none.
+    pub fn last_reply(&self, alloc: Global) -> Result<Option<(u16, String)>, AllocError> {
+        self.heard.read(alloc)
     }
 
     /// Counts an attempt that has failed.

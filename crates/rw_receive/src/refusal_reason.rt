@@ -45,7 +45,10 @@ fn fault_of_series(
     message: &[u8],
 ) -> Result<RefusalReason, WireFault> {
     let mut rest = message;
-    while !rest.is_empty() {
+    for _ in 0..message.len() {
+        if rest.is_empty() {
+            break;
+        }
         let (series, after) = message_part(rest)?;
         if let Some(series) = series {
             if let Some(reason) = fault_of_labels(alloc, limits, series)? {

@@ -5,7 +5,7 @@ ghost use Rattle.std.specs.Prelude.{◌≡◌, ◌*◌, [], IfOk};
 use rw_metrics::SendCounters;
 use rw_sender::Connect;
 use rw_shard_core::Target;
-use rw_tcp::{Sleep, TcpTransport, copy_target};
+use rw_tcp::{AskedPause, RefusalStop, SharedRoute, Sleep, TcpTransport, copy_target};
 use rw_types::Bounded;
 use std::alloc::{AllocError, Global};
 use std::marker::Model;
@@ -23,6 +23,10 @@ pub struct TcpConnect<N> {
     timeout_ms: Bounded<1, 3_600_000>,
     counters: Arc<SendCounters, Global>,
     snappy_target: Option<Target>,
+    shared_route: Option<Arc<SharedRoute, Global>>,
+    refusal_stop: Option<Arc<RefusalStop, Global>>,
+    /// The longest pause that a receiver is granted, in milliseconds.
+    asked_ms: u64,
 }
 
 impl<N> Model for TcpConnect<N> {
@@ -57,6 +61,9 @@ impl<N> TcpConnect<N> {
             timeout_ms,
             counters,
             snappy_target: None,
+            shared_route: None,
+            refusal_stop: None,
+            asked_ms: 0,
         }
     }
 }
@@ -70,6 +77,51 @@ impl<N: Net<Stream = TcpStream> + Clock + Copy> TcpConnect<N> {
         let mut connect = self;
         connect.snappy_target = Some(copy_target(connect.alloc, target)?);
         Ok(connect)
+    }
+
+    /// Returns the source, whose transports from here on share which address answers, and look this
+    /// name up again once attempts have failed for 30 seconds.
+    pub fn with_name(self, host: &str, port: u16) -> Result<TcpConnect<N>, AllocError>
+        ensures { IfOk result (λ c. c ≡ self) }
+    {
+        let mut connect = self;
+        let route = SharedRoute::new(connect.alloc, host, port)?;
+        connect.shared_route = Some(Arc::new(connect.alloc, route)?);
+        Ok(connect)
+    }
+
+    /// Returns the source, whose transports from here on report the status of each answer to this
+    /// stop.
+    pub fn with_refusal_stop(self, stop: Arc<RefusalStop, Global>) -> TcpConnect<N>
+        ensures { result ≡ self }
+    {
+        let mut connect = self;
+        connect.refusal_stop = Some(stop);
+        connect
+    }
+
+    /// Returns the source, whose pauses from here on are as long as the receiver asks for by
+    /// `Retry-After`, but not for longer than `most_ms` milliseconds.
+    pub fn with_asked_pause(self, most_ms: u64) -> TcpConnect<N>
+        ensures { result ≡ self }
+    {
+        let mut connect = self;
+        connect.asked_ms = most_ms;
+        connect
+    }
+
+    /// Returns this transport, which shares with others what the source has for all of them.
+    fn sharing(&self, transport: TcpTransport<N>) -> Result<TcpTransport<N>, AllocError>
+        ensures { IfOk result (λ t. t ≡ transport) }
+    {
+        let mut transport = transport;
+        if let Some(route) = &self.shared_route {
+            transport = transport.with_shared_route(Arc::try_clone(route)?);
+        }
+        if let Some(stop) = &self.refusal_stop {
+            transport = transport.with_refusal_stop(Arc::try_clone(stop)?);
+        }
+        Ok(transport)
     }
 
     /// Returns a transport to the addresses, with the timeout.
@@ -86,6 +138,7 @@ impl<N: Net<Stream = TcpStream> + Clock + Copy> TcpConnect<N> {
             self.timeout_ms,
             counters,
         );
+        let transport = self.sharing(transport)?;
         match &self.snappy_target {
             None => Ok(transport),
             Some(target) => transport.with_snappy(target),
@@ -107,6 +160,9 @@ impl<N: Net<Stream = TcpStream> + Clock + Copy + Send + 'static> Connect for Tcp
         ensures unused { IfOk result (λ r. r.0.seen ≡ []) }
         ensures stays { self.new ≡ self.old }
     {
-        Ok((self.to_receiver()?, Sleep::new(self.net)))
+        let asked = Arc::new(self.alloc, AskedPause::new(self.asked_ms))?;
+        let ours = Arc::try_clone(&asked)?;
+        let transport = self.to_receiver()?.with_asked_pause(ours);
+        Ok((transport, Sleep::asked_for(self.net, asked)))
     }
 }

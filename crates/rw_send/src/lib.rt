@@ -13,6 +13,7 @@ mod printed_report;
 mod send;
 mod sharding;
 mod stopping;
+mod until_aborted;
 
 pub use connect::TcpConnect;
 pub use counters::FeedContext;
@@ -20,6 +21,8 @@ pub use feed_error::FeedError;
 pub use follow::run_follow;
 pub use follow_fault::{FollowFault, RunFault};
 pub use options::SendOptions;
+pub use rw_tcp::RefusalStop;
 pub use rw_worker::StopFlag;
 pub use send::run_send;
 pub use sharding::{Sharding, resharded, retuned};
+pub use until_aborted::UntilAborted;

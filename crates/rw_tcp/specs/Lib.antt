@@ -1,3 +1,4 @@
 pub mod Hearing
 pub mod Receivers
 pub mod Packing
+pub mod Receptions

@@ -17,11 +17,12 @@ use std::marker::Model;
 /// How many bytes one read asks for.
 const CHUNK: usize = 1024;
 
-/// A status that a reply brought, and that counts for its request. Nothing outside this module
-/// makes one. Contracts see the status.
+/// A status that a reply brought, and that counts for its request, with the bytes that were read of
+/// the reply. Nothing outside this module makes one. Contracts see the status.
 #[derive(Drop)]
 pub(crate) struct Heard {
     status: StatusCode,
+    text: Vec<u8>,
 }
 
 impl Model for Heard {
@@ -33,6 +34,18 @@ impl Model for Heard {
 }
 
 impl Heard {
+    /// Returns the status.
+    pub(crate) fn status(&self) -> StatusCode
+        ensures { result ≡ self.now }
+    {
+        self.status
+    }
+
+    /// Returns what was read of the reply: its head, and what came of its body with that.
+    pub(crate) fn text(&self) -> &[u8] {
+        self.text.as_slice()
+    }
+
     /// Returns the reply with this status.
     pub(crate) fn into_reply(self) -> Reply
         ensures { result.status ≡ self }
@@ -120,15 +133,16 @@ fn hear<R: Source>(reader: &mut R, text: &mut Vec<u8>) -> Result<ReplyRead, Read
     }
 }
 
-/// Returns what this status means for a request that may not have been written whole.
-fn answer_of(status: StatusCode, sent: bool) -> Result<Heard, NoReply>
+/// Returns what the status of a reply, of which this text was read, means for a request that may
+/// not have been written whole.
+fn answer_of(status: StatusCode, text: Vec<u8>, sent: bool) -> Result<Heard, NoReply>
     ensures reply { IfOk result (λ h. h ≡ status) }
     ensures sent { IfOk result (λ h. judgement_of h ≡ Judgement.Done → sent ≡ true) }
     ensures unsent { IfErr result (λ e. (e ≡ NoReply.Device) × (sent ≡ false)) }
 {
     match judge(status) {
         Judgement::Done if !sent => Err(NoReply::Device),
-        _ => Ok(Heard { status }),
+        _ => Ok(Heard { status, text }),
     }
 }
 
@@ -163,7 +177,7 @@ pub(crate) fn hear_answer<R: Source, W: Sink>(
     let said = hear(reader, &mut text)?;
     match said {
         ReplyRead::Status(status) => match StatusCode::from_u16(status) {
-            Ok(status) => answer_of(status, sent),
+            Ok(status) => answer_of(status, text, sent),
             Err(_) => unreachable!(),
         },
         ReplyRead::Partial => Err(no_status(NoReply::Ended, sent)),

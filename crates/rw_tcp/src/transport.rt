@@ -1,12 +1,14 @@
 //! A transport over TCP connections.
 
-ghost use Rattle.std.specs.Prelude.{◌≡◌, ◌<◌, ◌*◌, [], Ok, IfOk, IsOk, IsSome, vec_len};
+ghost use Rattle.std.specs.Prelude.{◌≡◌, ◌<◌, ◌*◌, [], Ok, IfOk, IfSome, length};
 ghost use Rattle.rw_shard_core.specs.declared.replies.ReplyRead.TheVariants as read;
 ghost use Rattle.rw_retry.specs.declared.judgement.Judgement.TheVariants as judgement;
 
+use crate::asked_pause::AskedPause;
 use crate::packed::{Packer, copy_target};
+use crate::refusal::RefusalStop;
 use crate::reply::{Heard, NoReply, hear_answer};
-use http::StatusCode;
+use crate::route::{Route, SharedRoute};
 use rw_history::History;
 use rw_metrics::{Cause, SendCounters};
 use rw_retry::{Judgement, judge};
@@ -15,31 +17,16 @@ use rw_socket::{Deadline, Timely};
 use rw_types::{Bounded, Sink, Source, Std};
 use rw_worker::{Exchanged, Lost, Reply, Transport};
 use std::alloc::{AllocError, Global};
-use std::io;
 use std::marker::Model;
-use std::net::{Net, SocketAddr, TcpStream, ToSocketAddrs};
+use std::net::{Net, SocketAddr, TcpStream};
 use std::sync::Arc;
 use std::time::{Clock, Duration};
 
 /// The most addresses that are tried.
 const MOST_ADDRESSES: usize = 1_000;
 
-/// Looks up the addresses of a host; there is at least one. An error of the kind `OutOfMemory`
-/// means that memory ran out, any other that the look-up failed.
-pub fn look_up<N: Net>(net: &N, alloc: Global, host: &str, port: u16) -> io::Result<Vec<SocketAddr>>
-    ensures { IfOk result (λ v. 0 < vec_len v) }
-{
-    let mut addresses = Vec::new(alloc);
-    for address in (host, port).to_socket_addrs(net)? {
-        addresses.push(address)?;
-    }
-    if addresses.is_empty() {
-        return Err(io::Error::from(io::ErrorKind::NotFound));
-    }
-    Ok(addresses)
-}
-
-/// Sends each request over its own connection, to the first of the addresses that answers.
+/// Sends each request over its own connection, to the first of the addresses that answers. The next
+/// request begins with the address that has answered last.
 ///
 /// Whatever fails is `Lost`: a connect, a write or a read, whatever is not done when the timeout
 /// has passed since the attempt began, and bytes that are not a reply. Contracts see the addresses,
@@ -49,10 +36,12 @@ pub fn look_up<N: Net>(net: &N, alloc: Global, host: &str, port: u16) -> io::Res
 pub struct TcpTransport<N> {
     alloc: Global,
     net: N,
-    addresses: Vec<SocketAddr>,
+    route: Route,
     timeout: Duration,
     counters: Arc<SendCounters, Global>,
     packer: Option<Packer>,
+    refusal_stop: Option<Arc<RefusalStop, Global>>,
+    asked_pause: Option<Arc<AskedPause, Global>>,
     seen: History<Exchanged>,
 }
 
@@ -63,7 +52,7 @@ impl<N> Model for TcpTransport<N> {
     ghost Value = { TcpTransport };
 
     ghost view = { λ t. record {
-      receiver = record { addresses = t.addresses.items; timeout = as_nanos t.timeout };
+      receiver = record { addresses = t.route; timeout = as_nanos t.timeout };
       seen = t.seen;
     } };
 }
@@ -86,10 +75,12 @@ impl<N: Net<Stream = TcpStream> + Clock + Copy> TcpTransport<N> {
         TcpTransport {
             alloc,
             net,
-            addresses,
+            route: Route::new(addresses),
             timeout: Duration::from_millis(timeout_ms.get()),
             counters,
             packer: None,
+            refusal_stop: None,
+            asked_pause: None,
             seen: History::new(),
         }
     }
@@ -106,14 +97,46 @@ impl<N: Net<Stream = TcpStream> + Clock + Copy> TcpTransport<N> {
         Ok(transport)
     }
 
-    /// Returns a connection to the first address that answers. Those that were not tried yet share
-    /// the time that is left.
-    fn connect(&self, deadline: &Deadline<N>) -> Option<TcpStream> {
-        let mut untried = self.addresses.len().min(MOST_ADDRESSES) as u32;
-        for address in &self.addresses {
+    /// Returns the transport, which from here on shares what it finds about the addresses with
+    /// other transports to the receiver, and looks its name up again once attempts have failed for
+    /// 30 seconds.
+    pub fn with_shared_route(self, shared: Arc<SharedRoute, Global>) -> TcpTransport<N>
+        ensures { result ≡ self }
+    {
+        let mut transport = self;
+        transport.route.join(shared);
+        transport
+    }
+
+    /// Returns the transport, which from here on reports the status of each answer to this stop.
+    pub fn with_refusal_stop(self, stop: Arc<RefusalStop, Global>) -> TcpTransport<N>
+        ensures { result ≡ self }
+    {
+        let mut transport = self;
+        transport.refusal_stop = Some(stop);
+        transport
+    }
+
+    /// Returns the transport, which from here on says what an answer asks for of the next pause.
+    pub fn with_asked_pause(self, asked: Arc<AskedPause, Global>) -> TcpTransport<N>
+        ensures { result ≡ self }
+    {
+        let mut transport = self;
+        transport.asked_pause = Some(asked);
+        transport
+    }
+
+    /// Returns a connection to the first address that answers, and the place of this address. Those
+    /// that were not tried yet share the time that is left.
+    fn connect(&self, deadline: &Deadline<N>) -> Option<(TcpStream, usize)>
+        ensures { IfSome result (λ found. found.1 < length self.now.receiver.addresses) }
+    {
+        let addresses = self.route.addresses();
+        let mut untried = addresses.len().min(MOST_ADDRESSES) as u32;
+        for at in 0..addresses.len() {
             let share = deadline.left()?.checked_div(untried)?;
-            if let Ok(stream) = TcpStream::connect_timeout(&self.net, address, share) {
-                return Some(stream);
+            if let Ok(stream) = TcpStream::connect_timeout(&self.net, &addresses[at], share) {
+                return Some((stream, at));
             }
             untried = untried.saturating_sub(1);
         }
@@ -121,15 +144,30 @@ impl<N: Net<Stream = TcpStream> + Clock + Copy> TcpTransport<N> {
     }
 
     /// Writes these bytes to a connection of their own, and returns what is answered.
-    fn ask(&self, deadline: Deadline<N>, bytes: &[u8]) -> Result<Heard, Cause> {
-        let stream = self.connect(&deadline);
-        exchange_through(self.alloc, stream, deadline, bytes)
+    fn ask(&mut self, deadline: Deadline<N>, bytes: &[u8]) -> Result<Heard, Cause>
+        ensures { self.new.seen ≡ self.old.seen }
+    {
+        let Some((stream, at)) = self.connect(&deadline) else {
+            return Err(Cause::Connect);
+        };
+        let heard = exchange_through(self.alloc, &stream, deadline, bytes)?;
+        self.route.put_first(at);
+        if let Some(asked) = &self.asked_pause {
+            asked.hear(heard.text());
+        }
+        Ok(heard)
     }
 
     /// Sends a request over its own connection, packed by this packer if there is one, and counts
     /// the attempt and its outcome.
-    fn attempt(&self, packer: &mut Option<Packer>, request: &[u8]) -> Result<Reply, Lost> {
+    fn attempt(&mut self, packer: &mut Option<Packer>, request: &[u8]) -> Result<Reply, Lost>
+        ensures { self.new.seen ≡ self.old.seen }
+    {
         self.counters.attempt();
+        self.route.catch_up();
+        if let Some(asked) = &self.asked_pause {
+            asked.clear();
+        }
         let deadline = Deadline::new(self.net, self.timeout);
         let answer = match packer {
             None => self.ask(deadline, request),
@@ -139,6 +177,20 @@ impl<N: Net<Stream = TcpStream> + Clock + Copy> TcpTransport<N> {
             },
         };
         counted(&self.counters, &deadline, request, answer)
+    }
+
+    /// Looks at an answer: whether it is a failure, and whether it stops the run.
+    fn look_at(&mut self, answer: &Result<Reply, Lost>)
+        ensures { self.new.seen ≡ self.old.seen }
+    {
+        let has_failed = match answer {
+            Ok(reply) => judge(reply.status) == Judgement::Again,
+            Err(_) => true,
+        };
+        self.route.note(&self.net, self.alloc, has_failed);
+        if let (Some(stop), Ok(reply)) = (&self.refusal_stop, answer) {
+            stop.hear(reply.status);
+        }
     }
 }
 
@@ -160,22 +212,17 @@ fn cause_at<C: Clock>(cause: Cause, deadline: &Deadline<C>) -> Cause {
     }
 }
 
-/// Sends a request over a connection, if there is one, before the deadline.
+/// Sends a request over a connection, before the deadline.
 fn exchange_through<C: Clock + Copy>(
     alloc: Global,
-    stream: Option<TcpStream>,
+    stream: &TcpStream,
     deadline: Deadline<C>,
     request: &[u8],
-) -> Result<Heard, Cause>
-    ensures { IsOk result → IsSome stream }
-{
-    let Some(stream) = stream else {
-        return Err(Cause::Connect);
-    };
+) -> Result<Heard, Cause> {
     match hear_answer(
         alloc,
-        &mut Std::new(Timely::new(&stream, deadline)),
-        &mut Std::new(Timely::new(&stream, deadline)),
+        &mut Std::new(Timely::new(stream, deadline)),
+        &mut Std::new(Timely::new(stream, deadline)),
         request,
     ) {
         Ok(heard) => Ok(heard),
@@ -183,13 +230,21 @@ fn exchange_through<C: Clock + Copy>(
     }
 }
 
-/// Counts an attempt to send a request that was answered with this status: the samples of the
-/// request if they are acknowledged or refused, and else a failure.
-fn count_status(counters: &SendCounters, request: &[u8], status: StatusCode) {
+/// Counts an attempt to send a request that was answered: the samples of the request if they are
+/// acknowledged or refused, and else a failure. What the receiver says of a failure is kept.
+fn count_answer(counters: &SendCounters, request: &[u8], heard: &Heard) {
+    let status = heard.status();
+    let number = status.as_u16();
     match judge(status) {
         Judgement::Done => counters.acknowledge(request),
-        Judgement::Refused => counters.refuse(status.as_u16(), request),
-        Judgement::Again => counters.fail(Cause::Status(status.as_u16())),
+        Judgement::Refused => {
+            counters.keep_reply(number, heard.text());
+            counters.refuse(number, request);
+        }
+        Judgement::Again => {
+            counters.keep_reply(number, heard.text());
+            counters.fail(Cause::Status(number));
+        }
     }
 }
 
@@ -204,9 +259,8 @@ fn counted<C: Clock>(
 {
     match answer {
         Ok(heard) => {
-            let reply = heard.into_reply();
-            count_status(counters, request, reply.status);
-            Ok(reply)
+            count_answer(counters, request, &heard);
+            Ok(heard.into_reply())
         }
         Err(cause) => {
             counters.fail(cause_at(cause, deadline));
@@ -228,6 +282,7 @@ impl<N: Net<Stream = TcpStream> + Clock + Copy> Transport for TcpTransport<N> {
         let mut packer = self.packer.take();
         let answer = self.attempt(&mut packer, request);
         self.packer = packer;
+        self.look_at(&answer);
         self.seen.push(&Exchanged::of(request, &answer));
         answer
     }

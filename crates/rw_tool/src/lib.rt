@@ -8,6 +8,9 @@ pub use rw_log_folder::{Folder, FolderFault, Gap, Open, Opened, SegmentFile, seg
 pub use rw_metrics::{ReceiveCounters, SendCounters};
 pub use rw_receive::{ServeUntil, Service, run_receive};
 pub use rw_replay::run_replay;
-pub use rw_send::{FollowFault, RunFault, SendOptions, StopFlag, TcpConnect, run_follow, run_send};
+pub use rw_send::{
+    FollowFault, RefusalStop, RunFault, SendOptions, StopFlag, TcpConnect, UntilAborted,
+    run_follow, run_send,
+};
 pub use rw_settings::{Settings, SettingsFault, read_settings};
 pub use rw_text::ToolFault;

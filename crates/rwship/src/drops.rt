@@ -1,9 +1,9 @@
 //! What `send` says of the samples that it has not sent, or that were refused.
 
-use rw_metrics::Drops;
+use rw_metrics::{Drops, SendCounters};
 
 /// Returns what to do about samples that were refused with this status.
-fn advice(status: u16) -> &'static str {
+pub fn advice(status: u16) -> &'static str {
     match status {
         300..=399 => "a redirect is not followed; send to the address that it names",
         400 => {
@@ -31,5 +31,12 @@ pub fn explain_drops(rt: &HostRuntime, drops: &Drops) {
     for (status, count) in &drops.refused {
         let next = advice(*status);
         let _ = eprintln!(rt; "  samples refused with status {status}: {count}; next: {next}");
+    }
+}
+
+/// Prints what the receiver last said of a batch that it did not take, if it said anything.
+pub fn explain_reply(rt: &HostRuntime, counters: &SendCounters) {
+    if let Ok(Some((status, text))) = counters.last_reply(rt.alloc()) {
+        let _ = eprintln!(rt; "  receiver said with status {status}: {text}");
     }
 }

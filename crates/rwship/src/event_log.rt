@@ -74,7 +74,7 @@ impl EventLog {
             for _ in 0..u64::MAX {
                 thread::sleep(&log.rt, Duration::from_millis(LOOK_MS));
                 if let Ok(numbers) = counters.numbers(log.alloc()) {
-                    seen.look(&log, &numbers);
+                    seen.look(&log, &numbers, &LastReply::of(log.alloc(), &counters));
                 }
             }
         })?;
@@ -137,6 +137,51 @@ impl LastLine {
     }
 }
 
+/// What the receiver last said of a batch that it did not take, with which status.
+#[derive(Drop)]
+struct LastReply {
+    said: Option<(u16, String)>,
+}
+
+impl LastReply {
+    /// Returns what these counters have kept. It is nothing if memory runs out.
+    fn of(alloc: Global, counters: &SendCounters) -> LastReply {
+        LastReply {
+            said: counters.last_reply(alloc).unwrap_or(None),
+        }
+    }
+
+    /// Returns the end of a line on answers with this status: what the receiver said, if it said
+    /// anything with that.
+    fn ending(&self, alloc: Global, status: u16) -> Result<String, AllocError> {
+        match &self.said {
+            Some((other, text)) if *other == status => {
+                format!(in alloc; "; receiver said: {text}")
+            }
+            _ => Ok(String::new(alloc)),
+        }
+    }
+
+    /// Returns the end of a line on an attempt that failed of this cause.
+    fn after_failure(&self, alloc: Global, cause: Option<Cause>) -> Result<String, AllocError> {
+        match cause {
+            Some(Cause::Status(status)) => self.ending(alloc, status),
+            _ => Ok(String::new(alloc)),
+        }
+    }
+
+    /// Returns the end of a line on dropped samples.
+    fn after_drops(&self, alloc: Global, refused: &[(u16, u64)]) -> Result<String, AllocError> {
+        for (status, _) in refused {
+            let ending = self.ending(alloc, *status)?;
+            if !ending.is_empty() {
+                return Ok(ending);
+            }
+        }
+        Ok(String::new(alloc))
+    }
+}
+
 /// What was written about a sender.
 #[derive(Clone, Copy)]
 struct SenderSeen {
@@ -186,12 +231,15 @@ impl SenderSeen {
 
     /// Writes a line if attempts begin to fail, or the receiver acknowledges for the first time, or
     /// again.
-    fn look_at_answers(&mut self, log: &EventLog, numbers: &SendNumbers) {
+    fn look_at_answers(&mut self, log: &EventLog, numbers: &SendNumbers, reply: &LastReply) {
         let (alloc, failures) = (log.alloc(), &numbers.failures);
         if failures.in_a_row > 0 {
             if !self.is_failing {
-                if let Ok(why) = words_of(alloc, failures.last) {
-                    log.warn(format!(in alloc; "an attempt has failed, and is made again: {why}"));
+                let said = reply.after_failure(alloc, failures.last);
+                if let (Ok(why), Ok(said)) = (words_of(alloc, failures.last), said) {
+                    log.warn(format!(in alloc;
+                        "an attempt has failed, and is made again: {why}{said}"
+                    ));
                 }
             }
             self.is_failing = true;
@@ -204,10 +252,12 @@ impl SenderSeen {
     }
 
     /// Writes a line if samples were dropped, or records skipped that may hold samples.
-    fn look_at_losses(&mut self, log: &EventLog, numbers: &SendNumbers) {
+    fn look_at_losses(&mut self, log: &EventLog, numbers: &SendNumbers, reply: &LastReply) {
         let alloc = log.alloc();
         if let Some(more) = self.dropped.news(numbers.drops.all) {
-            log.warn(format!(in alloc; "samples were dropped: {more}"));
+            if let Ok(said) = reply.after_drops(alloc, numbers.drops.refused.as_slice()) {
+                log.warn(format!(in alloc; "samples were dropped: {more}{said}"));
+            }
         }
         if let Some(more) = self.skipped.news(numbers.skipped.lost()) {
             log.warn(format!(in alloc; "records that may hold samples were skipped: {more}"));
@@ -215,10 +265,10 @@ impl SenderSeen {
     }
 
     /// Writes a line for each thing that has happened since the last look.
-    fn look(&mut self, log: &EventLog, numbers: &SendNumbers) {
+    fn look(&mut self, log: &EventLog, numbers: &SendNumbers, reply: &LastReply) {
         self.look_at_segment(log, numbers);
-        self.look_at_answers(log, numbers);
-        self.look_at_losses(log, numbers);
+        self.look_at_answers(log, numbers, reply);
+        self.look_at_losses(log, numbers, reply);
     }
 }
 

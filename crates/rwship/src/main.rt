@@ -15,6 +15,7 @@ mod log_files;
 mod memory_watch;
 mod program_end;
 mod receive_command;
+mod refusal;
 mod refusal_lines;
 mod send_command;
 mod settings;

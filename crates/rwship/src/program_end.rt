@@ -97,6 +97,13 @@ pub fn gap_status() -> ExitCode
     ExitCode::from(GAP)
 }
 
+/// Returns the exit status for work that was ended from outside.
+pub fn cut_off_status() -> ExitCode
+    ensures { process.exit_status result ≡ 4 }
+{
+    ExitCode::from(CUT_OFF)
+}
+
 /// Reports how many positions have no entry.
 pub fn report_missing(rt: &HostRuntime, count: u64) -> ExitCode
     ensures { process.exit_status result ≡ 1 }

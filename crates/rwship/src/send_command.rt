@@ -1,10 +1,10 @@
 //! The command `send`.
 
 use crate::destination::destination_of;
-use crate::drops::explain_drops;
+use crate::drops::{explain_drops, explain_reply};
 use crate::event_log::EventLog;
 use crate::live_report::{begin_reporting, end_reporting};
-use crate::log_fault::{LogFault, log_fault, report_run_fault};
+use crate::log_fault::{LogFault, has_output_failed, log_fault, report_run_fault};
 use crate::log_files::{
     files_of, names_of, note_checkpoint, note_empty, note_gaps, passes_checkpoint_over,
 };
@@ -12,14 +12,17 @@ use crate::program_end::{
     empty_status, gap_status, print_device_error, report_dropped, report_misplaced, report_result,
     report_settings_fault, report_skipped,
 };
+use crate::refusal::{Refusal, report_refusal};
 use crate::settings::{dir_with, settings_in};
 use crate::stop::{Awaited, is_misplaced, note_left_file, report_stop, stop_signal};
 use crate::waiting::wait_for_start;
 use rw_cli::{Following, LogDir, Reading, Sending, SettingsFile};
-use rw_follow::{Queue, StopSignal, Timed, ToTheEnd};
+use rw_follow::{Queue, StopSignal, Timed};
 use rw_log_folder::{Folder, FolderFault, Opened, SegmentFile, check_folder, watch_newest_segment};
 use rw_metrics::{Counters, SendCounters, show_stalls};
-use rw_send::{RunFault, SendOptions, StopFlag, TcpConnect, run_follow};
+use rw_send::{
+    FollowFault, RefusalStop, RunFault, SendOptions, StopFlag, TcpConnect, UntilAborted, run_follow,
+};
 use rw_settings::Settings;
 use rw_tcp::look_up;
 use rw_text::{Address, ToolFault};
@@ -38,8 +41,8 @@ const NOTHING_READ: &[u8] = b"filtered 0\nreport abandoned 0\n";
 
 /// The log that is shipped.
 enum Log {
-    /// The files of the folder.
-    Whole(Vec<Opened<SegmentFile<HostRuntime>>>),
+    /// The files of the folder, and the watch that may end it early.
+    Whole(Vec<Opened<SegmentFile<HostRuntime>>>, UntilAborted),
     /// The folder while it grows, and the watch that ends it.
     Growing(Folder<HostRuntime>, Timed<HostRuntime>),
 }
@@ -51,6 +54,8 @@ struct Shipment {
     connect: TcpConnect<HostRuntime>,
     stop: StopFlag,
     counters: Arc<SendCounters, Global>,
+    /// What a refusal of the first batch does, if it is to stop the run.
+    refusal: Option<Refusal>,
 }
 
 /// What is wrong with the segments of a folder before a run.
@@ -75,9 +80,16 @@ struct Sender<'a, R> {
     output: Std<Stdout>,
 }
 
-/// Returns counters that have counted nothing.
-fn new_counters(rt: &HostRuntime) -> Result<Arc<SendCounters, Global>, AllocError> {
-    let counters = SendCounters::new(rt.alloc())?;
+/// Returns counters that have counted nothing, and look at requests if they have readers.
+fn new_counters(
+    rt: &HostRuntime,
+    has_readers: bool,
+) -> Result<Arc<SendCounters, Global>, AllocError> {
+    let counters = if has_readers {
+        SendCounters::new(rt.alloc())?
+    } else {
+        SendCounters::without_readers(rt.alloc())?
+    };
     Ok(Arc::new(rt.alloc(), counters)?)
 }
 
@@ -128,6 +140,17 @@ impl<R: Threads + Wait + Clock + Copy + Send + 'static> Sender<'_, R> {
         self.is_explained || self.sending.reporting.has_progress
     }
 
+    /// Returns whether somebody reads the counters before the run has ended: by an option, or if it
+    /// is said what a stop waits for.
+    fn has_readers(&self) -> bool {
+        let reporting = &self.sending.reporting;
+        let is_followed = matches!(self.sending.reading, Reading::Follow(_));
+        reporting.has_progress
+            || reporting.has_log
+            || reporting.metrics.is_some()
+            || self.is_explained && is_followed
+    }
+
     /// Returns the receiver, as it is shown.
     fn receiver(&self) -> Result<String, AllocError> {
         let Address { host, port } = self.to;
@@ -165,7 +188,7 @@ impl<R: Threads + Wait + Clock + Copy + Send + 'static> Sender<'_, R> {
     /// Returns counters that have counted nothing, and reports them from here on, as far as that is
     /// asked for.
     fn begin_counting(&self) -> Result<Arc<SendCounters, Global>, ToolFault> {
-        let counters = new_counters(self.rt)?;
+        let counters = new_counters(self.rt, self.has_readers())?;
         let shown = Counters::Send(Arc::try_clone(&counters)?);
         begin_reporting(self.rt, self.threads, &self.sending.reporting, &shown)?;
         self.report_stalls(&counters)?;
@@ -205,16 +228,14 @@ impl<R: Threads + Wait + Clock + Copy + Send + 'static> Sender<'_, R> {
         report_stop(self.rt, self.threads, self.log(), awaited, signal)
     }
 
-    /// Returns a watch that stops a follower, stops its workers too if that is at once, and lets
-    /// time pass. It is reported when a stop is requested.
+    /// Returns a watch that stops a follower, and lets time pass. It is reported when a stop is
+    /// requested.
     fn watch(
         &self,
         following: &Following<'_>,
-        stop: &StopFlag,
+        signal: Arc<StopSignal, Global>,
         counters: &Arc<SendCounters, Global>,
     ) -> Result<Timed<HostRuntime>, AllocError> {
-        let workers = stop.share()?;
-        let signal = stop_signal(self.rt, self.threads, following.stop_file, Some(workers))?;
         self.report_stop(counters, &signal)?;
         let poll = Duration::from_millis(following.poll_ms.get());
         let patience = Duration::from_millis(following.flush_ms.get());
@@ -222,21 +243,63 @@ impl<R: Threads + Wait + Clock + Copy + Send + 'static> Sender<'_, R> {
         Ok(Timed::new(*self.rt, signal, poll, patience, reshard))
     }
 
+    /// Returns the signal that stops the run, and stops its workers too if that is at once. That of
+    /// a log that is there whole is set by nobody outside.
+    fn signal(&self, stop: &StopFlag) -> Result<Arc<StopSignal, Global>, AllocError> {
+        match &self.sending.reading {
+            Reading::Whole => Ok(Arc::new(self.rt.alloc(), StopSignal::new())?),
+            Reading::Follow(following) => {
+                let workers = stop.share()?;
+                stop_signal(self.rt, self.threads, following.stop_file, Some(workers))
+            }
+        }
+    }
+
     /// Returns the log in the folder, to be read as it is or while it grows.
     fn segments(
         &self,
-        stop: &StopFlag,
+        signal: Arc<StopSignal, Global>,
         counters: &Arc<SendCounters, Global>,
     ) -> Result<Log, FolderFault> {
-        let dir = self.dir;
         match &self.sending.reading {
-            Reading::Whole => Ok(Log::Whole(files_of(self.rt, dir, Some(counters))?)),
+            Reading::Whole => {
+                let files = files_of(self.rt, self.dir, Some(counters))?;
+                Ok(Log::Whole(files, UntilAborted::new(signal)))
+            }
             Reading::Follow(following) => {
-                check_folder(self.rt, dir.path)?;
                 let folder = self.folder(counters)?;
-                Ok(Log::Growing(folder, self.watch(following, stop, counters)?))
+                Ok(Log::Growing(folder, self.watch(following, signal, counters)?))
             }
         }
+    }
+
+    /// Fails if a folder that is followed cannot be read.
+    fn check_folder(&self) -> Result<(), FolderFault> {
+        match &self.sending.reading {
+            Reading::Whole => Ok(()),
+            Reading::Follow(_) => check_folder(self.rt, self.dir.path),
+        }
+    }
+
+    /// Returns what a refusal of the first batch does, if it is to stop the run by this signal and
+    /// this flag.
+    fn refusal(
+        &self,
+        settings: &Settings,
+        signal: &Arc<StopSignal, Global>,
+        stop: &StopFlag,
+    ) -> Result<Option<Refusal>, AllocError> {
+        if !self.sending.stops_on_refusal {
+            return Ok(None);
+        }
+        let (alloc, Address { host, port }) = (self.rt.alloc(), self.to);
+        let path = settings.config.fields().target.path.as_str();
+        let url = format!(in alloc; "http://{host}:{port}{path}")?;
+        let stop = RefusalStop::new(Arc::try_clone(signal)?, stop.share()?);
+        Ok(Some(Refusal {
+            stop: Arc::new(alloc, stop)?,
+            url,
+        }))
     }
 
     /// Returns a source of connections to these addresses, which send Snappy blocks if the option
@@ -248,7 +311,9 @@ impl<R: Threads + Wait + Clock + Copy + Send + 'static> Sender<'_, R> {
         counters: Arc<SendCounters, Global>,
     ) -> Result<TcpConnect<HostRuntime>, AllocError> {
         let (rt, fields) = (self.rt, settings.config.fields());
-        let connect = TcpConnect::new(rt.alloc(), *rt, addresses, fields.timeout_ms, counters);
+        let connect = TcpConnect::new(rt.alloc(), *rt, addresses, fields.timeout_ms, counters)
+            .with_name(self.to.name(), self.to.port)?
+            .with_asked_pause(fields.max_backoff_ms.get());
         if self.sending.sends_snappy || fields.snappy {
             connect.with_snappy(&fields.target)
         } else {
@@ -263,16 +328,23 @@ impl<R: Threads + Wait + Clock + Copy + Send + 'static> Sender<'_, R> {
         settings: &Settings,
         counters: &Arc<SendCounters, Global>,
     ) -> Result<Shipment, FolderFault> {
+        self.check_folder()?;
         let stop = StopFlag::new(self.rt.alloc())?;
+        let signal = self.signal(&stop)?;
         let theirs = Arc::try_clone(counters)?;
         let counters = Arc::try_clone(counters)?;
-        let connect = self.connect_to(addresses, settings, theirs)?;
-        let log = self.segments(&stop, &counters)?;
+        let refusal = self.refusal(settings, &signal, &stop)?;
+        let mut connect = self.connect_to(addresses, settings, theirs)?;
+        if let Some(refusal) = &refusal {
+            connect = connect.with_refusal_stop(Arc::try_clone(&refusal.stop)?);
+        }
+        let log = self.segments(signal, &counters)?;
         Ok(Shipment {
             log,
             connect,
             stop,
             counters,
+            refusal,
         })
     }
 
@@ -339,7 +411,7 @@ impl<R: Threads + Wait + Clock + Copy + Send + 'static> Sender<'_, R> {
     /// Reports that the folder has no segment, or lacks some between others, if somebody may read
     /// that.
     fn note_segments(&self, log: &Log) -> Noted {
-        let Log::Whole(files) = log else {
+        let Log::Whole(files, _) = log else {
             return Noted {
                 has_nothing: false,
                 has_gap: false,
@@ -365,12 +437,11 @@ impl<R: Threads + Wait + Clock + Copy + Send + 'static> Sender<'_, R> {
     ) -> Result<(), LogFault> {
         let (threads, alloc, output) = (self.threads, self.rt.alloc(), &mut self.output);
         match log {
-            Log::Whole(files) => {
+            Log::Whole(files, mut watch) => {
                 let names = names_of(alloc, &files)?;
                 let mut files = Queue::new(files);
-                let mut end = ToTheEnd;
                 match run_follow(
-                    threads, alloc, settings, &mut files, options, &mut end, output,
+                    threads, alloc, settings, &mut files, options, &mut watch, output,
                 ) {
                     Ok(()) => Ok(()),
                     Err(ended) => Err(fault_of(alloc, &files, names, ended)?),
@@ -405,11 +476,32 @@ impl<R: Threads + Wait + Clock + Copy + Send + 'static> Sender<'_, R> {
             }
             explain_drops(rt, &numbers.drops);
         }
+        explain_reply(rt, counters);
         let count = counters.skipped().lost();
         if count > 0 {
             let _ = eprintln!(rt;
                 "  records skipped that may hold samples: {count}; --progress and --metrics count them by type"
             );
+        }
+    }
+
+    /// Reports that the receiver refuses whatever it is sent, if this is why the run has ended, and
+    /// returns the exit status.
+    fn report_refused(
+        &mut self,
+        refusal: &Option<Refusal>,
+        outcome: &Result<(), LogFault>,
+    ) -> Option<ExitCode> {
+        let is_other = match outcome {
+            Ok(()) => false,
+            Err(fault) => fault.fault != FollowFault::Stopped,
+        };
+        if is_other || has_output_failed(&mut self.output) {
+            return None;
+        }
+        match refusal {
+            Some(refusal) => report_refusal(self.rt, refusal),
+            None => None,
         }
     }
 
@@ -419,6 +511,7 @@ impl<R: Threads + Wait + Clock + Copy + Send + 'static> Sender<'_, R> {
         &mut self,
         counters: Arc<SendCounters, Global>,
         noted: Noted,
+        refusal: Option<Refusal>,
         outcome: Result<(), LogFault>,
     ) -> ExitCode {
         let (rt, dir, sending) = (self.rt, self.dir, self.sending);
@@ -427,6 +520,9 @@ impl<R: Threads + Wait + Clock + Copy + Send + 'static> Sender<'_, R> {
             self.explain_missing(&counters);
         }
         end_reporting(rt, &sending.reporting, &Counters::Send(counters));
+        if let Some(status) = self.report_refused(&refusal, &outcome) {
+            return status;
+        }
         match outcome {
             Ok(()) if noted.has_nothing && sending.fails_on_empty => empty_status(),
             Ok(()) if dropped > 0 && sending.fails_on_drop => report_dropped(rt, dropped),
@@ -462,6 +558,7 @@ impl<R: Threads + Wait + Clock + Copy + Send + 'static> Sender<'_, R> {
             connect,
             stop,
             counters,
+            refusal,
         } = shipment;
         let noted = self.note_segments(&log);
         self.log_start();
@@ -474,7 +571,7 @@ impl<R: Threads + Wait + Clock + Copy + Send + 'static> Sender<'_, R> {
         };
         let outcome = self.ship_log(settings, log, options);
         self.log_end(&counters);
-        self.finish(counters, noted, outcome)
+        self.finish(counters, noted, refusal, outcome)
     }
 
     /// Ships the log, and returns the exit status.

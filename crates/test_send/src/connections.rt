@@ -5,7 +5,7 @@ use rw_metrics::{ReceiveCounters, SendCounters};
 use rw_receive::{ServeUntil, Service, run_receive};
 use rw_settings::{Settings, read_settings};
 use rw_shard_core::{Target, request_bytes};
-use rw_tcp::{Sleep, TcpTransport, look_up};
+use rw_tcp::{SharedRoute, Sleep, TcpTransport, look_up};
 use rw_text::ToolFault;
 use rw_types::{Bounded, Room};
 use rw_worker::{Lost, Pause, Reply, Transport};
@@ -46,6 +46,8 @@ enum Client {
     Asks(u64),
     /// It asks once, and at its first address nobody listens.
     AsksBehindDeserted,
+    /// It asks three times, as `ask_behind_silent` does.
+    AsksBehindSilent,
     /// It writes a whole request before it reads.
     WritesFirst,
     /// It comes again while its first connection is served, until it is refused.
@@ -158,6 +160,38 @@ pub(crate) fn statuses<N: Net<Stream = TcpStream> + Clock + Copy>(
     Ok(statuses)
 }
 
+/// Returns the statuses of three requests. At the first address of the receiver nobody listens at
+/// the first request, and from then on somebody who answers nothing. The third request is sent by
+/// another transport, which shares the route.
+fn ask_behind_silent<N: Net<Stream = TcpStream, Listener = TcpListener> + Clock + Copy>(
+    net: &N,
+    alloc: Global,
+    address: SocketAddr,
+    request: &[u8],
+) -> io::Result<Vec<u8>> {
+    let silent = deserted(net)?;
+    let route = Arc::new(alloc, SharedRoute::new(alloc, "127.0.0.1", address.port())?)?;
+    let counters = Arc::new(alloc, SendCounters::new(alloc)?)?;
+    let timeout = Bounded::new(10_000);
+    let to: Vec<SocketAddr> = vec![in alloc; silent, address]?;
+    let also: Vec<SocketAddr> = vec![in alloc; silent, address]?;
+    let mut first = TcpTransport::new(
+        alloc,
+        *net,
+        to,
+        timeout,
+        Arc::try_clone(&counters)?,
+    ).with_shared_route(Arc::try_clone(&route)?);
+    let mut second = TcpTransport::new(alloc, *net, also, timeout, counters).with_shared_route(
+        route,
+    );
+    let mut read = statuses(alloc, &mut first, 1, request)?;
+    let _listener = TcpListener::bind(net, silent)?;
+    read.extend_from_slice(&statuses(alloc, &mut first, 1, request)?)?;
+    read.extend_from_slice(&statuses(alloc, &mut second, 1, request)?)?;
+    Ok(read)
+}
+
 /// Returns what a client reads.
 fn read_by<N: Net<Stream = TcpStream, Listener = TcpListener> + Clock + Copy>(
     net: &N,
@@ -173,6 +207,7 @@ fn read_by<N: Net<Stream = TcpStream, Listener = TcpListener> + Clock + Copy>(
             return Ok(Vec::new(alloc));
         }
         Client::WritesFirst => return reply_after_all(net, alloc, address, request),
+        Client::AsksBehindSilent => return ask_behind_silent(net, alloc, address, request),
         Client::ComesAgain => return comes_again(net, alloc, address),
         Client::Asks(count) => (count, look_up(net, alloc, "127.0.0.1", address.port())?),
         Client::AsksBehindDeserted => (1, vec![in alloc; deserted(net)?, address]?),
@@ -273,7 +308,7 @@ fn wrong_row<
     Ok(None)
 }
 
-static ROWS: [Row<'static>; 6] = [
+static ROWS: [Row<'static>; 7] = [
     Row {
         name: "connections do not wait for one another",
         settings: b"",
@@ -317,6 +352,17 @@ static ROWS: [Row<'static>; 6] = [
         client: Client::AsksBehindDeserted,
         body: &UP_BODY,
         read: b" 204",
+        ended: Ok(()),
+        printed: UP_AT_1000,
+    },
+    Row {
+        name: "the address that has answered is tried first",
+        settings: b"",
+        connections: 3,
+        room: 4096,
+        client: Client::AsksBehindSilent,
+        body: &UP_BODY,
+        read: b" 204 204 204",
         ended: Ok(()),
         printed: UP_AT_1000,
     },

@@ -1,5 +1,6 @@
 //! The page of the metrics, asked for over loopback.
 
+use crate::connections::{UP_BODY, request_of};
 use crate::folder::ready;
 use crate::logs::{Torn, UP, segment};
 use crate::shipped::settings_of;
@@ -327,5 +328,71 @@ fn counted_as_skipped<R: Threads + Wait + Clock + Copy + Send + 'static>(
 #[test]
 fn skipped_records_are_counted_by_type(rt: HostRuntime) -> Result<(), Fail> {
     assert_eq!(rt; counted_as_skipped(&rt, rt.alloc())?, Some(SKIPPED));
+    Ok(())
+}
+
+/// A reply, and what is shown of its body.
+type Said<'a> = (&'static str, &'a [u8], Option<&'static str>);
+
+static SAID: [Said<'static>; 5] = [
+    (
+        "a text",
+        b"HTTP/1.1 400 Bad Request\r\nA: b\r\n\r\nout of order\n",
+        Some("out of order"),
+    ),
+    (
+        "a text after an informational head",
+        b"HTTP/1.1 100 Continue\r\n\r\nHTTP/1.1 400 Bad Request\r\n\r\nno",
+        Some("no"),
+    ),
+    (
+        "bytes that are not printable",
+        b"HTTP/1.1 400 Bad Request\r\n\r\na\x00\x1b[b\xc3\xa9",
+        Some("a  [b"),
+    ),
+    ("nothing", b"HTTP/1.1 400 Bad Request\r\n\r\n", None),
+    ("half a head", b"HTTP/1.1 400 Bad Request\r\n", None),
+];
+
+/// Returns the name of the first reply of whose body something else is shown.
+fn wrongly_said(alloc: Global) -> Result<Option<&'static str>, AllocError> {
+    for row in &SAID {
+        let counters = SendCounters::new(alloc)?;
+        counters.keep_reply(400, row.1);
+        let is_so = match (counters.last_reply(alloc)?, row.2) {
+            (Some((status, text)), Some(wanted)) => status == 400 && text.as_str() == wanted,
+            (None, None) => true,
+            _ => false,
+        };
+        if !is_so {
+            return Ok(Some(row.0));
+        }
+    }
+    Ok(None)
+}
+
+#[test]
+fn what_a_receiver_says_is_kept(rt: HostRuntime) -> Result<(), Fail> {
+    assert_eq!(rt; wrongly_said(rt.alloc())?, None);
+    Ok(())
+}
+
+/// Returns how many samples of a request with one sample counters have counted as acknowledged, and
+/// how many after it was reported that two are resolved.
+fn counted_of_one(alloc: Global, counters: &SendCounters) -> Result<(u64, u64), AllocError> {
+    let request = request_of(alloc, &UP_BODY)?;
+    counters.acknowledge(&request);
+    let before = counters.numbers(alloc)?.acknowledged;
+    counters.set_resolved(2);
+    Ok((before, counters.numbers(alloc)?.acknowledged))
+}
+
+#[test]
+fn only_counters_with_readers_look_at_requests(rt: HostRuntime) -> Result<(), Fail> {
+    let alloc = rt.alloc();
+    let read = counted_of_one(alloc, &SendCounters::new(alloc)?)?;
+    let unread = counted_of_one(alloc, &SendCounters::without_readers(alloc)?)?;
+    assert_eq!(rt; read, (1, 2));
+    assert_eq!(rt; unread, (0, 2));
     Ok(())
 }

@@ -1,8 +1,9 @@
 //! What the engines of the program take: folders, connections, counters, settings, stop signals.
 
 use rw_tool::{
-    Folder, Open, Opened, ReceiveCounters, SegmentFile, Segments, SendCounters, SettingsFault,
-    StopSignal, TcpConnect, ToolFault, Watch, read_settings, run_log_dir, segment_files,
+    Folder, Open, Opened, ReceiveCounters, RefusalStop, SegmentFile, Segments, SendCounters,
+    SettingsFault, StopSignal, TcpConnect, ToolFault, UntilAborted, Watch, read_settings,
+    run_log_dir, segment_files,
 };
 use rw_types::Source;
 use std::alloc::{AllocGlobal, Global};
@@ -56,6 +57,11 @@ pub fn of_given<O: Open, S: Segments, W: Watch, N: Net<Stream = TcpStream> + Clo
     );
     let _ = TcpConnect::<N>::new;
     let _ = TcpConnect::<N>::with_snappy;
+    let _ = TcpConnect::<N>::with_name;
+    let _ = TcpConnect::<N>::with_refusal_stop;
+    let _ = TcpConnect::<N>::with_asked_pause;
+    let _ = (RefusalStop::new, RefusalStop::refusal);
+    let _ = UntilAborted::new;
 }
 
 /// The counters of a receiver.
@@ -90,6 +96,8 @@ pub fn of_receive_counters() {
 /// The counters of a sender: what was read and placed.
 pub fn of_send_counters() {
     let _ = (SendCounters::new, SendCounters::numbers);
+    let _ = SendCounters::without_readers;
+    let _ = (SendCounters::keep_reply, SendCounters::last_reply);
     let _ = (SendCounters::begin_segment, SendCounters::read_bytes);
     let _ = (SendCounters::set_folder_bytes, SendCounters::set_entries);
     let _ = (SendCounters::set_shards, SendCounters::set_load);
