@@ -4,12 +4,13 @@ ghost use Rattle.std.specs.Prelude.{◌≡◌};
 
 use crate::receiver::{Endpoint, Receiver};
 use rw_endpoint::Answer;
-use rw_recv_head::Seat;
+use rw_head::Head;
+use rw_recv_head::{Holding, Seat};
 use std::sync::{Arc, Wait};
 
 /// Asks a seat for the bodies of a connection's requests, and notes what it answered last.
 #[derive(Drop)]
-pub(crate) struct Asker<R, L: Endpoint> {
+pub(crate) struct Asker<R, L: Endpoint + Holding<Head>> {
     pub(crate) rt: R,
     pub(crate) receiver: Arc<Receiver<L>>,
     /// A seat of that receiver.
@@ -17,7 +18,7 @@ pub(crate) struct Asker<R, L: Endpoint> {
     pub(crate) status: Option<u16>,
 }
 
-impl<R: Drop, L: Endpoint> Asker<R, L> {
+impl<R: Drop, L: Endpoint + Holding<Head>> Asker<R, L> {
     /// Returns the seat.
     pub(crate) fn into_seat(self) -> Seat<L>
         ensures { result ≡ self.seat }
@@ -26,7 +27,7 @@ impl<R: Drop, L: Endpoint> Asker<R, L> {
     }
 }
 
-impl<R: Wait, L: Endpoint> Answer for Asker<R, L> {
+impl<R: Wait, L: Endpoint + Holding<Head>> Answer for Asker<R, L> {
     ghost use Rattle.std.specs.Prelude.{◌≡◌, Some};
     ghost use Rattle.rw_recv_head.specs.Seats.{HasAsked};
 

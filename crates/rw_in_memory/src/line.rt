@@ -11,8 +11,9 @@ use crate::asker::Asker;
 use crate::receiver::{Endpoint, Receiver};
 use http::StatusCode;
 use rw_endpoint::serve;
+use rw_head::Head;
 use rw_history::History;
-use rw_recv_head::Seat;
+use rw_recv_head::{Holding, Seat};
 use rw_types::Room;
 use rw_worker::{Exchanged, Lost, Reply, Transport};
 use std::alloc::Global;
@@ -23,7 +24,7 @@ use std::sync::{Arc, Wait};
 const REPLY_ROOM: usize = 86;
 
 /// Serves a connection with one request. Returns what the seat answered, if it was asked.
-fn ask<R: Wait, L: Endpoint>(
+fn ask<R: Wait, L: Endpoint + Holding<Head>>(
     alloc: Global,
     receiver: &Receiver<L>,
     asker: &mut Asker<R, L>,
@@ -69,14 +70,14 @@ fn note(seen: &mut History<Exchanged>, request: &[u8], answer: &Result<Reply, Lo
 ///
 /// What the endpoint refuses without asking is reported as lost.
 #[derive(Drop)]
-pub struct Line<R, L: Endpoint> {
+pub struct Line<R, L: Endpoint + Holding<Head>> {
     alloc: Global,
     receiver: Arc<Receiver<L>>,
     asker: Asker<R, L>,
     seen: History<Exchanged>,
 }
 
-impl<R, L: Endpoint> Model for Line<R, L> {
+impl<R, L: Endpoint + Holding<Head>> Model for Line<R, L> {
     ghost use Rattle.rw_in_memory.specs.Lines.{SeatLine, IsSeatLine};
 
     ghost Value = { SeatLine };
@@ -87,7 +88,7 @@ impl<R, L: Endpoint> Model for Line<R, L> {
         (record { seat = l.asker.seat; seen = l.seen }) };
 }
 
-impl<R, L: Endpoint> Line<R, L> {
+impl<R, L: Endpoint + Holding<Head>> Line<R, L> {
     /// Returns a transport whose seat was not asked yet. It takes two shares of one receiver, since
     /// the seat asks while its limits are lent.
     pub fn new(
@@ -115,7 +116,7 @@ impl<R, L: Endpoint> Line<R, L> {
     }
 }
 
-impl<R: Drop, L: Endpoint> Line<R, L> {
+impl<R: Drop, L: Endpoint + Holding<Head>> Line<R, L> {
     /// Returns the seat.
     pub fn into_seat(self) -> Seat<L>
         ensures seat { result ≡ self.seat }
@@ -131,7 +132,7 @@ impl<R: Drop, L: Endpoint> Line<R, L> {
     }
 }
 
-impl<R: Wait, L: Endpoint> Transport for Line<R, L> {
+impl<R: Wait, L: Endpoint + Holding<Head>> Transport for Line<R, L> {
     ghost use Rattle.std.specs.Prelude.{⊤};
     ghost use Rattle.rw_in_memory.specs.Lines.{IsSeatLine};
 

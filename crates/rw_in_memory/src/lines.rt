@@ -5,7 +5,8 @@ ghost use Rattle.std.specs.Prelude.{◌≡◌, [], All};
 use crate::line::Line;
 use crate::receiver::{Endpoint, Receiver};
 use rw_fleet::Connect;
-use rw_recv_head::Seat;
+use rw_head::Head;
+use rw_recv_head::{Holding, Seat};
 use rw_worker::Pause;
 use std::alloc::{AllocError, Global};
 use std::marker::Model;
@@ -14,7 +15,7 @@ use std::sync::{Arc, Wait};
 /// A seat for each shard, while there are any, and a pause for each worker. Contracts see the
 /// seats.
 #[derive(Drop)]
-pub struct Lines<R, L: Endpoint, P> {
+pub struct Lines<R, L: Endpoint + Holding<Head>, P> {
     rt: R,
     alloc: Global,
     receiver: Arc<Receiver<L>>,
@@ -22,7 +23,7 @@ pub struct Lines<R, L: Endpoint, P> {
     pause: P,
 }
 
-impl<R, L: Endpoint, P> Model for Lines<R, L, P> {
+impl<R, L: Endpoint + Holding<Head>, P> Model for Lines<R, L, P> {
     ghost use Rattle.std.specs.Prelude.{◌≡◌, List, [], All};
     ghost use Rattle.rw_recv_head.specs.Seats.{Seated};
 
@@ -33,7 +34,7 @@ impl<R, L: Endpoint, P> Model for Lines<R, L, P> {
     ghost invariant = { λ l. All (λ s. s.asked ≡ []) l.seats.items };
 }
 
-impl<R, L: Endpoint, P> Lines<R, L, P> {
+impl<R, L: Endpoint + Holding<Head>, P> Lines<R, L, P> {
     /// Returns transports over seats that were not asked yet.
     pub fn new(
         rt: R,
@@ -58,7 +59,7 @@ impl<R, L: Endpoint, P> Lines<R, L, P> {
 impl<R, L, P> Connect for Lines<R, L, P>
 where
     R: Wait + Copy + Send + 'static,
-    L: Endpoint + Send + Sync + 'static,
+    L: Endpoint + Holding<Head> + Send + Sync + 'static,
     P: Pause + Copy + Send + Drop + 'static,
 {
     type T = Line<R, L>;

@@ -9,7 +9,7 @@ use std::marker::{Brand, Model};
 
 /// Which receiver it is: its head, the path of its endpoint, and the most bytes of a body that the
 /// endpoint reads. Each call of a program picks it.
-pub trait Endpoint: Holding<Head> {
+pub trait Endpoint {
     ghost use Rattle.std.specs.Prelude.{ℕ, List};
 
     ghost path: { List ℕ };
@@ -28,12 +28,12 @@ impl Endpoint for Brand {
 /// A receiver: the limits of its endpoint, and the head that it asks. Contracts see among how many
 /// seats the head is shared.
 #[derive(Drop)]
-pub struct Receiver<L: Endpoint> {
+pub struct Receiver<L: Endpoint + Holding<Head>> {
     limits: Limits,
     shared: SharedHead<L>,
 }
 
-impl<L: Endpoint> Model for Receiver<L> {
+impl<L: Endpoint + Holding<Head>> Model for Receiver<L> {
     ghost use Rattle.std.specs.Prelude.{◌≡◌};
     ghost use Rattle.rw_recv_head.specs.Seats.{Opening};
 
@@ -44,7 +44,7 @@ impl<L: Endpoint> Model for Receiver<L> {
     ghost invariant = { λ r. (r.limits.path ≡ L.path) × (r.limits.max_body_bytes ≡ L.limit) };
 }
 
-impl<L: Endpoint> Receiver<L> {
+impl<L: Endpoint + Holding<Head>> Receiver<L> {
     /// Shares a head among `n` seats, which were not asked yet, over a blank of one part for each
     /// of them and one for the lock.
     pub fn open(

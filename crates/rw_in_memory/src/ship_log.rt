@@ -16,7 +16,7 @@ use crate::lines::Lines;
 use crate::receiver::{Endpoint, Receiver};
 use rw_head::{Head, Limits};
 use rw_ledger::Ledger;
-use rw_recv_head::{Blank, Seat};
+use rw_recv_head::{Blank, Holding, Seat};
 use rw_sender::{Connect, FeedFault, Outcome, Report, Shipper, StoppedShard};
 use rw_shard_core::{Config, Target};
 use rw_types::{Bounded, RequestPath};
@@ -60,7 +60,9 @@ fn feed_all<R: Wait, C: Connect + Drop>(
 }
 
 /// Returns the refused samples of a shard, and the seat of its worker's transport.
-fn part_and_seat<R: Drop, L: Endpoint>(shard: StoppedShard<Line<R, L>>) -> (Ledger, Seat<L>)
+fn part_and_seat<R: Drop, L: Endpoint + Holding<Head>>(
+    shard: StoppedShard<Line<R, L>>,
+) -> (Ledger, Seat<L>)
     ensures part { result.0 ≡ part_of shard }
     ensures seat { result.1 ≡ seat_of (finished_of shard) }
     ensures line { IsSeatLine L.opening L.path L.limit shard.finished.transport }
@@ -70,7 +72,7 @@ fn part_and_seat<R: Drop, L: Endpoint>(shard: StoppedShard<Line<R, L>>) -> (Ledg
 }
 
 /// Returns the dropped samples, and the seats of the workers' transports.
-fn parts_and_seats<R: Drop, L: Endpoint>(
+fn parts_and_seats<R: Drop, L: Endpoint + Holding<Head>>(
     alloc: Global,
     dropped: Ledger,
     shards: Vec<StoppedShard<Line<R, L>>>,
@@ -98,7 +100,7 @@ fn parts_and_seats<R: Drop, L: Endpoint>(
 /// Stops a shipper, and gathers the seats of its workers.
 fn gathered<
     R: Threads + Wait + Copy + Send + 'static,
-    L: Endpoint + Send + Sync + 'static,
+    L: Endpoint + Holding<Head> + Send + Sync + 'static,
     P: Pause + Copy + Send + Drop + 'static,
 >(
     rt: &R,
@@ -134,7 +136,7 @@ fn gathered<
 }
 
 /// Returns transports to a receiver, beside a share of it, and a stop flag.
-fn lined<R: Copy, L: Endpoint, P: Copy>(
+fn lined<R: Copy, L: Endpoint + Holding<Head>, P: Copy>(
     rt: R,
     alloc: Global,
     receiver: Receiver<L>,
@@ -153,7 +155,7 @@ fn lined<R: Copy, L: Endpoint, P: Copy>(
 /// Ships a log to a receiver, each shard from its own seat.
 fn ship_to<
     R: Threads + Wait + Copy + Send + 'static,
-    L: Endpoint + Send + Sync + 'static,
+    L: Endpoint + Holding<Head> + Send + Sync + 'static,
     P: Pause + Copy + Send + Drop + 'static,
 >(
     rt: &R,
@@ -181,7 +183,7 @@ fn ship_to<
 /// Shares a head among as many seats as there are shards, and ships a log to it.
 fn ship_shared<
     R: Threads + Wait + Copy + Send + 'static,
-    L: Endpoint + Send + Sync + 'static,
+    L: Endpoint + Holding<Head> + Send + Sync + 'static,
     P: Pause + Copy + Send + Drop + 'static,
 >(
     rt: &R,

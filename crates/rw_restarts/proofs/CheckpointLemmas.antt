@@ -68,13 +68,13 @@ rest-same full cp (Sample q t w ∷ es) l same =
     used false h = absurd (true≢false (sym h))
 
 -- the samples of the log as it is read
-pub whole-parts : (floor : Labels → ℤ) (full cp later : List Entry) (l : Labels) → IsCheckpointFor floor full cp later
-    → pairs_of (samples_after l [] (cp ++ later)) ≡ those_from (floor l) (pairs_of (samples_after l [] full)) ++ pairs_of (samples_after l full later)
+pub whole-parts : (floor : ℤ) (full cp later : List Entry) (l : Labels) → IsCheckpointFor floor l full cp later
+    → pairs_of (samples_after l [] (cp ++ later)) ≡ those_from floor (pairs_of (samples_after l [] full)) ++ pairs_of (samples_after l full later)
 whole-parts floor full cp later l is =
     ap pairs_of (samples_after-append l [] cp later)
     ∙ map-append (λ (p : ℕ × ℤ × ℕ). (p.1, p.2)) (samples_after l [] cp) (samples_after l cp later)
-    ∙ ap (λ ys. ys ++ pairs_of (samples_after l cp later)) (is.samples l)
-    ∙ ap (λ ys. those_from (floor l) (pairs_of (samples_after l [] full)) ++ ys) (rest-same full cp later l is.labels)
+    ∙ ap (λ ys. ys ++ pairs_of (samples_after l cp later)) is.samples
+    ∙ ap (λ ys. those_from floor (pairs_of (samples_after l [] full)) ++ ys) (rest-same full cp later l is.labels)
 
 -- ---- what is owed
 -- the pairs of a kept label set, in two parts
@@ -104,7 +104,7 @@ owed-longer choice log more l = by_kept (is_kept choice l) refl
         (rising_after P Q, ap rising (two_parts choice log more l keep) ∙ rising_after-append [] P Q ∙ ap (λ ys. ys ++ rising_after P Q) (sym one))
     by_kept false drop = ([], no_points choice (log ++ more) l drop ∙ sym (no_points choice log l drop) ∙ sym (append-nil (owed_of choice log l)))
 
-pub owed-end : (choice : Choice) (floor : Labels → ℤ) (full cp later : List Entry) (l : Labels) → IsCheckpointFor floor full cp later → IsInTime floor full later
+pub owed-end : (choice : Choice) (floor : ℤ) (full cp later : List Entry) (l : Labels) → IsCheckpointFor floor l full cp later → IsInTime floor l full later
     → EndsWith (owed_of choice (full ++ later) l) (owed_of choice (cp ++ later) l)
 owed-end choice floor full cp later l is in_time = by_kept (is_kept choice l) refl
   where
@@ -117,15 +117,15 @@ owed-end choice floor full cp later l is in_time = by_kept (is_kept choice l) re
     by_kept : (b : Bool) → is_kept choice l ≡ b → EndsWith (owed_of choice (full ++ later) l) (owed_of choice (cp ++ later) l)
     by_kept true keep =
         let whole : owed_of choice (full ++ later) l ≡ rising (P ++ Q) = ap rising (two_parts choice full later l keep) in
-        let kept_parts : those_from (floor l) (P ++ Q) ≡ those_from (floor l) P ++ Q = filter-append (is_from (floor l)) P Q ∙ ap (λ ys. those_from (floor l) P ++ ys) (all_from (floor l) Q (in_time l)) in
-        let window : owed_of choice (cp ++ later) l ≡ rising (those_from (floor l) (P ++ Q)) =
-        ap rising (two_parts choice cp later l keep ∙ ap (λ ys. ys ++ pairs_of (samples_after l cp later)) (is.samples l) ∙ ap (λ ys. those_from (floor l) P ++ ys) (rest-same full cp later l is.labels) ∙ sym kept_parts) in
-        let end = floor-end (floor l) (P ++ Q) in
+        let kept_parts : those_from floor (P ++ Q) ≡ those_from floor P ++ Q = filter-append (is_from floor) P Q ∙ ap (λ ys. those_from floor P ++ ys) (all_from floor Q in_time) in
+        let window : owed_of choice (cp ++ later) l ≡ rising (those_from floor (P ++ Q)) =
+        ap rising (two_parts choice cp later l keep ∙ ap (λ ys. ys ++ pairs_of (samples_after l cp later)) is.samples ∙ ap (λ ys. those_from floor P ++ ys) (rest-same full cp later l is.labels) ∙ sym kept_parts) in
+        let end = floor-end floor (P ++ Q) in
         (end.0, whole ∙ end.1 ∙ ap (λ ys. end.0 ++ ys) (sym window))
     by_kept false drop = ([], no_points choice (full ++ later) l drop ∙ sym (no_points choice (cp ++ later) l drop))
 
 -- and so, after some samples, a prefix of what a longer log owes
-pub owed-part : (choice : Choice) (floor : Labels → ℤ) (full cp later more : List Entry) (l : Labels) → IsCheckpointFor floor full cp later → IsInTime floor full later
+pub owed-part : (choice : Choice) (floor : ℤ) (full cp later more : List Entry) (l : Labels) → IsCheckpointFor floor l full cp later → IsInTime floor l full later
     → (earlier : List Point) × Begins (earlier ++ owed_of choice (cp ++ later) l) (owed_of choice ((full ++ later) ++ more) l)
 owed-part choice floor full cp later more l is in_time =
     let end = owed-end choice floor full cp later l is in_time in

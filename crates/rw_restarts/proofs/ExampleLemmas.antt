@@ -1,5 +1,5 @@
 -- The small history is one of those that the laws speak of.
-use Rattle.std.proofs.Common.{◌≡◌, ℕ, zero, suc, ◌<◌, Bool, true, false, cond, List, [], ◌∷◌, ◌++◌, length, slice_get, Option, Some, None, Ok, refl, sym, ap, ◌∙◌, subst, arith}
+use Rattle.std.proofs.Common.{◌≡◌, inl, ℕ, zero, suc, ◌<◌, Bool, true, false, cond, List, [], ◌∷◌, ◌++◌, length, slice_get, Option, Some, None, Ok, refl, sym, ap, ◌∙◌, subst, arith}
 use Rattle.std.proofs.lemmas.Option.{same_Some}
 use Rattle.std.specs.FinMap.{empty}
 use Rattle.rw_types.specs.Beginnings.{Begins}
@@ -8,14 +8,14 @@ use Rattle.rw_types.specs.Labels.{Labels}
 use Rattle.rw_types.specs.LabelOrder.{labels_eq}
 use Rattle.rw_types.proofs.shared.OrderLemmas.{equal_if_same}
 use Rattle.rw_retry.specs.declared.judgement.Judgement.{Judgement}
-use Rattle.rw_retry.specs.declared.judgement.Judgement.TheVariants.{Done, Again}
+use Rattle.rw_retry.specs.declared.judgement.Judgement.TheVariants.{Done, Again, Refused}
 use Rattle.rw_head.specs.Order.{Point, accept}
 use Rattle.rw_head.specs.Store.{Store, list_of, with_list}
-use Rattle.rw_head.specs.Verdicts.{accepted, refusal, taken_all, taken_unless}
+use Rattle.rw_head.specs.Verdicts.{LabelLimits, accepted, refusal, taken_all, taken_unless}
 use Rattle.rw_head.proofs.shared.StoreLemmas.{list_of-empty, list_of-with_list}
 use Rattle.rw_restarts.specs.Parts.{points_in, AreWithinLimits}
-use Rattle.rw_restarts.specs.Runs.{SentMessage, SenderRun, IsSentBy, IsRunOver, AreRunsOver, acknowledged_in}
-use Rattle.rw_restarts.specs.Receivers.{ReceiverEvent, Answers, RestartsDuring, Brings, Happens, IsAnsweredAmong, IsReceiverOf}
+use Rattle.rw_restarts.specs.Runs.{SentMessage, SenderRun, IsSentBy, SendsNext, IsRunOver, AreRunsOver, acknowledged_in}
+use Rattle.rw_restarts.specs.Receivers.{ReceiverEvent, Answers, RestartsDuring, Brings, Happens, IsAnsweredAmong, IsReceiverOf, CanBeTaken, HasNoGap}
 use Rattle.rw_restarts.specs.Examples.{example_series, first, second, whole, message_of, sent_with, killed_run, second_run, runs, limits, events, with_first, with_both, states}
 
 nothing_at : {X : Type 0} (x : X) (n : ℕ) → (let none : List X = [] in slice_get none n ≡ Some x) → ⊥
@@ -65,12 +65,12 @@ in_order : (run : SenderRun) (answer : Option Judgement) → run ≡ record { ea
 in_order run answer same = subst (IsRunOver whole) (sym same) over
   where
     over : IsRunOver whole (record { earlier = λ l. []; sent = sent_with first (Some Done) ∷ sent_with second answer ∷ [] })
-    over zero x l is fine = subst (λ (y : SentMessage). Begins (points_in l y.message) (whole l)) (same_Some (sent_with first (Some Done)) x is) (both_in_order l (labels_eq l example_series) refl)
-    over (suc zero) x l is fine = subst (λ (y : SentMessage). Begins (((points_in l (message_of first)) ++ []) ++ points_in l y.message) (whole l)) (same_Some (sent_with second answer) x is) (second_in_order (labels_eq l example_series))
-    over (suc (suc n)) x l is fine = absurd (nothing_at x n is)
+    over l zero x is fine = subst (λ (y : SentMessage). Begins (points_in l y.message) (whole l)) (same_Some (sent_with first (Some Done)) x is) (both_in_order l (labels_eq l example_series) refl)
+    over l (suc zero) x is fine = subst (λ (y : SentMessage). Begins (((points_in l (message_of first)) ++ []) ++ points_in l y.message) (whole l)) (same_Some (sent_with second answer) x is) (second_in_order (labels_eq l example_series))
+    over l (suc (suc n)) x is fine = absurd (nothing_at x n is)
 
 pub runs-are-over : AreRunsOver whole runs
-runs-are-over = each_run (IsRunOver whole) (in_order killed_run None refl) (in_order second_run (Some Done) refl)
+runs-are-over l = each_run (SendsNext l (whole l)) (in_order killed_run None refl l) (in_order second_run (Some Done) refl l)
 
 -- ---- what the receiver does
 pub list_is : (xs : List Point) (store : Store) → list_of (with_list example_series xs store) example_series ≡ xs
@@ -80,10 +80,15 @@ list_is xs store = list_of-with_list example_series xs store example_series ∙ 
 pub taken_series : refusal limits example_series ≡ None
 taken_series = refl
 
-pub takes : (p : Point) (store : Store) (xs ys : List Point) → list_of store example_series ≡ xs → accept (Some xs) (p ∷ []) ≡ Some ys → taken_all limits (Ok store) (message_of p) ≡ Ok (with_list example_series ys store)
-takes p store xs ys has gives =
-    ap (λ o. taken_unless o store (record { labels = example_series; samples = (p.1, p.0) ∷ [] })) taken_series
+-- by any limits that do not refuse it
+pub taken-by-limits : (some_limits : LabelLimits) → refusal some_limits example_series ≡ None → (p : Point) (store : Store) (xs ys : List Point) → list_of store example_series ≡ xs → accept (Some xs) (p ∷ []) ≡ Some ys
+    → taken_all some_limits (Ok store) (message_of p) ≡ Ok (with_list example_series ys store)
+taken-by-limits some_limits fine p store xs ys has gives =
+    ap (λ o. taken_unless o store (record { labels = example_series; samples = (p.1, p.0) ∷ [] })) fine
     ∙ ap (λ zs. accepted example_series store (accept (Some zs) (p ∷ []))) has ∙ ap (accepted example_series store) gives
+
+pub takes : (p : Point) (store : Store) (xs ys : List Point) → list_of store example_series ≡ xs → accept (Some xs) (p ∷ []) ≡ Some ys → taken_all limits (Ok store) (message_of p) ≡ Ok (with_list example_series ys store)
+takes = taken-by-limits limits taken_series
 
 grows : (store : Store) (l : Labels) → Begins (list_of (with_list example_series (first ∷ []) store) l) (list_of (with_both (with_list example_series (first ∷ []) store)) l)
 grows store l =
@@ -101,7 +106,7 @@ sent_at i n run x at is = record { exists = at; is = is }
 happens : (at : ℕ) (event : ReceiverEvent) → slice_get events at ≡ Some event → Happens limits runs event (states at) (states (suc at))
 happens zero event e =
     subst (λ (v : ReceiverEvent). Happens limits runs v (states 0) (states 1)) (same_Some (Answers 0 0 Done) event e)
-    (record { run = killed_run; x = sent_with first (Some Done); is = sent_at 0 0 killed_run (sent_with first (Some Done)) refl refl; judged = (takes first empty [] (first ∷ []) (list_of-empty example_series) refl, refl) })
+    (record { run = killed_run; x = sent_with first (Some Done); is = sent_at 0 0 killed_run (sent_with first (Some Done)) refl refl; judged = inl (takes first empty [] (first ∷ []) (list_of-empty example_series) refl, refl) })
 happens (suc zero) event e =
     subst (λ (v : ReceiverEvent). Happens limits runs v (states 1) (states 2)) (same_Some (RestartsDuring 0 1) event e)
     (record {
@@ -114,10 +119,10 @@ happens (suc zero) event e =
     })
 happens (suc (suc zero)) event e =
     subst (λ (v : ReceiverEvent). Happens limits runs v (states 2) (states 3)) (same_Some (Answers 1 0 Done) event e)
-    (record { run = second_run; x = sent_with first (Some Done); is = sent_at 1 0 second_run (sent_with first (Some Done)) refl refl; judged = (takes first (with_both with_first) (first ∷ second ∷ []) (first ∷ second ∷ []) (list_is (first ∷ second ∷ []) with_first) refl, refl) })
+    (record { run = second_run; x = sent_with first (Some Done); is = sent_at 1 0 second_run (sent_with first (Some Done)) refl refl; judged = inl (takes first (with_both with_first) (first ∷ second ∷ []) (first ∷ second ∷ []) (list_is (first ∷ second ∷ []) with_first) refl, refl) })
 happens (suc (suc (suc zero))) event e =
     subst (λ (v : ReceiverEvent). Happens limits runs v (states 3) (states 4)) (same_Some (Answers 1 1 Done) event e)
-    (record { run = second_run; x = sent_with second (Some Done); is = sent_at 1 1 second_run (sent_with second (Some Done)) refl refl; judged = (takes second (with_both (with_both with_first)) (first ∷ second ∷ []) (first ∷ second ∷ []) (list_is (first ∷ second ∷ []) (with_both with_first)) refl, refl) })
+    (record { run = second_run; x = sent_with second (Some Done); is = sent_at 1 1 second_run (sent_with second (Some Done)) refl refl; judged = inl (takes second (with_both (with_both with_first)) (first ∷ second ∷ []) (first ∷ second ∷ []) (list_is (first ∷ second ∷ []) (with_both with_first)) refl, refl) })
 happens (suc (suc (suc (suc n)))) event e = absurd (nothing_at event n e)
 
 -- ---- the network
@@ -161,7 +166,6 @@ nothing_earlier i run l ys at = each_run (λ (r : SenderRun). Begins (r.earlier 
 
 pub receiver-is : IsReceiverOf limits runs events states
 receiver-is = record {
-  within = λ i n run x sent. each_message (λ i n (x : SentMessage). AreWithinLimits limits x.message) (taken_series, tt) (taken_series, tt) (taken_series, tt) (taken_series, tt) i n run x sent.exists sent.is;
   begins = λ l. (list_of-empty l, list_of-empty l);
   happens = happens;
   answers = record {
@@ -169,5 +173,24 @@ receiver-is = record {
     before = λ at event i k n run y x j l e b sent earlier lt said some more.
         before at event i k n j e b lt (λ own none. first_done i k run y j earlier said none) (λ own none. first_done i k run y j earlier said none);
   };
-  covered = λ at event i n run x l e b sent. nothing_earlier i run l (list_of (states at).acknowledged l) sent.exists;
+}
+
+pub can-be-taken : CanBeTaken limits runs events states (λ l. true)
+can-be-taken = record {
+  alone = λ i n run x l sent own some k has. refl;
+  within = λ i n run x sent only. each_message (λ i n (x : SentMessage). AreWithinLimits limits x.message) (taken_series, tt) (taken_series, tt) (taken_series, tt) (taken_series, tt) i n run x sent.exists sent.is;
+  covered = λ l own at event i n run x e b sent some. nothing_earlier i run l (list_of (states at).acknowledged l) sent.exists;
+}
+
+never_in : (at i n : ℕ) → slice_get events at ≡ Some (Answers i n Refused) → ⊥
+never_in zero i n e = cc (e)
+never_in (suc zero) i n e = cc (e)
+never_in (suc (suc zero)) i n e = cc (e)
+never_in (suc (suc (suc zero))) i n e = cc (e)
+never_in (suc (suc (suc (suc at)))) i n e = cc (e)
+
+pub no-gap : (l : Labels) → HasNoGap runs events states l
+no-gap l = record {
+  unrefused = λ at i n run x e sent. absurd (never_in at i n e);
+  covered = can-be-taken.covered l refl;
 }

@@ -44,7 +44,7 @@ use Rattle.rw_restarts.specs.Examples.{example_series, first, message_of, with_f
 use Rattle.rw_restarts.specs.WireExamples as wire
 use Rattle.rw_restarts.specs.KeptExamples.{ExampleJournal, seen, may_leave, moment, left_since, tears, definition_written, sample_written, written, begun_header, torn, opened_over, cut_journal, written_over, kept_with, events, states}
 use Rattle.rw_restarts.proofs.CarriedLemmas.{RequestsAreRead}
-use Rattle.rw_restarts.proofs.WireExampleLemmas.{short_message, is_message, none-earlier, body_is, runs, here, taken, comes-among, runs-are, nothing-before}
+use Rattle.rw_restarts.proofs.WireExampleLemmas.{short_message, is_message, none-earlier, body_is, runs, here, taken, comes-among, runs-are, all-short}
 
 -- ---- what is read of the log
 abbrev defined : List Entry
@@ -354,7 +354,7 @@ module _ (reads : (m : WriteRequest) → IsMessage m → read (canon m) ≡ Ok m
     w = wire.run worker shared;
     x = wire.exchange worker shared;
     is = here reads worker shared;
-    answered = (record { body = body; reads = is-carried; answered = answers_204 definition_written sample_written begun_header after-definition }, different);
+    answered = inl (record { body = body; reads = is-carried; answered = answers_204 definition_written sample_written begun_header after-definition }, different);
     acknowledged = refl;
   }
 
@@ -384,9 +384,9 @@ module _ (reads : (m : WriteRequest) → IsMessage m → read (canon m) ≡ Ok m
     opened = opened-empty;
     none_yet = refl;
     happens = happens;
+    reads = λ p w x text is read. all-short reads worker shared p w x is;
     answers = record {
       all = comes-among reads worker shared events 3 1 (omega arith) refl;
       later = λ at event p q w x r e b earlier is answer. absurd (none_before at event p q e b earlier);
     };
-    covered = λ at event p w l e b exists. nothing-before reads worker shared p w l (list_of (states at).acknowledged l) exists;
   }

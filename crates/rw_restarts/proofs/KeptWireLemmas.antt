@@ -1,7 +1,7 @@
 -- A receiver whose head is kept in a journal is one of those to which requests come over the wire.
 use Rattle.std.proofs.Common.{◌≡◌, ◌≢◌, ◌⊎◌, inl, inr, ℕ, zero, suc, ◌≤◌, nat_lt, Bool, true, false, List, length, map, Option, None, Some, Result, Ok, Err, refl, sym, ap, ◌∙◌, subst, arith}
 use Rattle.std.specs.List.{AllByRecursion}
-use Rattle.std.proofs.lemmas.Bool.{cond-false, le-ltb}
+use Rattle.std.proofs.lemmas.Bool.{cond-true, cond-false, le-ltb, lt-ltb}
 use Rattle.std.proofs.lemmas.Bool.Decides.{eqb_tells}
 use Rattle.std.proofs.lemmas.Option.{slice_get_within}
 use Rattle.rw_types.specs.Beginnings.{Begins}
@@ -35,8 +35,8 @@ use Rattle.rw_kept_head.specs.Kept.{Kept, SaysWhat, LiesBetween, IsLeft, HasNoCh
 use Rattle.rw_restarts.specs.Arrivals.{Receives}
 use Rattle.rw_restarts.specs.Receivers.{IsRestarted, state_of}
 use Rattle.rw_restarts.specs.KeptReceivers.{acknowledged_after}
-use Rattle.rw_restarts.specs.WireReceivers.{RunOfWorkers, WireEvent, Comes, Reopens, ReopensDuring, receiver_state, HasShortBody, HappensOnWire, HoldsLogByWire}
-use Rattle.rw_restarts.specs.KeptWireReceivers.{KeptState, wire_state, IsSound, IsOpenedFrom, IsAskedFor, IsAnsweredKept, IsAskedMore, IsCrash, IsIdleCrash, IsCrashAtRefused, HasReopened, HappensToKept, IsKeptReceiver, IsWireReceiverKept, HoldsLogKept}
+use Rattle.rw_restarts.specs.WireReceivers.{RunOfWorkers, WireEvent, Comes, Reopens, ReopensDuring, receiver_state, HasShortBody, HappensOnWire, HoldsLogByWire, RefusesNone}
+use Rattle.rw_restarts.specs.KeptWireReceivers.{KeptState, wire_state, ReadsCarried, HasLongBody, IsSound, IsOpenedFrom, IsAskedFor, IsAnsweredKept, IsAskedMore, IsCrash, IsIdleCrash, IsCrashAtRefused, HasReopened, HappensToKept, IsKeptReceiver, IsWireReceiverKept, HoldsLogKept, RefusesNoneKept}
 use Rattle.rw_restarts.proofs.CarriedLemmas.{RequestLaws, carries}
 use Rattle.rw_restarts.proofs.AnswerLemmas.{answers-taken, answers-kept}
 use Rattle.rw_restarts.proofs.KeptReceiverLemmas.{opened-again}
@@ -129,8 +129,15 @@ module _ {J : Type 0} (seen : J → Segments) (may_leave : J → Segments → Ty
         ∙ let status_is = sym (asked.answered.status_is up) in let head_is = sym (asked.answered.head up) in
         λ i. record { status = status_is i; head = head_is i }
 
-    received : (how : How) → HasShortBody c request → IsAnsweredKept seen may_leave moment left_since tears c how request old status new → Receives c how request old.head status new.head
-    received Plain short (asked, up) = asked_plain short asked up
+    too_long : status ≡ 413 → new ≡ old → HasLongBody c request → Receives c Plain request old.head status new.head
+    too_long is same long batch again carried =
+        cond-true (nat_lt c.max_body (length (body_of batch))) (record { status = 413; head = old.head }) (answer_to old.head (Ok (message (map labelled batch)))) (lt-ltb c.max_body (length (body_of batch)) (long batch again carried))
+        ∙ let status_is = sym is in let head_is = ap (λ (k : Kept J). k.head) (sym same) in
+        λ i. record { status = status_is i; head = head_is i }
+
+    received : (how : How) → ((body : List ℕ) → ReadsCarried c request body → HasShortBody c request) → IsAnsweredKept seen may_leave moment left_since tears c how request old status new → Receives c how request old.head status new.head
+    received Plain short (inl (asked, up)) = asked_plain (short asked.body asked.reads) asked up
+    received Plain short (inr (is, same, long)) = too_long is same long
     received Busy short (is, same) = (is, ap (λ (k : Kept J). k.head) same)
     received OutOfMemory short (is, inl same) = (is, ap (λ (k : Kept J). k.head) same)
     received OutOfMemory short (is, inr asked) = (is, asked.answered.unavailable is)
@@ -138,7 +145,8 @@ module _ {J : Type 0} (seen : J → Segments) (may_leave : J → Segments → Ty
   module _ (c : Setup) (request : List ℕ) (old new : Kept J) (status : ℕ) where
     -- what is so of the head as it was, and after an answer, is so then
     after-answer : (P : Kept J → Type 0) → P old → ((body : List ℕ) → Answered old body status new → P new) → (how : How) → IsAnsweredKept seen may_leave moment left_since tears c how request old status new → P new
-    after-answer P before next Plain (asked, up) = next asked.body asked.answered
+    after-answer P before next Plain (inl (asked, up)) = next asked.body asked.answered
+    after-answer P before next Plain (inr (is, same, long)) = subst P (sym same) before
     after-answer P before next Busy (is, same) = subst P (sym same) before
     after-answer P before next OutOfMemory (is, inl same) = subst P (sym same) before
     after-answer P before next OutOfMemory (is, inr asked) = next asked.body asked.answered
@@ -223,7 +231,7 @@ module _ {J : Type 0} (seen : J → Segments) (may_leave : J → Segments → Ty
         w = h.w;
         x = h.x;
         is = h.is;
-        received = received laws c r.sound h.x.request (states t).kept (states (suc t)).kept status how (r.runs_are.short p h.w h.x h.is) h.answered;
+        received = received laws c r.sound h.x.request (states t).kept (states (suc t)).kept status how (λ body reads. r.reads p h.w h.x body h.is reads) h.answered;
         acknowledged = h.acknowledged;
       }
       happens Reopens h = reopens h
@@ -232,7 +240,7 @@ module _ {J : Type 0} (seen : J → Segments) (may_leave : J → Segments → Ty
         x = h.x;
         is = h.is;
         most = most t le h.body h.left h.crash;
-        judged = λ batch again is. most-taken t le h.body h.left h.crash batch again (carries laws c r.sound h.x.request h.body h.reads batch is (r.runs_are.short p h.w h.x h.is batch again is)) h.taken;
+        judged = λ batch again is. most-taken t le h.body h.left h.crash batch again (carries laws c r.sound h.x.request h.body h.reads batch is (r.reads p h.w h.x h.body h.is h.reads batch again is)) h.taken;
         restarted = restarted (states t).kept.head.store (most t le h.body h.left h.crash) (states (suc t)).kept.head.store (states t).acknowledged (states (suc t)).acknowledged h.left h.acknowledged had (left-between t le h.body h.left h.crash)
             (started c.limits h.tries h.left (states (suc t)).kept h.opened).says;
       }
@@ -265,7 +273,6 @@ module _ {J : Type 0} (seen : J → Segments) (may_leave : J → Segments → Ty
           let within = slice_get_within events at event is in
           happens at (omega (arith, within)) (acknowledged at (omega (arith, within))) event (r.happens at event is);
       answers = r.answers;
-      covered = r.covered;
     }
 
   pub kept-on-wire : RequestLaws → ((ended : Option Segments) (old new : Store) (segments left : Segments) → SaysWhat segments old → AllByRecursion (IsWholeText page_size) segments → ((l : Labels) → Begins (list_of old l) (list_of new l)) → (x : IsLeft tears ended new segments left) → HasNoChance tears ended new x.base left x.is → LiesBetween old new left)
@@ -273,6 +280,11 @@ module _ {J : Type 0} (seen : J → Segments) (may_leave : J → Segments → Ty
   kept-on-wire laws between c runs events states r = wire_receiver laws between c runs events states r r
 
   pub kept-holds : RequestLaws → ((ended : Option Segments) (old new : Store) (segments left : Segments) → SaysWhat segments old → AllByRecursion (IsWholeText page_size) segments → ((l : Labels) → Begins (list_of old l) (list_of new l)) → (x : IsLeft tears ended new segments left) → HasNoChance tears ended new x.base left x.is → LiesBetween old new left)
-      → (c : Setup) (runs : List RunOfWorkers) (events : List WireEvent) (states : ℕ → KeptState J) (choice : Choice) (log : List Entry)
-      → HoldsLogByWire c runs events (λ (at : ℕ). wire_state (states at)) choice log → HoldsLogKept seen may_leave moment left_since tears c runs events states choice log
-  kept-holds laws between c runs events states choice log holds r over = holds (wire_receiver laws between c runs events states r r) over
+      → (c : Setup) (runs : List RunOfWorkers) (events : List WireEvent) (states : ℕ → KeptState J) (choice : Choice) (log : List Entry) (l : Labels)
+      → HoldsLogByWire c runs events (λ (at : ℕ). wire_state (states at)) choice log l → HoldsLogKept seen may_leave moment left_since tears c runs events states choice log l
+  kept-holds laws between c runs events states choice log l holds r over no_gap = holds (wire_receiver laws between c runs events states r r) over no_gap
+
+  pub kept-refuses-none : RequestLaws → ((ended : Option Segments) (old new : Store) (segments left : Segments) → SaysWhat segments old → AllByRecursion (IsWholeText page_size) segments → ((l : Labels) → Begins (list_of old l) (list_of new l)) → (x : IsLeft tears ended new segments left) → HasNoChance tears ended new x.base left x.is → LiesBetween old new left)
+      → (c : Setup) (runs : List RunOfWorkers) (events : List WireEvent) (states : ℕ → KeptState J) (choice : Choice) (log : List Entry) (among : Labels → Bool)
+      → RefusesNone c runs events (λ (at : ℕ). wire_state (states at)) choice log among → RefusesNoneKept seen may_leave moment left_since tears c runs events states choice log among
+  kept-refuses-none laws between c runs events states choice log among none r over can short = none (wire_receiver laws between c runs events states r r) over can short

@@ -11,16 +11,19 @@ mod ListedLemmas
 mod LogLemmas
 mod OpenExampleLemmas
 pub mod OwedLemmas
+mod NeverRefusedLemmas
 mod PartLemmas
 mod PlaceLemmas
 mod ReceivedLemmas
 mod RefusalLemmas
+mod RefusedExampleLemmas
 mod RelayLemmas
 mod RunLemmas
 mod SenderLemmas
 mod ServedLemmas
 mod ShardLemmas
 mod StoppedLemmas
+mod TakenLemmas
 mod TurnLemmas
 mod WireExampleLemmas
 mod WireLemmas

@@ -1,32 +1,28 @@
 -- What a receiver holds that refused messages.
-use Rattle.std.proofs.Common.{◌≡◌, ⊎_elim, ℕ, zero, suc, ◌<◌, ◌≤◌, Bool, true, false, cond, List, [], ◌∷◌, ◌++◌, length, slice_get, append-nil, Option, Some, None, Result, Ok, Err, refl, sym, ap, ◌∙◌, subst, arith}
+use Rattle.std.proofs.Common.{◌≡◌, ⊎_elim, ℕ, zero, suc, ◌<◌, ◌≤◌, Bool, true, false, cond, List, [], ◌∷◌, ◌++◌, length, slice_get, append-nil, Option, Some, None, Ok, refl, sym, ◌∙◌, subst, arith}
 use Rattle.std.specs.List.{AllByRecursion}
 use Rattle.std.proofs.lemmas.Bool.{cases_lt}
 use Rattle.rw_types.specs.Beginnings.{Begins}
 use Rattle.rw_types.specs.Labels.{Labels}
-use Rattle.rw_types.specs.LabelOrder.{labels_eq}
 use Rattle.rw_types.specs.Rising.{Rises}
-use Rattle.rw_types.proofs.shared.AllLemmas.{AllByRecursion-append, AllByRecursion-weaker}
+use Rattle.rw_types.proofs.shared.AllLemmas.{AllByRecursion-weaker}
 use Rattle.rw_types.proofs.shared.BeginningLemmas.{begins_itself, begins_twice}
 use Rattle.rw_types.proofs.shared.RisingLemmas.{Rises-left}
-use Rattle.rw_types.proofs.shared.OrderLemmas.{same_if_equal}
-use Rattle.rw_write_request.specs.Message.{TimeSeries, WriteRequest}
+use Rattle.rw_write_request.specs.Message.{WriteRequest}
 use Rattle.rw_retry.specs.declared.judgement.Judgement.TheVariants.{Done, Again, Refused}
-use Rattle.rw_head.specs.declared.verdict.Verdict.{Verdict}
 use Rattle.rw_head.specs.Growth.{EachRises}
 use Rattle.rw_head.specs.Lists.{IsEarlier}
-use Rattle.rw_head.specs.Order.{Point, points, accept, accept_one, holds, is_later}
-use Rattle.rw_head.specs.Store.{Store, list_of, with_list}
-use Rattle.rw_head.specs.Verdicts.{LabelLimits, refusal, accepted, taken, taken_unless, taken_all}
+use Rattle.rw_head.specs.Order.{Point, accept, accept_one, holds, is_later}
+use Rattle.rw_head.specs.Store.{Store, list_of}
+use Rattle.rw_head.specs.Verdicts.{LabelLimits, taken, taken_all}
 use Rattle.rw_head.proofs.shared.OrderLemmas.{accept-none, Rises-later}
-use Rattle.rw_head.proofs.shared.StoreLemmas.{list_of-with_list}
-use Rattle.rw_head.proofs.shared.VerdictLemmas.{taken_all-err}
 use Rattle.rw_restarts.specs.Parts.{points_in}
 use Rattle.rw_restarts.specs.Runs.{SentMessage, SenderRun, IsSentBy}
 use Rattle.rw_restarts.specs.Receivers.{ReceiverEvent, Answers, Restarts, RestartsDuring, ReceiverState, IsRestarted}
 use Rattle.rw_restarts.specs.Refusals.{IsAnyReceiver, HoldsAcknowledged}
 use Rattle.rw_head.proofs.shared.OrderRule.{holds_append, holds_right, holds_own}
 use Rattle.rw_restarts.proofs.RunLemmas.{get_some, same_request}
+use Rattle.rw_restarts.proofs.TakenLemmas.{taken_all-lists, answers-done, answers-again, answers-refused-same}
 
 -- ---- one list
 abbrev pub AreHeld : List Point → List Point → Type 0
@@ -78,59 +74,13 @@ list_taken (s ∷ ss) xs ys up e = by_first (accept_one xs s) refl e (λ zs. lis
 abbrev pub TookAll : Store → WriteRequest → Store → Type 0
 TookAll store m next = (l : Labels) → Took (list_of store l) (points_in l m) (list_of next l)
 
-ok_is : (a b : Store) → (let no : Result Store Verdict = Ok a in no ≡ Ok b) → a ≡ b
-ok_is a b e = cc e
-
-no_ok : (v : Verdict) (b : Store) → (let no : Result Store Verdict = Err v in no ≡ Ok b) → ⊥
-no_ok v b e = cc e
-
--- what one series makes of each list
-series_took : (s : TimeSeries) (store : Store) (ys : List Point) → EachRises store → accept (Some (list_of store s.labels)) (points s.samples) ≡ Some ys
-    → (l : Labels) → Took (list_of store l) (cond (labels_eq l s.labels) (points s.samples) []) (list_of (with_list s.labels ys store) l)
-series_took s store ys up e l = by_label (labels_eq l s.labels) refl
-  where
-    by_label : (b : Bool) → labels_eq l s.labels ≡ b → Took (list_of store l) (cond b (points s.samples) []) (list_of (with_list s.labels ys store) l)
-    by_label true at =
-        let same : l ≡ s.labels = same_if_equal l s.labels at in
-        let is : list_of (with_list s.labels ys store) l ≡ ys = list_of-with_list s.labels ys store l ∙ ap (λ b. cond b ys (list_of store l)) at in
-        subst (Took (list_of store l) (points s.samples)) (sym is) (subst (λ q. Took (list_of store q) (points s.samples) ys) (sym same) (list_taken (points s.samples) (list_of store s.labels) ys (up s.labels) e))
-    by_label false at =
-        let is : list_of (with_list s.labels ys store) l ≡ list_of store l = list_of-with_list s.labels ys store l ∙ ap (λ b. cond b ys (list_of store l)) at in
-        subst (Took (list_of store l) []) (sym is) (record { rises = up l; begins = begins_itself (list_of store l); held = tt })
-
-one_series : (limits : LabelLimits) (s : TimeSeries) (store next : Store) → EachRises store → taken limits store s ≡ Ok next
-    → (l : Labels) → Took (list_of store l) (cond (labels_eq l s.labels) (points s.samples) []) (list_of next l)
-one_series limits s store next up e = by_refusal (refusal limits s.labels) e
-  where
-    by_list : (o : Option (List Point)) → accept (Some (list_of store s.labels)) (points s.samples) ≡ o → accepted s.labels store o ≡ Ok next
-        → (l : Labels) → Took (list_of store l) (cond (labels_eq l s.labels) (points s.samples) []) (list_of next l)
-    by_list None is e = absurd (no_ok _ next e)
-    by_list (Some ys) is e = subst (λ t. (l : Labels) → Took (list_of store l) (cond (labels_eq l s.labels) (points s.samples) []) (list_of t l)) (ok_is (with_list s.labels ys store) next e) (series_took s store ys up is)
-
-    by_refusal : (o : Option Verdict) → taken_unless o store s ≡ Ok next → (l : Labels) → Took (list_of store l) (cond (labels_eq l s.labels) (points s.samples) []) (list_of next l)
-    by_refusal (Some v) e = absurd (no_ok v next e)
-    by_refusal None e = by_list (accept (Some (list_of store s.labels)) (points s.samples)) refl e
-
 pub message_took : (limits : LabelLimits) (m : WriteRequest) (store next : Store) → EachRises store → taken_all limits (Ok store) m ≡ Ok next → TookAll store m next
-message_took limits [] store next up e = subst (TookAll store []) (ok_is store next e) (λ l. record { rises = up l; begins = begins_itself (list_of store l); held = tt })
-message_took limits (s ∷ ss) store next up e = by_first (taken limits store s) refl e (λ mid. message_took limits ss mid next)
-  where
-    by_first : (r : Result Store Verdict) → taken limits store s ≡ r → taken_all limits r ss ≡ Ok next → ((mid : Store) → EachRises mid → taken_all limits (Ok mid) ss ≡ Ok next → TookAll mid ss next) → TookAll store (s ∷ ss) next
-    by_first (Err v) first e more = absurd (no_ok v next (sym (taken_all-err limits v ss) ∙ e))
-    by_first (Ok mid) first e more =
-        let one = one_series limits s store mid up first in
-        let rest = more mid (λ l. (one l).rises) e in
-        λ l. record {
-          rises = (rest l).rises;
-          begins = begins_twice (list_of store l) (list_of mid l) (list_of next l) (one l).begins (rest l).begins;
-          held = AllByRecursion-append (λ (p : Point). holds p (list_of next l) ≡ true) (cond (labels_eq l s.labels) (points s.samples) []) (points_in l ss)
-              (held_further (cond (labels_eq l s.labels) (points s.samples) []) (list_of mid l) (list_of next l) (rest l).begins (one l).held) (rest l).held;
-        }
+message_took limits m store next up e l = list_taken (points_in l m) (list_of store l) (list_of next l) (up l) (taken_all-lists limits m store next l e)
 
 -- ---- many events
 module _ (limits : LabelLimits) (runs : List SenderRun) (events : List ReceiverEvent) (states : ℕ → ReceiverState) (r : IsAnyReceiver limits runs events states) where
-  record Inv (t : ℕ) : Type 0 where
-    rises : EachRises (states t).store
+  pub record Inv (t : ℕ) : Type 0 where
+    pub rises : EachRises (states t).store
     acknowledged : (l : Labels) → Begins (list_of (states t).acknowledged l) (list_of (states t).store l)
     stays : (l : Labels) → Begins (list_of (states 0).acknowledged l) (list_of (states t).acknowledged l)
     held : (s i n : ℕ) (run : SenderRun) (x : SentMessage) (l : Labels) → s < t → slice_get events s ≡ Some (Answers i n Done) → IsSentBy runs i n run x → AreHeld (points_in l x.message) (list_of (states t).acknowledged l)
@@ -161,10 +111,11 @@ module _ (limits : LabelLimits) (runs : List SenderRun) (events : List ReceiverE
     moved_taken : (i n : ℕ) → slice_get events t ≡ Some (Answers i n Done) → Moved
     moved_taken i n e =
         let h = r.happens t (Answers i n Done) e in
-        let took = message_took limits h.x.message (states t).store (states (suc t)).store inv.rises h.judged.0 in record {
+        let done = answers-done limits h.x.message (states t) (states (suc t)) h.judged in
+        let took = message_took limits h.x.message (states t).store (states (suc t)).store inv.rises done.0 in record {
           rises = λ l. (took l).rises;
-          acknowledged = λ l. subst (λ (s : Store). Begins (list_of s l) (list_of (states (suc t)).store l)) (sym h.judged.1) (begins_itself (list_of (states (suc t)).store l));
-          grown = λ l. subst (λ (s : Store). Begins (list_of (states t).acknowledged l) (list_of s l)) (sym h.judged.1)
+          acknowledged = λ l. subst (λ (s : Store). Begins (list_of s l) (list_of (states (suc t)).store l)) (sym done.1) (begins_itself (list_of (states (suc t)).store l));
+          grown = λ l. subst (λ (s : Store). Begins (list_of (states t).acknowledged l) (list_of s l)) (sym done.1)
               (begins_twice (list_of (states t).acknowledged l) (list_of (states t).store l) (list_of (states (suc t)).store l) (inv.acknowledged l) (took l).begins);
         }
 
@@ -176,17 +127,18 @@ module _ (limits : LabelLimits) (runs : List SenderRun) (events : List ReceiverE
 
     moved : (m : ReceiverEvent) → slice_get events t ≡ Some m → Moved
     moved (Answers i n Done) e = moved_taken i n e
-    moved (Answers i n Again) e = moved_same (r.happens t (Answers i n Again) e).judged
-    moved (Answers i n Refused) e = moved_same (r.happens t (Answers i n Refused) e).judged.0
+    moved (Answers i n Again) e = let h = r.happens t (Answers i n Again) e in moved_same (answers-again limits h.x.message (states t) (states (suc t)) h.judged)
+    moved (Answers i n Refused) e = let h = r.happens t (Answers i n Refused) e in moved_same (answers-refused-same limits h.x.message (states t) (states (suc t)) h.judged)
     moved Restarts e = moved_again (states t).store inv.rises (r.happens t Restarts e)
     moved (RestartsDuring i n) e = moved_broken i n e
 
     held_now : (i n : ℕ) (run : SenderRun) (x : SentMessage) (l : Labels) → slice_get events t ≡ Some (Answers i n Done) → IsSentBy runs i n run x → AreHeld (points_in l x.message) (list_of (states (suc t)).acknowledged l)
     held_now i n run x l e sent =
         let h = r.happens t (Answers i n Done) e in
-        let took = message_took limits h.x.message (states t).store (states (suc t)).store inv.rises h.judged.0 in
+        let done = answers-done limits h.x.message (states t) (states (suc t)) h.judged in
+        let took = message_took limits h.x.message (states t).store (states (suc t)).store inv.rises done.0 in
         let one = same_request runs i n h.run run h.x x h.is sent in
-        subst (λ (s : Store). AreHeld (points_in l x.message) (list_of s l)) (sym h.judged.1)
+        subst (λ (s : Store). AreHeld (points_in l x.message) (list_of s l)) (sym done.1)
         (subst (λ (y : SentMessage). AreHeld (points_in l y.message) (list_of (states (suc t)).store l)) one.1 (took l).held)
 
     step : (m : ReceiverEvent) → slice_get events t ≡ Some m → Inv (suc t)
@@ -200,7 +152,7 @@ module _ (limits : LabelLimits) (runs : List SenderRun) (events : List ReceiverE
               (λ le. held_now i n run x l (subst (λ q. slice_get events q ≡ Some (Answers i n Done)) (omega (arith, lt, le)) e) sent) (cases_lt s t);
         }
 
-  after : (t : ℕ) → t ≤ length events → Inv t
+  pub after : (t : ℕ) → t ≤ length events → Inv t
   after zero le = start
   after (suc t) le = let found = get_some events t (omega (arith, le)) in step t (after t (omega (arith, le))) found.0 found.1
 

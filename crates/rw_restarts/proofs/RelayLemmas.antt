@@ -23,10 +23,11 @@ use Rattle.rw_head.specs.Verdicts.{LabelLimits}
 use Rattle.rw_kept_head.specs.Kept.{SaysWhat, LiesBetween}
 use Rattle.rw_restarts.specs.Owed.{pairs_of, rising, owed_of}
 use Rattle.rw_restarts.specs.Runs.{SenderRun, acknowledged_in}
-use Rattle.rw_restarts.specs.Receivers.{ReceiverEvent, ReceiverState, IsReceiverOf}
+use Rattle.rw_restarts.specs.Receivers.{ReceiverEvent, ReceiverState, IsReceiverOf, HasNoGap}
 use Rattle.rw_restarts.specs.Logs.{AreRunsOverLog, IsRunOverPart, HoldsLog}
 use Rattle.rw_ledger.specs.declared.ledger.Reason.{Reason}
 use Rattle.rw_machine.specs.Promises.{owed, pair_of}
+use Rattle.rw_restarts.proofs.LogLemmas.{part-is-run}
 use Rattle.rw_restarts.specs.Relay.{ReadsSegments, AllReadSegments, IsRelayed, IsRelayedLess}
 
 -- a list that rises is what rises of it
@@ -90,46 +91,46 @@ module _ (as_it_is : RisesAsItIs) (choice : Choice) (first : Store) (segments : 
     sends = r.sends;
   }
 
-  pub runs_over : (runs : List SenderRun) → AllReadSegments choice segments runs → AreRunsOverLog choice log runs
-  runs_over runs read i run is = run_over run (read i run is)
+  pub runs_over : (runs : List SenderRun) → AllReadSegments choice segments runs → (l : Labels) → AreRunsOverLog choice log runs l
+  runs_over runs read l i run is = part-is-run choice log run (run_over run (read i run is)) l
 
-  module _ (runs : List SenderRun) (read : AllReadSegments choice segments runs) (events : List ReceiverEvent) (held : ReceiverState) (h : HoldsLog choice log runs events held) where
-    in_first : (l : Labels) → Begins (list_of held.store l) (list_of first l)
-    in_first l = by_kept (is_kept choice l) refl
+  module _ (runs : List SenderRun) (read : AllReadSegments choice segments runs) (l : Labels) (held : ReceiverState) (h : HoldsLog choice log runs held l) where
+    in_first : Begins (list_of held.store l) (list_of first l)
+    in_first = by_kept (is_kept choice l) refl
       where
         by_kept : (k : Bool) → is_kept choice l ≡ k → Begins (list_of held.store l) (list_of first l)
-        by_kept true keep = subst (Begins (list_of held.store l)) (owed_first l keep) (h.prefixes.in_order l)
-        by_kept false drop = begins_twice (list_of held.store l) [] (list_of first l) (subst (Begins (list_of held.store l)) (owed-dropped choice log l drop) (h.prefixes.in_order l)) (list_of first l, refl)
+        by_kept true keep = subst (Begins (list_of held.store l)) (owed_first l keep) h.prefix.in_order
+        by_kept false drop = begins_twice (list_of held.store l) [] (list_of first l) (subst (Begins (list_of held.store l)) (owed-dropped choice log l drop) h.prefix.in_order) (list_of first l, refl)
 
     -- what was acknowledged in a run is held
-    entries_held : (i : ℕ) (run : SenderRun) (es : List Entry) (l : Labels) → slice_get runs i ≡ Some run → is_kept choice l ≡ true
+    entries_held : (i : ℕ) (run : SenderRun) (es : List Entry) → slice_get runs i ≡ Some run → is_kept choice l ≡ true
         → Begins (samples_of_labels es l) (samples_of_labels log l) → acknowledged_in l run.sent ≡ owed_of choice es l → Begins (samples_of_labels es l) (list_of held.store l)
-    entries_held i run es l is keep b all =
+    entries_held i run es is keep b all =
         let none : run.earlier l ≡ [] = (read i run is).whole l in
         let owes : owed_of choice es l ≡ samples_of_labels es l = owed-kept as_it_is choice es l keep (Rises-prefix (samples_of_labels es l) (samples_of_labels log l) b (log_rises l)) in
         let base : Begins (run.earlier l) (list_of held.acknowledged l) = subst (λ ys. Begins ys (list_of held.acknowledged l)) (sym none) (list_of held.acknowledged l, refl) in
-        subst (λ ys. Begins ys (list_of held.store l)) (ap (λ ys. ys ++ owed_of choice es l) none ∙ owes) (h.complete i run es l is base all)
+        subst (λ ys. Begins ys (list_of held.store l)) (ap (λ ys. ys ++ owed_of choice es l) none ∙ owes) (h.complete i run es is base all)
 
-    pub relayed : IsRelayed choice segments runs first held.store
+    pub relayed : IsRelayed choice segments runs first held.store l
     relayed = record {
       prefix = in_first;
-      dropped = λ l drop. no_samples (list_of held.store l) (subst (Begins (list_of held.store l)) (owed-dropped choice log l drop) (h.prefixes.in_order l));
+      dropped = λ drop. no_samples (list_of held.store l) (subst (Begins (list_of held.store l)) (owed-dropped choice log l drop) h.prefix.in_order);
       complete = entries_held;
-      whole = λ i run l is keep all.
+      whole = λ i run is keep all.
           Begins-both (list_of first l) (list_of held.store l)
-          (subst (λ ys. Begins ys (list_of held.store l)) (sym (says l)) (entries_held i run log l is keep (begins_itself (samples_of_labels log l)) all)) (in_first l);
+          (subst (λ ys. Begins ys (list_of held.store l)) (sym (says l)) (entries_held i run log is keep (begins_itself (samples_of_labels log l)) all)) in_first;
     }
 
 -- ---- the law
 pub relay-holds : RisesAsItIs
-    → ((limits : LabelLimits) (choice : Choice) (log : List Entry) (runs : List SenderRun) (events : List ReceiverEvent) (states : ℕ → ReceiverState)
-    → AreRunsOverLog choice log runs → IsReceiverOf limits runs events states → HoldsLog choice log runs events (states (length events)))
-    → (limits : LabelLimits) (choice : Choice) (first : Store) (segments : Segments) (runs : List SenderRun) (events : List ReceiverEvent) (states : ℕ → ReceiverState)
-    → EachRises first → SaysWhat segments first → AllReadSegments choice segments runs → IsReceiverOf limits runs events states
-    → IsRelayed choice segments runs first (states (length events)).store
-relay-holds as_it_is holds_log limits choice first segments runs events states up says read r =
-    relayed as_it_is choice first segments up says runs read events (states (length events))
-    (holds_log limits choice (entries_of page_size segments) runs events states (runs_over as_it_is choice first segments up says runs read) r)
+    → ((limits : LabelLimits) (choice : Choice) (log : List Entry) (runs : List SenderRun) (events : List ReceiverEvent) (states : ℕ → ReceiverState) (l : Labels)
+    → AreRunsOverLog choice log runs l → IsReceiverOf limits runs events states → HasNoGap runs events states l → HoldsLog choice log runs (states (length events)) l)
+    → (limits : LabelLimits) (choice : Choice) (first : Store) (segments : Segments) (runs : List SenderRun) (events : List ReceiverEvent) (states : ℕ → ReceiverState) (l : Labels)
+    → EachRises first → SaysWhat segments first → AllReadSegments choice segments runs → IsReceiverOf limits runs events states → HasNoGap runs events states l
+    → IsRelayed choice segments runs first (states (length events)).store l
+relay-holds as_it_is holds_log limits choice first segments runs events states l up says read r no_gap =
+    relayed as_it_is choice first segments up says runs read l (states (length events))
+    (holds_log limits choice (entries_of page_size segments) runs events states l (runs_over as_it_is choice first segments up says runs read l) r no_gap)
 
 -- ---- a log that goes on
 pub read-of-more : (choice : Choice) (segments later : Segments) (run : SenderRun)

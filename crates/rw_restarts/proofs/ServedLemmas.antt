@@ -28,11 +28,13 @@ module _ {J : Type 0} (seen : J → Segments) (may_leave : J → Segments → Ty
   answered_by_seat c request old new status q true e (reads, is) step =
       (eqb-true status 503 e, inr (record { body = q.body; reads = reads; answered = subst (λ (s : ℕ). Answered old q.body s new) is step }))
   answered_by_seat c request old new status q false e (reads, is) step =
-      (record { body = q.body; reads = reads; answered = subst (λ (s : ℕ). Answered old q.body s new) is step }, λ (f : status ≡ 503). true≢false (sym (eq-eqb status 503 f) ∙ e))
+      inl (record { body = q.body; reads = reads; answered = subst (λ (s : ℕ). Answered old q.body s new) is step }, λ (f : status ≡ 503). true≢false (sym (eq-eqb status 503 f) ∙ e))
 
-  answered_unasked : (c : Setup) (request : List ℕ) (old : Kept J) (status : ℕ) → status ≡ 503 → IsAnsweredAs c request old status old (how_served status)
-  answered_unasked c request old status is =
+  answered_unasked : (c : Setup) (request : List ℕ) (old : Kept J) (status : ℕ) → IsServedAs c request status None → IsAnsweredAs c request old status old (how_served status)
+  answered_unasked c request old status (inl is) =
       subst (λ (s : ℕ). IsAnsweredAs c request old s old (how_served s)) (sym is) (refl, inl refl)
+  answered_unasked c request old status (inr (is, long)) =
+      subst (λ (s : ℕ). IsAnsweredAs c request old s old (how_served s)) (sym is) (inr (refl, refl, long))
 
   -- what it was after a request, and what the later questions led to
   abbrev next_of : (question : Option Question) (later : List Question) (first last : Kept J) → AreAdmitted Answered first (asked_for question ++ later) last

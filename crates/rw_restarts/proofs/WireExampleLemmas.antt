@@ -40,6 +40,7 @@ use Rattle.rw_machine.specs.declared.event.How.TheVariants.{Plain}
 use Rattle.rw_restarts.specs.Arrivals.{Receives}
 use Rattle.rw_restarts.specs.Runs.{SentMessage, SenderRun, IsSentBy}
 use Rattle.rw_restarts.specs.Parts.{AreWithinLimits}
+use Rattle.rw_restarts.specs.Receivers.{ReceiverEvent, ReceiverState, CanBeTaken}
 use Rattle.rw_restarts.specs.Workers.{AreMessagesOfWorker, IsSettledSample}
 use Rattle.rw_restarts.specs.WireReceivers.{RunOfWorkers, run_of, IsRunOfWorkers, ExchangePlace, IsExchangeAt, IsEarlierExchange, WireEvent, Comes, Reopens, HasShortBody, HappensOnWire, BringsExchange, IsAnsweredOnWire, AreRunsTo, IsWireReceiver}
 use Rattle.rw_restarts.specs.Examples.{example_series, first, message_of, sent_with, limits, with_first}
@@ -254,15 +255,22 @@ module _ (reads : (m : WriteRequest) → IsMessage m → read (canon m) ≡ Ok m
   limits-stay (suc n) = refl
 
   pub runs-are : AreRunsTo wire.receiver runs
-  runs-are = record {
-    workers = λ i w at. subst (IsRunOfWorkers wire.target) (only-one (wire.run worker shared) w i at).1 of_run;
-    within = within;
-    short = λ p w x is. subst (λ (y : Exchange). HasShortBody wire.receiver y.request) (the_one p w x is).exchange short;
-  }
+  runs-are i w at = subst (IsRunOfWorkers wire.target) (only-one (wire.run worker shared) w i at).1 of_run
+
+  pub all-short : (p : ExchangePlace) (w : RunOfWorkers) (x : Exchange) → IsExchangeAt runs p w x → HasShortBody wire.receiver x.request
+  all-short p w x is = subst (λ (y : Exchange). HasShortBody wire.receiver y.request) (the_one p w x is).exchange short
 
   -- the log of the run has nothing before its first entry
-  pub nothing-before : (p : ExchangePlace) (w : RunOfWorkers) (l : Labels) (ys : List Point) → slice_get runs p.run ≡ Some w → Begins (w.run.earlier l) ys
-  nothing-before p w l ys exists = subst (λ (v : RunOfWorkers). Begins (v.run.earlier l) ys) (only-one (wire.run worker shared) w p.run exists).1 (ys, refl)
+  nothing-before : (i : ℕ) (run : SenderRun) (l : Labels) (ys : List Point) → slice_get (map run_of runs) i ≡ Some run → Begins (run.earlier l) ys
+  nothing-before i run l ys exists = subst (λ (r : SenderRun). Begins (r.earlier l) ys) (only-one (wire.run worker shared).run run i exists).1 (ys, refl)
+
+  -- the label sets of the run, with any events and states of a receiver
+  pub taken-by : (events : List ReceiverEvent) (states : ℕ → ReceiverState) → CanBeTaken limits (map run_of runs) events states (λ l. true)
+  taken-by events states = record {
+    alone = λ i n run x l sent own some k has. refl;
+    within = λ i n run x sent only. within i n run x sent;
+    covered = λ l own at event i n run x e b sent some. nothing-before i run l (list_of (states at).acknowledged l) sent.exists;
+  }
 
   pub wire-receiver-is : IsWireReceiver wire.receiver runs wire.events wire.states
   wire-receiver-is = record {
@@ -274,5 +282,4 @@ module _ (reads : (m : WriteRequest) → IsMessage m → read (canon m) ≡ Ok m
       all = comes-among wire.events 2 0 (omega arith) refl;
       later = λ at event p q w x r e b earlier is answer. absurd (none_before at event p q e b earlier);
     };
-    covered = λ at event p w l e b exists. nothing-before p w l (list_of (wire.states at).acknowledged l) exists;
   }

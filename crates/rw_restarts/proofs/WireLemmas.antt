@@ -1,15 +1,16 @@
 -- What comes over the wire to a receiver is what happens to such a receiver.
-use Rattle.std.proofs.Common.{◌≡◌, ◌≢◌, inl, inr, ℕ, suc, ◌+◌, ◌<◌, ◌≤◌, List, [], map, length, Option, Some, Result, Ok, Err, slice_get, refl, sym, ap, ◌∙◌, subst, arith}
+use Rattle.std.proofs.Common.{◌≡◌, ◌≢◌, inl, inr, ℕ, suc, ◌+◌, ◌<◌, ◌≤◌, Bool, true, List, [], map, length, Option, Some, Result, Ok, Err, slice_get, refl, sym, ap, ◌∙◌, subst, arith}
 use Rattle.std.proofs.lemmas.List.{length-map}
 use Rattle.std.proofs.lemmas.Bool.{cases_lt}
+use Rattle.std.proofs.lemmas.Bool.Decides.{eqb_tells}
 use Rattle.std.proofs.lemmas.Option.{none-some, same_Some, slice_get_within}
-use Rattle.rw_types.specs.Beginnings.{Begins}
 use Rattle.rw_types.specs.Labels.{Labels}
 use Rattle.rw_types.specs.declared.entry.Entry.{Entry}
 use Rattle.rw_relabel.specs.declared.choice.Choice.{Choice}
 use Rattle.rw_write_request.specs.Message.{WriteRequest}
 use Rattle.rw_retry.specs.Judgements.{judgement_of}
 use Rattle.rw_retry.specs.declared.judgement.Judgement.{Judgement}
+use Rattle.rw_retry.specs.declared.judgement.Judgement.TheVariants.{Refused}
 use Rattle.rw_worker.specs.declared.transport.Reply.{Reply}
 use Rattle.rw_worker.specs.declared.transport.Lost.{Lost}
 use Rattle.rw_worker.specs.Steps.{exchanges_of}
@@ -18,8 +19,9 @@ use Rattle.rw_fleet.specs.ShardHistories.{ShardHistory}
 use Rattle.rw_fleet.specs.Work.{lane_of}
 use Rattle.rw_sender.specs.Shipping.{Shipping}
 use Rattle.rw_sender.specs.declared.report.Report.{Report}
+use Rattle.rw_head.specs.declared.verdict.Verdict.{Verdict}
 use Rattle.rw_head.specs.Head.{State}
-use Rattle.rw_head.specs.Store.{Store, list_of}
+use Rattle.rw_head.specs.Store.{Store}
 use Rattle.rw_head.specs.Verdicts.{LabelLimits, taken_all}
 use Rattle.rw_machine.specs.Worlds.{Setup}
 use Rattle.rw_machine.specs.declared.event.How.{How}
@@ -27,15 +29,17 @@ use Rattle.rw_restarts.specs.Arrivals.{Receives}
 use Rattle.rw_restarts.proofs.shared.ListLemmas.{get_map, map_get}
 use Rattle.rw_restarts.specs.Parts.{points_in}
 use Rattle.rw_restarts.specs.Runs.{SentMessage, SenderRun, IsSentBy}
-use Rattle.rw_restarts.specs.Receivers.{ReceiverEvent, Answers, ReceiverState, AnswersAs, Brings, Happens, IsAnsweredAmong, IsReceiverOf, state_of}
+use Rattle.rw_restarts.specs.Receivers.{ReceiverEvent, Answers, ReceiverState, AnswersAs, Brings, Happens, IsAnsweredAmong, IsReceiverOf, HasOnly, CanBeTaken, IsRefusedForCause, AreNeverRefused, state_of}
 use Rattle.rw_restarts.specs.KeptReceivers.{acknowledged_after}
 use Rattle.rw_restarts.specs.Logs.{AreRunsOverLog, HoldsLog}
 use Rattle.rw_restarts.specs.Workers.{IsExchangeOfMessage, judgement_by}
-use Rattle.rw_restarts.specs.WireReceivers.{RunOfWorkers, run_of, ExchangePlace, IsExchangeAt, IsEarlierExchange, exchanges_before, exchanges_before_epoch, number_by, message_number, WireEvent, Comes, Reopens, ReopensDuring, WireState, receiver_state, HappensOnWire, BringsExchange, IsAnsweredOnWire, IsWireReceiver, receiver_event, receiver_events, IsReceiverByWire, HoldsLogByWire, StopsAsWorkers}
+use Rattle.rw_restarts.specs.WireReceivers.{RunOfWorkers, run_of, ExchangePlace, IsExchangeAt, IsEarlierExchange, exchanges_before, exchanges_before_epoch, number_by, message_number, WireEvent, Comes, Reopens, ReopensDuring, WireState, receiver_state, HappensOnWire, BringsExchange, IsAnsweredOnWire, IsWireReceiver, receiver_event, receiver_events, IsReceiverByWire, HoldsLogByWire, AreShort, RefusesNone, StopsAsWorkers}
 use Rattle.rw_restarts.specs.Stopped.{first_of_epoch}
 use Rattle.rw_restarts.proofs.AdditionLemmas.{set_up_at}
 use Rattle.rw_restarts.proofs.ListedLemmas.{joined_at}
-use Rattle.rw_restarts.proofs.ReceivedLemmas.{never-too-long}
+use Rattle.rw_restarts.proofs.ReceivedLemmas.{never-too-long, too-long-keeps}
+use Rattle.rw_restarts.proofs.LogLemmas.{HoldsOneLog}
+use Rattle.rw_restarts.proofs.RunLemmas.{same_request}
 use Rattle.rw_restarts.proofs.PlaceLemmas.{IsMessageAt, in_shards, part_of_epoch, of_epochs, length_of_shards, apart_in_shards, within_epoch, grows_by_epoch, order_in_epoch}
 
 replied_as : (answer : Result Reply Lost) (j : Judgement) → judgement_by answer ≡ Some j → (r : Reply) × (answer ≡ Ok r) × (judgement_of r.status ≡ j)
@@ -48,7 +52,7 @@ module _ (c : Setup) (runs : List RunOfWorkers) (events : List WireEvent) (state
   -- ---- the message of an exchange
   sent_at : (p : ExchangePlace) (w : RunOfWorkers) (x : Exchange) → IsExchangeAt runs p w x → IsMessageAt c.target x w.run.sent (number_by (Some w) p)
   sent_at p w x is =
-      let of = r.runs_are.workers p.run w is.exists in
+      let of = r.runs_are p.run w is.exists in
       let part = part_of_epoch 0 w.epochs w.steps w.run.sent of.messages p.epoch p.epoch is.shards (omega arith) is.epoch in
       let own = in_shards 0 is.shards (w.steps p.epoch) part.part part.messages p.shard p.number p.shard is.shard x (omega arith) is.at is.is in
       record {
@@ -80,7 +84,7 @@ module _ (c : Setup) (runs : List RunOfWorkers) (events : List WireEvent) (state
   place_of : (i n : ℕ) (run : SenderRun) (x : SentMessage) → IsSentBy (map run_of runs) i n run x → HasPlace i n run x
   place_of i n run x s =
       let found = map_get run_of runs i run s.exists in
-      let of = r.runs_are.workers i found.0 found.1 in
+      let of = r.runs_are i found.0 found.1 in
       let at : slice_get found.0.run.sent n ≡ Some x = ap (λ (y : SenderRun). slice_get y.sent n) found.2 ∙ s.is in
       let m = of_epochs 0 found.0.epochs found.0.steps found.0.run.sent of.messages n x at in
       let same : m.i ≡ m.e = (let was : 0 + m.e ≡ m.i = m.i_is in omega (arith, was)) in
@@ -101,14 +105,21 @@ module _ (c : Setup) (runs : List RunOfWorkers) (events : List WireEvent) (state
       let m = sent_at p h.w h.x h.is in
       let old = states at in
       let new = states (suc at) in
-      let fits = never-too-long c h.x m.x old.head status new.head m.carries how h.received (r.runs_are.short p h.w h.x h.is) in
-      let raw = answers c how h.x m.x old.head status new.head old.acknowledged m.carries h.received fits in
       record {
         run = h.w.run;
         x = m.x;
         is = is_sent p h.w h.x h.is;
-        judged = subst (λ (limits : LabelLimits). AnswersAs limits m.x.message (judgement_of status) (receiver_state old) (receiver_state new)) (r.limits at le)
-            (subst (λ (a : Store). AnswersAs old.head.limits m.x.message (judgement_of status) (receiver_state old) (state_of new.head.store a)) (sym h.acknowledged) raw);
+        judged = elim (eqb_tells status 413) [
+          | inl is ↦ inr (
+            ap judgement_of is.1,
+            (let store = too-long-keeps c h.x m.x old.head status new.head m.carries how h.received is.1 in
+                let had = h.acknowledged ∙ ap (λ (s : ℕ). acknowledged_after (judgement_of s) old.acknowledged new.head.store) is.1 in
+                λ i. state_of (store i) (had i)),
+          )
+          | inr other ↦ inl (subst (λ (limits : LabelLimits). AnswersAs limits m.x.message (judgement_of status) (receiver_state old) (receiver_state new)) (r.limits at le)
+              (subst (λ (a : Store). AnswersAs old.head.limits m.x.message (judgement_of status) (receiver_state old) (state_of new.head.store a)) (sym h.acknowledged)
+              (answers c how h.x m.x old.head status new.head old.acknowledged m.carries h.received other.1)))
+        ];
       }
   came at Reopens le h = h
   came at (ReopensDuring p) le h =
@@ -172,7 +183,7 @@ module _ (c : Setup) (runs : List RunOfWorkers) (events : List WireEvent) (state
     -- two shards of one epoch share no label set
     one_shard : p.epoch ≡ q.epoch → p.shard < q.shard → ⊥
     one_shard same lt =
-        let of = r.runs_are.workers q.run w qb.exists in
+        let of = r.runs_are q.run w qb.exists in
         let part = part_of_epoch 0 w.epochs w.steps w.run.sent of.messages q.epoch q.epoch qb.shards (omega arith) qb.epoch in
         let size : length part.part ≡ exchanges_before 0 (w.steps q.epoch) (length qb.shards) = length_of_shards 0 qb.shards (w.steps q.epoch) part.part part.messages in
         let shards : pa.shards ≡ qb.shards = same_Some pa.shards qb.shards (sym pa.epoch ∙ ap (λ e. slice_get w.epochs e) same ∙ qb.epoch) in
@@ -235,14 +246,8 @@ module _ (c : Setup) (runs : List RunOfWorkers) (events : List WireEvent) (state
       let found = map_get (receiver_event runs) events at event is in
       (found.0, found.1, brought_by at found.0 i n (r.happens at found.0 found.1) (subst (λ (e : ReceiverEvent). Brings e i n) (sym found.2) b))
 
-  covered_so : (at i n : ℕ) (run : SenderRun) (x : SentMessage) (l : Labels) (event : WireEvent) → slice_get events at ≡ Some event → HasBrought event i n → IsSentBy (map run_of runs) i n run x → Begins (run.earlier l) (list_of (states at).acknowledged l)
-  covered_so at i n run x l event is b s =
-      let the_run : b.w.run ≡ run = same_Some b.w.run run (sym (get_map run_of runs b.q.run b.w b.is.exists) ∙ ap (λ m. slice_get (map run_of runs) m) b.same_run ∙ s.exists) in
-      subst (λ (z : SenderRun). Begins (z.earlier l) (list_of (states at).acknowledged l)) the_run (r.covered at event b.q b.w l is b.brings b.is.exists)
-
   pub receiver_of : IsReceiverOf c.limits (map run_of runs) (receiver_events runs events) (λ (at : ℕ). receiver_state (states at))
   receiver_of = record {
-    within = r.runs_are.within;
     begins = r.begins;
     happens = happens_so;
     answers = record {
@@ -251,9 +256,36 @@ module _ (c : Setup) (runs : List RunOfWorkers) (events : List WireEvent) (state
           let found = found_event at i n event is b in
           before_later at i k n found.0 run y x j l found.1 found.2 (place_of i k run y sy) sx lt judged ys xs;
     };
-    covered = λ at event i n run x l is b s.
-        let found = found_event at i n event is b in covered_so at i n run x l found.0 found.1 found.2 s;
   }
+
+  -- ---- what is refused
+  module _ (among : Labels → Bool) (short : AreShort c runs among) where
+    cause_of : (at : ℕ) (event : WireEvent) (i n : ℕ) (run : SenderRun) (x : SentMessage) → at ≤ length events → HappensOnWire c runs event (states at) (states (suc at)) → receiver_event runs event ≡ Answers i n Refused
+        → IsSentBy (map run_of runs) i n run x → HasOnly among x → (v : Verdict) × (taken_all c.limits (Ok (states at).head.store) x.message ≡ Err v)
+    cause_of at (Comes p how status) i n run x le h same sent only =
+        let old = states at in
+        let new = states (suc at) in
+        let m = sent_at p h.w h.x h.is in
+        let run_is : p.run ≡ i = cc in
+        let number : message_number runs p ≡ n = cc in
+        let judged : judgement_of status ≡ Refused = cc in
+        let own = is_sent p h.w h.x h.is in
+        let here : IsSentBy (map run_of runs) i n h.w.run m.x = subst (λ k. IsSentBy (map run_of runs) k n h.w.run m.x) run_is (subst (λ k. IsSentBy (map run_of runs) p.run k h.w.run m.x) number own) in
+        let one = (same_request (map run_of runs) i n h.w.run run m.x x here sent).1 in
+        let fits = never-too-long c h.x m.x old.head status new.head m.carries how h.received (short p h.w h.x m.x h.is own.is (subst (HasOnly among) (sym one) only)) in
+        let refused = subst (λ (j : Judgement). AnswersAs old.head.limits m.x.message j (state_of old.head.store old.acknowledged) (state_of new.head.store (acknowledged_after j old.acknowledged new.head.store))) judged
+        (answers c how h.x m.x old.head status new.head old.acknowledged m.carries h.received fits) in (
+          refused.1.0,
+          ap (λ (limits : LabelLimits). taken_all limits (Ok old.head.store) x.message) (sym (r.limits at le)) ∙ ap (λ (y : SentMessage). taken_all old.head.limits (Ok old.head.store) y.message) (sym one) ∙ refused.1.1,
+        )
+    cause_of at Reopens i n run x le h same sent only = absurd cc
+    cause_of at (ReopensDuring p) i n run x le h same sent only = absurd cc
+
+    pub refused_for_cause : IsRefusedForCause c.limits (map run_of runs) (receiver_events runs events) (λ (at : ℕ). receiver_state (states at)) among
+    refused_for_cause at i n run x is sent only =
+        let found = map_get (receiver_event runs) events at (Answers i n Refused) is in
+        let within = slice_get_within events at found.0 found.1 in
+        cause_of at found.0 i n run x (omega (arith, within)) (r.happens at found.0 found.1) found.2 sent only
 
 -- ---- a shipper that was stopped
 module _ {T : Type 0} (tells : T → Type 0) (seen : T → List Exchange) (is_for : ℕ → ℕ → T → Type 0) where
@@ -269,10 +301,21 @@ pub wire-receiver : ((c : Setup) (how : How) (e : Exchange) (x : SentMessage) (o
     → (c : Setup) (runs : List RunOfWorkers) (events : List WireEvent) (states : ℕ → WireState) → IsReceiverByWire c runs events states
 wire-receiver answers c runs events states r = receiver_of c runs events states r answers
 
+-- what `many_runs_hold_one_log` says of label sets that are not refused
+abbrev pub RefusesNoneOfLog : Type 0
+RefusesNoneOfLog = (limits : LabelLimits) (choice : Choice) (log : List Entry) (runs : List SenderRun) (events : List ReceiverEvent) (states : ℕ → ReceiverState) (among : Labels → Bool)
+    → ((l : Labels) → among l ≡ true → AreRunsOverLog choice log runs l) → IsReceiverOf limits runs events states → CanBeTaken limits runs events states among → IsRefusedForCause limits runs events states among
+    → AreNeverRefused runs events states among
+
 pub wire-holds : ((c : Setup) (how : How) (e : Exchange) (x : SentMessage) (old : State) (status : ℕ) (new : State) (acknowledged : Store) → IsExchangeOfMessage c.target e x → Receives c how e.request old status new → status ≢ 413
     → AnswersAs old.limits x.message (judgement_of status) (state_of old.store acknowledged) (state_of new.store (acknowledged_after (judgement_of status) acknowledged new.store)))
-    → ((limits : LabelLimits) (choice : Choice) (log : List Entry) (runs : List SenderRun) (events : List ReceiverEvent) (states : ℕ → ReceiverState) → AreRunsOverLog choice log runs → IsReceiverOf limits runs events states → HoldsLog choice log runs events (states (length events)))
-    → (c : Setup) (runs : List RunOfWorkers) (events : List WireEvent) (states : ℕ → WireState) (choice : Choice) (log : List Entry) → HoldsLogByWire c runs events states choice log
-wire-holds answers held c runs events states choice log r over =
-    subst (λ n. HoldsLog choice log (map run_of runs) (receiver_events runs events) (receiver_state (states n))) (length-map events (receiver_event runs))
-    (held c.limits choice log (map run_of runs) (receiver_events runs events) (λ (at : ℕ). receiver_state (states at)) over (receiver_of c runs events states r answers))
+    → HoldsOneLog → (c : Setup) (runs : List RunOfWorkers) (events : List WireEvent) (states : ℕ → WireState) (choice : Choice) (log : List Entry) (l : Labels) → HoldsLogByWire c runs events states choice log l
+wire-holds answers held c runs events states choice log l r over no_gap =
+    subst (λ n. HoldsLog choice log (map run_of runs) (receiver_state (states n)) l) (length-map events (receiver_event runs))
+    (held c.limits choice log (map run_of runs) (receiver_events runs events) (λ (at : ℕ). receiver_state (states at)) l over (receiver_of c runs events states r answers) no_gap)
+
+pub wire-refuses-none : ((c : Setup) (how : How) (e : Exchange) (x : SentMessage) (old : State) (status : ℕ) (new : State) (acknowledged : Store) → IsExchangeOfMessage c.target e x → Receives c how e.request old status new → status ≢ 413
+    → AnswersAs old.limits x.message (judgement_of status) (state_of old.store acknowledged) (state_of new.store (acknowledged_after (judgement_of status) acknowledged new.store)))
+    → RefusesNoneOfLog → (c : Setup) (runs : List RunOfWorkers) (events : List WireEvent) (states : ℕ → WireState) (choice : Choice) (log : List Entry) (among : Labels → Bool) → RefusesNone c runs events states choice log among
+wire-refuses-none answers none c runs events states choice log among r over can short =
+    none c.limits choice log (map run_of runs) (receiver_events runs events) (λ (at : ℕ). receiver_state (states at)) among over (receiver_of c runs events states r answers) can (refused_for_cause c runs events states r answers among short)

@@ -20,14 +20,14 @@ SaySame full cp later =
     (r : ℕ) → is_used r later ≡ true → labels_of cp r (length cp) ≡ labels_of full r (length full)
 
 -- `cp` is a checkpoint of the entries `full`, which the entries `later` follow: it says of each
--- reference that is used there what `full` says, and has of each label set the samples from a time
+-- reference that is used there what `full` says, and has of the label set the samples from a time
 -- on, which may be another time for each label set
-pub record IsCheckpointFor (floor : Labels → ℤ) (full cp later : List Entry) : Type 0 where
+pub record IsCheckpointFor (floor : ℤ) (l : Labels) (full cp later : List Entry) : Type 0 where
   pub labels : SaySame full cp later
-  pub samples : (l : Labels)
-      → pairs_of (samples_after l [] cp) ≡ those_from (floor l) (pairs_of (samples_after l [] full))
+  pub samples : pairs_of (samples_after l [] cp)
+      ≡ those_from floor (pairs_of (samples_after l [] full))
 
--- no sample of a label set in `later` is earlier than that time
-abbrev pub IsInTime : (Labels → ℤ) → List Entry → List Entry → Type 0
-IsInTime floor full later = (l : Labels)
-    → AllByRecursion (λ (p : Point). is_from (floor l) p ≡ true) (pairs_of (samples_after l full later))
+-- no sample of the label set in `later` is earlier than that time
+abbrev pub IsInTime : ℤ → Labels → List Entry → List Entry → Type 0
+IsInTime floor l full later =
+    AllByRecursion (λ (p : Point). is_from floor p ≡ true) (pairs_of (samples_after l full later))

@@ -10,7 +10,9 @@ use Rattle.rw_wal_format.specs.Pieces.{page_size}
 use Rattle.rw_relabel.specs.declared.choice.Choice.{Choice}
 use Rattle.rw_retry.specs.Judgements.{judgement_of}
 use Rattle.rw_shard_core.specs.SentRequest.{Carries}
-use Rattle.rw_worker.specs.Transcript.{Exchange}
+use Rattle.rw_plain_queue.specs.Items.{Placed}
+use Rattle.rw_shard_core.specs.Shard.{IsReadAgain, body_of}
+use Rattle.rw_worker.specs.Transcript.{Exchange, batch_request}
 use Rattle.rw_head.specs.Head.{answer}
 use Rattle.rw_head.specs.Store.{Store}
 use Rattle.rw_head.specs.Verdicts.{LabelLimits}
@@ -31,7 +33,8 @@ use Rattle.rw_kept_head.specs.Kept.{Kept, SaysWhat, HasNoChance, ended_with}
 use Rattle.rw_kept_head.specs.Opening.{HasSameEntries}
 use Rattle.rw_restarts.specs.KeptReceivers.{acknowledged_after}
 use Rattle.rw_restarts.specs.Logs.{AreRunsOverLog, HoldsLog}
-use Rattle.rw_restarts.specs.WireReceivers.{RunOfWorkers, run_of, ExchangePlace, IsExchangeAt, WireEvent, Comes, Reopens, ReopensDuring, WireState, receiver_state, AreReadAnswers, AreRunsTo, IsCoveredBy, IsWireReceiver, receiver_events}
+use Rattle.rw_restarts.specs.Receivers.{CanBeTaken, AreNeverRefused}
+use Rattle.rw_restarts.specs.WireReceivers.{RunOfWorkers, run_of, ExchangePlace, IsExchangeAt, WireEvent, Comes, Reopens, ReopensDuring, WireState, receiver_state, HasShortBody, AreReadAnswers, AreRunsTo, IsWireReceiver, receiver_events, HasNoGapOnWire, AreShort}
 
 -- a head over a journal, and what it held when a message was last acknowledged
 pub record KeptState (J : Type 0) : Type 0 where
@@ -62,6 +65,16 @@ pub record ReadsCarried (c : Setup) (request body : List ℕ) : Type 0 where
   pub bytes : List ℕ
   pub carries : Carries c.target.host c.target.path request bytes
   pub reads : ReadsBody c.target.path c.max_body bytes body
+
+-- the body of this request is too long for the endpoint
+abbrev pub HasLongBody : Setup → List ℕ → Type 0
+HasLongBody c request = (batch : List Placed) → IsReadAgain batch
+    → request ≡ batch_request c.target batch → c.max_body < length (body_of batch)
+
+-- a body that the endpoint reads is not too long for it
+abbrev pub ReadsShort : Setup → List RunOfWorkers → Type 0
+ReadsShort c runs = (p : ExchangePlace) (w : RunOfWorkers) (x : Exchange) (body : List ℕ)
+    → IsExchangeAt runs p w x → ReadsCarried c x.request body → HasShortBody c x.request
 
 -- what the types of the settings say: the target is one to which requests can be made, and a body
 -- that the receiver takes has fewer than 2^63 bytes
@@ -116,7 +129,8 @@ module _ {J : Type 0} (seen : J → Segments) (may_leave : J → Segments → Ty
     -- The request was answered: by the head, or without asking it.
     abbrev pub IsAnsweredKept : Setup → How → List ℕ → Kept J → ℕ → Kept J → Type 0
     IsAnsweredKept c Plain request old status new =
-        IsAskedFor c request old status new × (status ≢ 503)
+        (IsAskedFor c request old status new × (status ≢ 503))
+        ⊎ ((status ≡ 413) × (new ≡ old) × HasLongBody c request)
     IsAnsweredKept c Busy request old status new = (status ≡ 429) × (new ≡ old)
     IsAnsweredKept c OutOfMemory request old status new =
         (status ≡ 503) × ((new ≡ old) ⊎ IsAskedFor c request old status new)
@@ -218,8 +232,8 @@ module _ {J : Type 0} (seen : J → Segments) (may_leave : J → Segments → Ty
       pub none_yet : (states 0).acknowledged ≡ empty
       pub happens : (at : ℕ) (event : WireEvent) → slice_get events at ≡ Some event
           → HappensToKept c runs event states at
+      pub reads : ReadsShort c runs
       pub answers : AreReadAnswers runs events
-      pub covered : IsCoveredBy runs events (λ (at : ℕ). (states at).acknowledged)
 
     -- it is one of those that the laws of what comes over the wire speak of
     abbrev pub IsWireReceiverKept : Setup → List RunOfWorkers → List WireEvent
@@ -227,10 +241,22 @@ module _ {J : Type 0} (seen : J → Segments) (may_leave : J → Segments → Ty
     IsWireReceiverKept c runs events states = IsKeptReceiver c runs events states
         → IsWireReceiver c runs events (λ (at : ℕ). wire_state (states at))
 
-    -- so it holds of the log of these runs what they say
+    -- so it holds of a label set, and of the log of these runs, what they say
     abbrev pub HoldsLogKept : Setup → List RunOfWorkers → List WireEvent → (ℕ → KeptState J)
-        → Choice → List Entry → Type 0
-    HoldsLogKept c runs events states choice log = IsKeptReceiver c runs events states
-        → AreRunsOverLog choice log (map run_of runs)
-        → HoldsLog choice log (map run_of runs) (receiver_events runs events)
-        (receiver_state (wire_state (states (length events))))
+        → Choice → List Entry → Labels → Type 0
+    HoldsLogKept c runs events states choice log l = IsKeptReceiver c runs events states
+        → AreRunsOverLog choice log (map run_of runs) l
+        → HasNoGapOnWire runs events (λ (at : ℕ). wire_state (states at)) l
+        → HoldsLog choice log (map run_of runs)
+        (receiver_state (wire_state (states (length events)))) l
+
+    -- and refuses none that they say is not refused
+    abbrev pub RefusesNoneKept : Setup → List RunOfWorkers → List WireEvent → (ℕ → KeptState J)
+        → Choice → List Entry → (Labels → Bool) → Type 0
+    RefusesNoneKept c runs events states choice log among = IsKeptReceiver c runs events states
+        → ((l : Labels) → among l ≡ true → AreRunsOverLog choice log (map run_of runs) l)
+        → CanBeTaken c.limits (map run_of runs) (receiver_events runs events)
+        (λ (at : ℕ). receiver_state (wire_state (states at))) among
+        → AreShort c runs among
+        → AreNeverRefused (map run_of runs) (receiver_events runs events)
+        (λ (at : ℕ). receiver_state (wire_state (states at))) among

@@ -11,6 +11,7 @@ pub mod Owed
 pub mod Parts
 pub mod Receivers
 pub mod Refusals
+pub mod RefusedExamples
 pub mod Relay
 pub mod Runs
 pub mod Senders

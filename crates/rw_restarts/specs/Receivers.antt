@@ -1,5 +1,5 @@
 -- A receiver that is started again and again, and what it is sent by many runs of a sender.
-use Rattle.std.specs.Prelude.{◌≡◌, ◌≢◌, ℕ, suc, ◌<◌, List, [], ◌++◌, length, Some, Ok, Err, slice_get}
+use Rattle.std.specs.Prelude.{◌≡◌, ◌≢◌, ◌⊎◌, ℕ, suc, ◌<◌, Bool, true, List, [], ◌++◌, length, Some, Ok, Err, slice_get}
 use Rattle.std.specs.FinMap.{empty}
 use Rattle.rw_types.specs.Beginnings.{Begins}
 use Rattle.rw_types.specs.Labels.{Labels}
@@ -51,13 +51,20 @@ pub record IsRestarted (old : ReceiverState) (most : Store) (new : ReceiverState
   pub least : (l : Labels) → Begins (list_of old.acknowledged l) (list_of new.store l)
   pub at_most : (l : Labels) → Begins (list_of new.store l) (list_of most l)
 
+-- It answers as a head does; or it refuses a message that it did not look at, as one that is too
+-- long.
+abbrev pub AnswersOrRefuses : LabelLimits → WriteRequest → Judgement → ReceiverState → ReceiverState
+    → Type 0
+AnswersOrRefuses limits m judgement old new =
+    AnswersAs limits m judgement old new ⊎ ((judgement ≡ Refused) × (new ≡ old))
+
 -- it answered the n-th message of the i-th run
 pub record HasAnsweredMessage (limits : LabelLimits) (runs : List SenderRun) (i n : ℕ)
     (judgement : Judgement) (old new : ReceiverState) : Type 0 where
   pub run : SenderRun
   pub x : SentMessage
   pub is : IsSentBy runs i n run x
-  pub judged : AnswersAs limits x.message judgement old new
+  pub judged : AnswersOrRefuses limits x.message judgement old new
 
 -- it was started again while it was about to take that message
 pub record HasRestartedDuring (limits : LabelLimits) (runs : List SenderRun) (i n : ℕ)
@@ -102,30 +109,79 @@ pub record AreRealAnswers (runs : List SenderRun) (events : List ReceiverEvent) 
       → IsAnsweredAmong events at i k judgement
 
 -- One receiver, which began empty. It is sent the messages of these runs, each once, often, late or
--- never, and is started again any number of times. Its limits take all label sets that are sent
--- (`within`). When a message of a run comes, all that is earlier than the log of this run is
--- acknowledged (`covered`).
+-- never, and is started again any number of times.
 pub record IsReceiverOf (limits : LabelLimits) (runs : List SenderRun) (events : List ReceiverEvent)
     (states : ℕ → ReceiverState) : Type 0 where
-  pub within : (i n : ℕ) (run : SenderRun) (x : SentMessage) → IsSentBy runs i n run x
-      → AreWithinLimits limits x.message
   pub begins : HoldsNothing (states 0)
   pub happens : (at : ℕ) (event : ReceiverEvent) → slice_get events at ≡ Some event
       → Happens limits runs event (states at) (states (suc at))
   pub answers : AreRealAnswers runs events
-  pub covered : (at : ℕ) (event : ReceiverEvent) (i n : ℕ) (run : SenderRun) (x : SentMessage)
-      (l : Labels) → slice_get events at ≡ Some event → Brings event i n → IsSentBy runs i n run x
-      → Begins (run.earlier l) (list_of (states at).acknowledged l)
 
--- Of each label set the receiver holds a prefix of the whole list. It refused no message. Each
--- message that was acknowledged is held, with all that comes before it.
-pub record HoldsPrefixes (whole : Labels → List Point) (runs : List SenderRun)
-    (events : List ReceiverEvent) (held : ReceiverState) : Type 0 where
-  pub in_order : (l : Labels) → Begins (list_of held.store l) (whole l)
-  pub never_refused : (at i n : ℕ) → slice_get events at ≡ Some (Answers i n Refused) → ⊥
-  pub taken : (i n : ℕ) (run : SenderRun) (x : SentMessage) (l : Labels) → IsSentBy runs i n run x
-      → x.judgement ≡ Some Done
+-- ---- what the laws ask of a label set
+-- no message with samples of it was refused
+abbrev pub IsUnrefused : List SenderRun → List ReceiverEvent → Labels → Type 0
+IsUnrefused runs events l = (at i n : ℕ) (run : SenderRun) (x : SentMessage)
+    → slice_get events at ≡ Some (Answers i n Refused) → IsSentBy runs i n run x
+    → points_in l x.message ≡ []
+
+-- when a message of a run comes that has samples of it, all its samples that are earlier than the
+-- log of this run are acknowledged
+abbrev pub IsCovered : List SenderRun → List ReceiverEvent → (ℕ → ReceiverState) → Labels → Type 0
+IsCovered runs events states l = (at : ℕ) (event : ReceiverEvent) (i n : ℕ) (run : SenderRun)
+    (x : SentMessage) → slice_get events at ≡ Some event → Brings event i n
+    → IsSentBy runs i n run x → points_in l x.message ≢ []
+    → Begins (run.earlier l) (list_of (states at).acknowledged l)
+
+-- So nothing of it can be missing between what is held and what comes next.
+pub record HasNoGap (runs : List SenderRun) (events : List ReceiverEvent)
+    (states : ℕ → ReceiverState) (l : Labels) : Type 0 where
+  pub unrefused : IsUnrefused runs events l
+  pub covered : IsCovered runs events states l
+
+-- Of the label set the receiver holds a prefix of the whole list (`in_order`). It holds each
+-- message that was acknowledged, with all that comes before it (`taken`). All that was acknowledged
+-- in a run is held after what is earlier than its log, if that was acknowledged (`complete`); and
+-- it was, if anything was acknowledged in the run (`based`).
+pub record HoldsPrefix (whole : List Point) (runs : List SenderRun) (held : ReceiverState)
+    (l : Labels) : Type 0 where
+  pub in_order : Begins (list_of held.store l) whole
+  pub taken : (i n : ℕ) (run : SenderRun) (x : SentMessage) → IsSentBy runs i n run x
+      → x.judgement ≡ Some Done → points_in l x.message ≢ []
       → Begins (acknowledged_before run l n ++ points_in l x.message) (list_of held.store l)
-  pub complete : (i : ℕ) (run : SenderRun) (l : Labels) → slice_get runs i ≡ Some run
+  pub complete : (i : ℕ) (run : SenderRun) → slice_get runs i ≡ Some run
       → Begins (run.earlier l) (list_of held.acknowledged l)
       → Begins (run.earlier l ++ acknowledged_in l run.sent) (list_of held.store l)
+  pub based : (i : ℕ) (run : SenderRun) → slice_get runs i ≡ Some run
+      → acknowledged_in l run.sent ≢ [] → Begins (run.earlier l) (list_of held.acknowledged l)
+
+-- ---- what the laws ask of label sets so that none is refused
+-- the message has samples of none but these label sets
+abbrev pub HasOnly : (Labels → Bool) → SentMessage → Type 0
+HasOnly among x = (l : Labels) → points_in l x.message ≢ [] → among l ≡ true
+
+-- These label sets are sent with no others (`alone`), messages of them alone are within the limits
+-- (`within`), and what is earlier than the log of a run was acknowledged (`covered`).
+pub record CanBeTaken (limits : LabelLimits) (runs : List SenderRun) (events : List ReceiverEvent)
+    (states : ℕ → ReceiverState) (among : Labels → Bool) : Type 0 where
+  pub alone : (i n : ℕ) (run : SenderRun) (x : SentMessage) (l : Labels)
+      → IsSentBy runs i n run x → among l ≡ true → points_in l x.message ≢ [] → HasOnly among x
+  pub within : (i n : ℕ) (run : SenderRun) (x : SentMessage) → IsSentBy runs i n run x
+      → HasOnly among x → AreWithinLimits limits x.message
+  pub covered : (l : Labels) → among l ≡ true → IsCovered runs events states l
+
+-- a message of these label sets alone was refused only if the head could not take it
+abbrev pub IsRefusedForCause : LabelLimits → List SenderRun → List ReceiverEvent
+    → (ℕ → ReceiverState) → (Labels → Bool) → Type 0
+IsRefusedForCause limits runs events states among = (at i n : ℕ) (run : SenderRun)
+    (x : SentMessage) → slice_get events at ≡ Some (Answers i n Refused)
+    → IsSentBy runs i n run x → HasOnly among x
+    → (v : Verdict) × (taken_all limits (Ok (states at).store) x.message ≡ Err v)
+
+-- No message of these label sets alone was refused (`never`), so what the laws ask of each of them
+-- is so (`no_gap`).
+pub record AreNeverRefused (runs : List SenderRun) (events : List ReceiverEvent)
+    (states : ℕ → ReceiverState) (among : Labels → Bool) : Type 0 where
+  pub never : (at i n : ℕ) (run : SenderRun) (x : SentMessage)
+      → slice_get events at ≡ Some (Answers i n Refused) → IsSentBy runs i n run x
+      → HasOnly among x → ⊥
+  pub no_gap : (l : Labels) → among l ≡ true → HasNoGap runs events states l

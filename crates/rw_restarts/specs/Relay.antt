@@ -32,21 +32,20 @@ abbrev pub AllReadSegments : Choice → Segments → List SenderRun → Type 0
 AllReadSegments choice segments runs =
     (i : ℕ) (run : SenderRun) → slice_get runs i ≡ Some run → ReadsSegments choice segments run
 
--- Of each label set the second receiver holds a prefix of what the first one holds, and nothing of
--- one that the rules of its sender drop. Of the others it holds all samples of the entries whose
--- samples were all acknowledged in a run (`complete`); and if these are all entries of the log, all
--- that the first receiver holds (`whole`).
+-- Of the label set the second receiver holds a prefix of what the first one holds, and nothing if
+-- the rules of its sender drop it. Else it holds all samples of the entries whose samples were all
+-- acknowledged in a run (`complete`); and if these are all entries of the log, all that the first
+-- receiver holds (`whole`).
 pub record IsRelayed (choice : Choice) (segments : Segments) (runs : List SenderRun)
-    (first second : Store) : Type 0 where
-  pub prefix : (l : Labels) → Begins (list_of second l) (list_of first l)
-  pub dropped : (l : Labels) → is_kept choice l ≡ false → list_of second l ≡ []
-  pub complete : (i : ℕ) (run : SenderRun) (entries : List Entry) (l : Labels)
+    (first second : Store) (l : Labels) : Type 0 where
+  pub prefix : Begins (list_of second l) (list_of first l)
+  pub dropped : is_kept choice l ≡ false → list_of second l ≡ []
+  pub complete : (i : ℕ) (run : SenderRun) (entries : List Entry)
       → slice_get runs i ≡ Some run → is_kept choice l ≡ true
       → Begins (samples_of_labels entries l) (samples_of_labels (entries_of page_size segments) l)
       → acknowledged_in l run.sent ≡ owed_of choice entries l
       → Begins (samples_of_labels entries l) (list_of second l)
-  pub whole : (i : ℕ) (run : SenderRun) (l : Labels) → slice_get runs i ≡ Some run
-      → is_kept choice l ≡ true
+  pub whole : (i : ℕ) (run : SenderRun) → slice_get runs i ≡ Some run → is_kept choice l ≡ true
       → acknowledged_in l run.sent ≡ owed_of choice (entries_of page_size segments) l
       → list_of second l ≡ list_of first l
 

@@ -40,18 +40,26 @@ abbrev pub NoneRefused : Labels → ℕ → List SentMessage → Type 0
 NoneRefused l n sent = (k : ℕ) (y : SentMessage) → k < n → slice_get sent k ≡ Some y
     → y.judgement ≡ Some Refused → points_in l y.message ≡ []
 
--- A run that sends this list of each label set: each message has what comes next in it after the
--- samples that were acknowledged before. Nothing is asked of a label set of which a message was
+-- A run that sends this list of one label set: each message has what comes next in it after the
+-- samples that were acknowledged before. Nothing is asked once a message with the label set was
 -- refused.
-abbrev pub IsRunOver : (Labels → List Point) → SenderRun → Type 0
-IsRunOver whole run = (n : ℕ) (x : SentMessage) (l : Labels) → slice_get run.sent n ≡ Some x
+abbrev pub SendsNext : Labels → List Point → SenderRun → Type 0
+SendsNext l whole run = (n : ℕ) (x : SentMessage) → slice_get run.sent n ≡ Some x
     → NoneRefused l n run.sent
-    → Begins (acknowledged_before run l n ++ points_in l x.message) (whole l)
+    → Begins (acknowledged_before run l n ++ points_in l x.message) whole
+
+-- and so of each label set a list of its own
+abbrev pub IsRunOver : (Labels → List Point) → SenderRun → Type 0
+IsRunOver whole run = (l : Labels) → SendsNext l (whole l) run
+
+-- all these runs send the same list of the label set
+abbrev pub AllSendNext : Labels → List Point → List SenderRun → Type 0
+AllSendNext l whole runs =
+    (i : ℕ) (run : SenderRun) → slice_get runs i ≡ Some run → SendsNext l whole run
 
 -- all these runs send the same lists
 abbrev pub AreRunsOver : (Labels → List Point) → List SenderRun → Type 0
-AreRunsOver whole runs =
-    (i : ℕ) (run : SenderRun) → slice_get runs i ≡ Some run → IsRunOver whole run
+AreRunsOver whole runs = (l : Labels) → AllSendNext l (whole l) runs
 
 -- the n-th message of the i-th run
 pub record IsSentBy (runs : List SenderRun) (i n : ℕ) (run : SenderRun) (x : SentMessage) : Type 0

@@ -1,6 +1,6 @@
 -- A receiver with a journal from a start to an end that was no crash: the requests that came to it,
 -- as its lock let them in.
-use Rattle.std.specs.Prelude.{◌≡◌, ℕ, ◌==◌, if◌then◌else◌, List, [], ◌∷◌, ◌++◌, length, Option, None, Some, slice_get}
+use Rattle.std.specs.Prelude.{◌≡◌, ◌⊎◌, ℕ, ◌==◌, if◌then◌else◌, List, [], ◌∷◌, ◌++◌, length, Option, None, Some, slice_get}
 use Rattle.rw_worker.specs.Transcript.{Exchange}
 use Rattle.rw_head.specs.Store.{Store}
 use Rattle.rw_recv_head.specs.declared.question.Question.{Question}
@@ -12,7 +12,7 @@ use Rattle.rw_kept_log.specs.Journal.{Segments}
 use Rattle.rw_kept_head.specs.Answered.{IsKeptAnswer}
 use Rattle.rw_kept_head.specs.Kept.{Kept}
 use Rattle.rw_restarts.specs.WireReceivers.{RunOfWorkers, ExchangePlace, IsExchangeAt, WireEvent, Comes}
-use Rattle.rw_restarts.specs.KeptWireReceivers.{KeptState, ReadsCarried, HappensToKept}
+use Rattle.rw_restarts.specs.KeptWireReceivers.{KeptState, ReadsCarried, HasLongBody, HappensToKept}
 
 -- A request that has come: of which exchange, the status that was answered, and what a seat was
 -- asked for it, if one was.
@@ -30,11 +30,12 @@ abbrev pub all_asked : List ServedRequest → List Question
 all_asked [] = []
 all_asked (r ∷ later) = asked_for r.question ++ all_asked later
 
--- A seat was asked for the body that the endpoint read; or none was, because memory had run out.
+-- A seat was asked for the body that the endpoint read; or none was, because memory had run out, or
+-- because the body is too long.
 abbrev pub IsServedAs : Setup → List ℕ → ℕ → Option Question → Type 0
 IsServedAs c request status (Some q) =
     ReadsCarried c request q.body × (q.status ≡ status)
-IsServedAs c request status None = status ≡ 503
+IsServedAs c request status None = (status ≡ 503) ⊎ ((status ≡ 413) × HasLongBody c request)
 
 -- each request is one of these runs
 abbrev pub AreServed : Setup → List RunOfWorkers → List ServedRequest → Type 0

@@ -1,6 +1,5 @@
 -- What comes over the wire to a receiver that is started again, of the workers of many runs.
-use Rattle.std.specs.Prelude.{◌≡◌, ◌⊎◌, ℕ, zero, suc, ◌+◌, ◌<◌, ◌≤◌, List, [], ◌∷◌, length, map, Option, None, Some, Ok, slice_get}
-use Rattle.rw_types.specs.Beginnings.{Begins}
+use Rattle.std.specs.Prelude.{◌≡◌, ◌⊎◌, ℕ, zero, suc, ◌+◌, ◌<◌, ◌≤◌, Bool, true, List, [], ◌∷◌, length, map, Option, None, Some, Ok, slice_get}
 use Rattle.rw_types.specs.Labels.{Labels}
 use Rattle.rw_types.specs.declared.entry.Entry.{Entry}
 use Rattle.rw_relabel.specs.declared.choice.Choice.{Choice}
@@ -16,14 +15,13 @@ use Rattle.rw_fleet.specs.ShardHistories.{ShardHistory}
 use Rattle.rw_sender.specs.Shipping.{Shipping, HasStopped}
 use Rattle.rw_sender.specs.declared.report.Report.{Report}
 use Rattle.rw_head.specs.Head.{State}
-use Rattle.rw_head.specs.Store.{Store, list_of}
+use Rattle.rw_head.specs.Store.{Store}
 use Rattle.rw_head.specs.Verdicts.{taken_all}
 use Rattle.rw_machine.specs.Worlds.{Setup}
 use Rattle.rw_machine.specs.declared.event.How.{How}
 use Rattle.rw_restarts.specs.Arrivals.{Receives}
-use Rattle.rw_restarts.specs.Parts.{AreWithinLimits}
-use Rattle.rw_restarts.specs.Runs.{SentMessage, SenderRun, IsSentBy}
-use Rattle.rw_restarts.specs.Receivers.{ReceiverEvent, Answers, Restarts, RestartsDuring, ReceiverState, state_of, HoldsNothing, IsRestarted, IsReceiverOf}
+use Rattle.rw_restarts.specs.Runs.{SentMessage, SenderRun}
+use Rattle.rw_restarts.specs.Receivers.{ReceiverEvent, Answers, Restarts, RestartsDuring, ReceiverState, state_of, HoldsNothing, IsRestarted, IsReceiverOf, HasNoGap, HasOnly, CanBeTaken, AreNeverRefused}
 use Rattle.rw_restarts.specs.KeptReceivers.{acknowledged_after}
 use Rattle.rw_restarts.specs.Logs.{AreRunsOverLog, HoldsLog}
 use Rattle.rw_restarts.specs.Shards.{AreMessagesOfEpochs}
@@ -166,20 +164,10 @@ pub record AreReadAnswers (runs : List RunOfWorkers) (events : List WireEvent) :
       → IsEarlierExchange p q → IsExchangeAt runs p w x → x.answer ≡ Ok r
       → IsAnsweredOnWire events at p r.status
 
--- These are runs of workers to one receiver, whose limits take all label sets and all bodies that
--- they send (`within`, `short`).
-pub record AreRunsTo (c : Setup) (runs : List RunOfWorkers) : Type 0 where
-  pub workers : (i : ℕ) (w : RunOfWorkers) → slice_get runs i ≡ Some w → IsRunOfWorkers c.target w
-  pub within : (i n : ℕ) (run : SenderRun) (x : SentMessage) → IsSentBy (map run_of runs) i n run x
-      → AreWithinLimits c.limits x.message
-  pub short : (p : ExchangePlace) (w : RunOfWorkers) (x : Exchange) → IsExchangeAt runs p w x
-      → HasShortBody c x.request
-
--- when a request of a run comes, all that is earlier than the log of this run is acknowledged
-abbrev pub IsCoveredBy : List RunOfWorkers → List WireEvent → (ℕ → Store) → Type 0
-IsCoveredBy runs events acknowledged = (at : ℕ) (event : WireEvent) (p : ExchangePlace)
-    (w : RunOfWorkers) (l : Labels) → slice_get events at ≡ Some event → BringsExchange event p
-    → slice_get runs p.run ≡ Some w → Begins (w.run.earlier l) (list_of (acknowledged at) l)
+-- these are runs of workers to one receiver
+abbrev pub AreRunsTo : Setup → List RunOfWorkers → Type 0
+AreRunsTo c runs =
+    (i : ℕ) (w : RunOfWorkers) → slice_get runs i ≡ Some w → IsRunOfWorkers c.target w
 
 -- One receiver, which began empty. The requests of the workers of these runs come to it, each once,
 -- often, late or never, and it is started again any number of times.
@@ -191,7 +179,6 @@ pub record IsWireReceiver (c : Setup) (runs : List RunOfWorkers) (events : List 
   pub happens : (at : ℕ) (event : WireEvent) → slice_get events at ≡ Some event
       → HappensOnWire c runs event (states at) (states (suc at))
   pub answers : AreReadAnswers runs events
-  pub covered : IsCoveredBy runs events (λ (at : ℕ). (states at).acknowledged)
 
 -- ---- as messages and events
 abbrev pub receiver_event : List RunOfWorkers → WireEvent → ReceiverEvent
@@ -209,13 +196,35 @@ IsReceiverByWire c runs events states = IsWireReceiver c runs events states
     → IsReceiverOf c.limits (map run_of runs) (receiver_events runs events)
     (λ (at : ℕ). receiver_state (states at))
 
--- so it holds of their log what the laws say
+-- what the laws ask of a label set is so of the messages of these requests
+abbrev pub HasNoGapOnWire : List RunOfWorkers → List WireEvent → (ℕ → WireState) → Labels → Type 0
+HasNoGapOnWire runs events states l = HasNoGap (map run_of runs) (receiver_events runs events)
+    (λ (at : ℕ). receiver_state (states at)) l
+
+-- then it holds of this label set, and of the log of the runs, what the laws say
 abbrev pub HoldsLogByWire : Setup → List RunOfWorkers → List WireEvent → (ℕ → WireState) → Choice
-    → List Entry → Type 0
-HoldsLogByWire c runs events states choice log = IsWireReceiver c runs events states
-    → AreRunsOverLog choice log (map run_of runs)
-    → HoldsLog choice log (map run_of runs) (receiver_events runs events)
-    (receiver_state (states (length events)))
+    → List Entry → Labels → Type 0
+HoldsLogByWire c runs events states choice log l = IsWireReceiver c runs events states
+    → AreRunsOverLog choice log (map run_of runs) l → HasNoGapOnWire runs events states l
+    → HoldsLog choice log (map run_of runs) (receiver_state (states (length events))) l
+
+-- ---- label sets that are not refused
+-- the endpoint takes the body of each request whose message has samples of these label sets alone
+abbrev pub AreShort : Setup → List RunOfWorkers → (Labels → Bool) → Type 0
+AreShort c runs among = (p : ExchangePlace) (w : RunOfWorkers) (x : Exchange) (m : SentMessage)
+    → IsExchangeAt runs p w x → slice_get w.run.sent (message_number runs p) ≡ Some m
+    → HasOnly among m → HasShortBody c x.request
+
+-- if the limits take these label sets and these bodies, no message of them is refused
+abbrev pub RefusesNone : Setup → List RunOfWorkers → List WireEvent → (ℕ → WireState) → Choice
+    → List Entry → (Labels → Bool) → Type 0
+RefusesNone c runs events states choice log among = IsWireReceiver c runs events states
+    → ((l : Labels) → among l ≡ true → AreRunsOverLog choice log (map run_of runs) l)
+    → CanBeTaken c.limits (map run_of runs) (receiver_events runs events)
+    (λ (at : ℕ). receiver_state (states at)) among
+    → AreShort c runs among
+    → AreNeverRefused (map run_of runs) (receiver_events runs events)
+    (λ (at : ℕ). receiver_state (states at)) among
 
 -- ---- a shipper that was stopped
 module _ {T : Type 0} (tells : T → Type 0) (seen : T → List Exchange) (is_for : ℕ → ℕ → T → Type 0)

@@ -34,16 +34,16 @@ pub fn what_is_owed_rises()
 pub fn a_checkpoint_keeps_the_series()
     ensures rest { (full cp later : List Entry) (l : Labels) → SaySame full cp later
         → pairs_of (samples_after l cp later) ≡ pairs_of (samples_after l full later) }
-    ensures whole { (floor : Labels → ℤ) (full cp later : List Entry) (l : Labels)
-        → IsCheckpointFor floor full cp later
+    ensures whole { (floor : ℤ) (full cp later : List Entry) (l : Labels)
+        → IsCheckpointFor floor l full cp later
         → pairs_of (samples_after l [] (cp ++ later))
-        ≡ those_from (floor l) (pairs_of (samples_after l [] full))
+        ≡ those_from floor (pairs_of (samples_after l [] full))
         ++ pairs_of (samples_after l full later) }
-    ensures owed { (choice : Choice) (floor : Labels → ℤ) (full cp later : List Entry) (l : Labels)
-        → IsCheckpointFor floor full cp later → IsInTime floor full later
+    ensures owed { (choice : Choice) (floor : ℤ) (full cp later : List Entry) (l : Labels)
+        → IsCheckpointFor floor l full cp later → IsInTime floor l full later
         → EndsWith (owed_of choice (full ++ later) l) (owed_of choice (cp ++ later) l) }
-    ensures part { (choice : Choice) (floor : Labels → ℤ) (full cp later more : List Entry)
-        (l : Labels) → IsCheckpointFor floor full cp later → IsInTime floor full later
+    ensures part { (choice : Choice) (floor : ℤ) (full cp later more : List Entry)
+        (l : Labels) → IsCheckpointFor floor l full cp later → IsInTime floor l full later
         → (earlier : List Point) × Begins (earlier ++ owed_of choice (cp ++ later) l)
         (owed_of choice ((full ++ later) ++ more) l) }
 {}

@@ -18,11 +18,12 @@ pub use checkpoints::{
 };
 pub use examples::{
     a_small_history_is_allowed, a_small_history_over_a_folder_is_allowed,
-    a_small_history_over_the_wire_is_allowed, a_small_open_receiver_is_allowed,
+    a_small_history_over_the_wire_is_allowed, a_small_history_with_a_refusal_is_allowed,
+    a_small_open_receiver_is_allowed,
 };
 pub use logs::{
     a_run_from_a_checkpoint_is_a_run_over_the_log, a_run_over_a_part_is_a_run_over_the_log,
-    many_runs_hold_one_log,
+    many_runs_hold_one_log, what_is_held_of_a_label_set,
 };
 pub use receivers::{a_kept_head_is_such_a_receiver, an_endpoint_is_such_a_receiver};
 pub use relay::{

@@ -20,7 +20,8 @@ ghost use Rattle.rw_head.specs.Verdicts.{LabelLimits};
 ghost use Rattle.rw_machine.specs.Promises.{owed, pair_of};
 ghost use Rattle.rw_kept_head.specs.Kept.{SaysWhat, LiesBetween};
 ghost use Rattle.rw_restarts.specs.Runs.{SenderRun};
-ghost use Rattle.rw_restarts.specs.Receivers.{ReceiverEvent, ReceiverState, IsReceiverOf};
+ghost use Rattle.rw_restarts.specs.Receivers.{ReceiverEvent, ReceiverState};
+ghost use Rattle.rw_restarts.specs.Receivers.{IsReceiverOf, HasNoGap};
 ghost use Rattle.rw_restarts.specs.Relay.{ReadsSegments, AllReadSegments};
 ghost use Rattle.rw_restarts.specs.Relay.{IsRelayed, IsRelayedLess};
 
@@ -28,16 +29,17 @@ use crate::checkpoints::what_is_owed_rises;
 use crate::logs::many_runs_hold_one_log;
 
 /// Law: a first receiver keeps what it holds in a log, which a sender sends to a second one.
-/// However often all three are started again, the second receiver holds of each label set a prefix
-/// of what the first one holds, and nothing of one that the sender's rules drop. Of the others it
-/// holds all that the first one holds, once all samples of its log were acknowledged in one run of
-/// the sender.
+/// However often all three are started again, the second receiver holds of a label set a prefix of
+/// what the first one holds, and nothing if the sender's rules drop it. Else it holds all that the
+/// first one holds, once all samples of its log were acknowledged in one run of the sender. What is
+/// asked of the label set is that no message with samples of it was refused (`HasNoGap`).
 pub fn a_relay_holds_what_the_first_receiver_holds()
     ensures { (limits : LabelLimits) (choice : Choice) (first : Store) (segments : Segments)
         (runs : List SenderRun) (events : List ReceiverEvent) (states : ℕ → ReceiverState)
-        → EachRises first → SaysWhat segments first → AllReadSegments choice segments runs
-        → IsReceiverOf limits runs events states
-        → IsRelayed choice segments runs first (states (length events)).store }
+        (l : Labels) → EachRises first → SaysWhat segments first
+        → AllReadSegments choice segments runs → IsReceiverOf limits runs events states
+        → HasNoGap runs events states l
+        → IsRelayed choice segments runs first (states (length events)).store l }
 {
     what_is_owed_rises();
     many_runs_hold_one_log();

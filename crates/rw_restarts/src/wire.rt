@@ -1,17 +1,20 @@
 //! Laws of what comes over the wire to a receiver that is started again. Each function has no body
 //! but the laws that it rests on: its contract is the law.
 
-ghost use Rattle.std.specs.Prelude.{ℕ, List};
+ghost use Rattle.std.specs.Prelude.{ℕ, Bool, List};
+ghost use Rattle.rw_types.specs.Labels.{Labels};
 ghost use Rattle.rw_types.specs.declared.entry.Entry.{Entry};
 ghost use Rattle.rw_relabel.specs.declared.choice.Choice.{Choice};
 ghost use Rattle.rw_machine.specs.Worlds.{Setup};
 ghost use Rattle.rw_sender.specs.Shipping.{Shipping};
 ghost use Rattle.rw_sender.specs.declared.report.Report.{Report};
 ghost use Rattle.rw_restarts.specs.WireReceivers.{RunOfWorkers, WireEvent, WireState};
-ghost use Rattle.rw_restarts.specs.WireReceivers.{IsReceiverByWire, HoldsLogByWire, StopsAsWorkers};
+ghost use Rattle.rw_restarts.specs.WireReceivers.{IsReceiverByWire, HoldsLogByWire, RefusesNone};
+ghost use Rattle.rw_restarts.specs.WireReceivers.{StopsAsWorkers};
 ghost use Rattle.rw_head.specs.Store.{Store};
 ghost use Rattle.rw_kept_head.specs.Kept.{Kept};
 ghost use Rattle.rw_restarts.specs.KeptWireReceivers.{KeptState, IsWireReceiverKept, HoldsLogKept};
+ghost use Rattle.rw_restarts.specs.KeptWireReceivers.{RefusesNoneKept};
 ghost use Rattle.rw_restarts.specs.ServedReceivers.{ServedRequest, ServesInOrder};
 
 use crate::logs::many_runs_hold_one_log;
@@ -25,7 +28,9 @@ use rw_worker::Transport;
 /// Law: a receiver to which the requests of the workers of many runs come over the wire is one of
 /// those that the laws of messages speak of (`receiver`). A request comes once, often, late or
 /// never, and is answered as the endpoint answers it; in between the receiver is started again any
-/// number of times. So it holds what these laws say of the log that the runs are over (`holds`).
+/// number of times. So it holds what these laws say of a label set and of the log that the runs are
+/// over (`holds`), and refuses no label set that they say is not refused, if it takes the bodies in
+/// which these label sets come (`refuses_none`).
 ///
 /// Of the network it is asked that it invents no answer, and that nothing comes before its exchange
 /// began.
@@ -33,8 +38,11 @@ pub fn what_comes_over_the_wire_is_such_a_receiver()
     ensures receiver { (c : Setup) (runs : List RunOfWorkers) (events : List WireEvent)
         (states : ℕ → WireState) → IsReceiverByWire c runs events states }
     ensures holds { (c : Setup) (runs : List RunOfWorkers) (events : List WireEvent)
-        (states : ℕ → WireState) (choice : Choice) (log : List Entry)
-        → HoldsLogByWire c runs events states choice log }
+        (states : ℕ → WireState) (choice : Choice) (log : List Entry) (l : Labels)
+        → HoldsLogByWire c runs events states choice log l }
+    ensures refuses_none { (c : Setup) (runs : List RunOfWorkers) (events : List WireEvent)
+        (states : ℕ → WireState) (choice : Choice) (log : List Entry) (among : Labels → Bool)
+        → RefusesNone c runs events states choice log among }
 {
     an_endpoint_is_such_a_receiver();
     many_runs_hold_one_log();
@@ -42,8 +50,9 @@ pub fn what_comes_over_the_wire_is_such_a_receiver()
 
 /// Law: a receiver whose head is kept in a journal is such a receiver (`receiver`), from its first
 /// start to its last. It is killed at any moment, and opened again from what the crash left of the
-/// log that the head before it wrote. So it holds what the laws say of the log that the runs are
-/// over (`holds`).
+/// log that the head before it wrote. So it holds what the laws say of a label set and of the log
+/// that the runs are over (`holds`), and refuses none that they say is not refused
+/// (`refuses_none`).
 ///
 /// Of the endpoint it is asked that it asks the head for the body that it reads (`ReadsBody`, by
 /// `serve`) in bytes that carry the request: the request itself, or, as `send --snappy` writes it,
@@ -56,8 +65,13 @@ pub fn a_kept_receiver_is_such_a_receiver<J: Journal>()
         (states : ℕ → KeptState J) → IsWireReceiverKept J.seen J.may_leave J.moment J.left_since
         J.tears c runs events states }
     ensures holds { (c : Setup) (runs : List RunOfWorkers) (events : List WireEvent)
-        (states : ℕ → KeptState J) (choice : Choice) (log : List Entry) → HoldsLogKept J.seen
-        J.may_leave J.moment J.left_since J.tears c runs events states choice log }
+        (states : ℕ → KeptState J) (choice : Choice) (log : List Entry) (l : Labels)
+        → HoldsLogKept J.seen J.may_leave J.moment J.left_since J.tears c runs events states choice
+        log l }
+    ensures refuses_none { (c : Setup) (runs : List RunOfWorkers) (events : List WireEvent)
+        (states : ℕ → KeptState J) (choice : Choice) (log : List Entry) (among : Labels → Bool)
+        → RefusesNoneKept J.seen J.may_leave J.moment J.left_since J.tears c runs events states
+        choice log among }
 {
     requests_are_read();
     snappy_requests_are_read();

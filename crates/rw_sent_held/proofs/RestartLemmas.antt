@@ -29,8 +29,8 @@ use Rattle.rw_restarts.specs.Listed.{is_left}
 use Rattle.rw_send.specs.Sending.{IsReportOf}
 use Rattle.rw_restarts.proofs.shared.ListLemmas.{get-within}
 use Rattle.rw_restarts.specs.Parts.{points_in}
-use Rattle.rw_restarts.specs.Runs.{SenderRun, SentMessage, acknowledged_in}
-use Rattle.rw_restarts.specs.Receivers.{Answers, IsReceiverOf, ReceiverEvent, ReceiverState}
+use Rattle.rw_restarts.specs.Runs.{SenderRun, SentMessage, IsSentBy, acknowledged_in}
+use Rattle.rw_restarts.specs.Receivers.{HasNoGap, IsReceiverOf, IsUnrefused, ReceiverEvent, ReceiverState}
 use Rattle.rw_restarts.specs.Logs.{AreRunsOverLog, HoldsLog, IsRunOverPart}
 use Rattle.rw_restarts.specs.Workers.{NeverRefused}
 use Rattle.rw_restarts.specs.Stopped.{AbandonsAsSender, AddsOverWire, AddsToReceiver, HasAdded, IsStoppedRun, IsUnlisted, run_from_start}
@@ -38,12 +38,14 @@ use Rattle.rw_sent_held.specs.Held.{machine_of}
 use Rattle.rw_sent_held.specs.Restarts.{AddsFed, HasAddedFed, IsFedUnlisted, IsRunOverFed, IsSettledBy}
 use Rattle.rw_sent_held.proofs.HeldLemmas.{all_from, placed_from}
 
--- ---- a receiver that refuses nothing
+-- ---- a label set of which a receiver refuses nothing
 none_refused : (limits : LabelLimits) (l : Labels) (runs : List SenderRun) (events : List ReceiverEvent) (states : ℕ → ReceiverState) (i : ℕ) (run : SenderRun) → slice_get runs i ≡ Some run → IsReceiverOf limits runs events states
-    → ((at i n : ℕ) → slice_get events at ≡ Some (Answers i n Refused) → ⊥) → NeverRefused l run.sent
+    → IsUnrefused runs events l → NeverRefused l run.sent
 none_refused limits l runs events states i run at receiver never =
     AllByRecursion-from_get (λ (x : SentMessage). x.judgement ≡ Some Refused → points_in l x.message ≡ []) run.sent
-    (λ n x here refused. let answer = receiver.answers.all i n run x Refused (record { exists = at; is = here }) refused in absurd (never answer.at i n answer.is))
+    (λ n x here refused.
+    let sent : IsSentBy runs i n run x = record { exists = at; is = here } in
+    let answer = receiver.answers.all i n run x Refused sent refused in never answer.at i n run x answer.is sent)
 
 module _ {T : Type 0} (tells : T → Type 0) (seen : T → List Exchange) (is_for : ℕ → ℕ → T → Type 0)
     (c : ConfigFields) (limit : Option ℕ) (cause : Type 0) (ps : List Piece) (r : Report T)
@@ -62,8 +64,8 @@ module _ {T : Type 0} (tells : T → Type 0) (seen : T → List Exchange) (is_fo
   ends_as o is = subst (HasEndedAs s report.stopped.joined) is report.stopped.ends
 
   module _ (abandoned : (s : Shipping T) (r : Report T) → AbandonsAsSender tells seen is_for s r)
-      (many : (limits : LabelLimits) (choice : Choice) (log : List Entry) (runs : List SenderRun) (events : List ReceiverEvent) (states : ℕ → ReceiverState) → AreRunsOverLog choice log runs → IsReceiverOf limits runs events states
-      → HoldsLog choice log runs events (states (length events))) where
+      (many : (limits : LabelLimits) (choice : Choice) (log : List Entry) (runs : List SenderRun) (events : List ReceiverEvent) (states : ℕ → ReceiverState) (l : Labels) → AreRunsOverLog choice log runs l → IsReceiverOf limits runs events states
+      → HasNoGap runs events states l → HoldsLog choice log runs (states (length events)) l) where
     run : IsStoppedRun tells seen is_for s r report.stopped
     run = abandoned s r report.stopped report.last.before (placed_from s report.last.before report.last.is report.placed) (all_from s report.last.before report.stopped.joined report.last.is report.stopped.all) report.last.resolved
 
@@ -73,12 +75,12 @@ module _ {T : Type 0} (tells : T → Type 0) (seen : T → List Exchange) (is_fo
         ∙ ap (λ (choice : Choice). owed_of choice s.log.placed l) report.choice
         ∙ ap (λ es. owed_of (choice_of c) es l) (all_placed (ends_as (Complete end) is).1.all)
 
-    held : (end : ℕ) → r.outcome ≡ Complete end → (limits : LabelLimits) (log : List Entry) (runs : List SenderRun) (i : ℕ) (events : List ReceiverEvent) (states : ℕ → ReceiverState) → slice_get runs i ≡ Some (run_from_start run.run.sent)
-        → AreRunsOverLog (choice_of c) log runs → IsReceiverOf limits runs events states → (l : Labels) → Begins (owed_of (choice_of c) (entries ps) l) (list_of (states (length events)).store l)
-    held end is limits log runs i events states at over receiver l =
-        let holds = many limits (choice_of c) log runs events states over receiver in
-        let never : NeverRefused l run.run.sent = none_refused limits l runs events states i (run_from_start run.run.sent) at receiver holds.prefixes.never_refused in
-        holds.complete i (run_from_start run.run.sent) (entries ps) l at (list_of (states (length events)).acknowledged l, refl) (complete end is l never)
+    held : (end : ℕ) → r.outcome ≡ Complete end → (limits : LabelLimits) (log : List Entry) (runs : List SenderRun) (i : ℕ) (events : List ReceiverEvent) (states : ℕ → ReceiverState) (l : Labels) → slice_get runs i ≡ Some (run_from_start run.run.sent)
+        → AreRunsOverLog (choice_of c) log runs l → IsReceiverOf limits runs events states → HasNoGap runs events states l → Begins (owed_of (choice_of c) (entries ps) l) (list_of (states (length events)).store l)
+    held end is limits log runs i events states l at over receiver no_gap =
+        let holds = many limits (choice_of c) log runs events states l over receiver no_gap in
+        let never : NeverRefused l run.run.sent = none_refused limits l runs events states i (run_from_start run.run.sent) at receiver no_gap.unrefused in
+        holds.complete i (run_from_start run.run.sent) (entries ps) at (list_of (states (length events)).acknowledged l, refl) (complete end is l never)
 
     pub is_run : IsRunOverFed tells seen is_for c ps report.shipping r report.stopped
     is_run = record {

@@ -22,7 +22,7 @@ use Rattle.rw_sender.specs.declared.report.Report.{Report}
 use Rattle.rw_restarts.specs.Arrivals.{Arrival, AreExchangesOf}
 use Rattle.rw_restarts.specs.Listed.{is_left, IsNamedIn}
 use Rattle.rw_restarts.specs.Runs.{SenderRun, acknowledged_in}
-use Rattle.rw_restarts.specs.Receivers.{IsReceiverOf, ReceiverEvent, ReceiverState}
+use Rattle.rw_restarts.specs.Receivers.{HasNoGap, IsReceiverOf, ReceiverEvent, ReceiverState}
 use Rattle.rw_restarts.specs.Refusals.{IsAnyReceiver}
 use Rattle.rw_restarts.specs.Logs.{AreRunsOverLog, IsRunOverPart}
 use Rattle.rw_restarts.specs.Workers.{NeverRefused}
@@ -39,8 +39,9 @@ use Rattle.rw_sent_held.specs.Held.{machine_of}
 -- What a shipper with this configuration sent that was fed these pieces: one run, by the steps that
 -- its workers report (`run`), over each log that begins with what was fed (`over`). If the outcome
 -- is complete, all that is owed of a label set was acknowledged, if no message was refused of it
--- (`complete`). So whatever other runs over one log one receiver was sent messages of, which began
--- empty, it holds all that is owed of what was fed (`held`).
+-- (`complete`). So whatever other runs one receiver was sent messages of, which began empty, it
+-- holds all that is owed of a label set of what was fed, if all runs send what one log owes of it,
+-- and there is no gap in it (`held`).
 pub record IsRunOverFed {T : Type 0} (tells : T → Type 0) (seen : T → List Exchange)
     (is_for : ℕ → ℕ → T → Type 0) (c : ConfigFields) (pieces : List Piece) (s : Shipping T)
     (r : Report T) (stopped : HasStopped tells seen is_for s r) : Type 0 where
@@ -52,9 +53,10 @@ pub record IsRunOverFed {T : Type 0} (tells : T → Type 0) (seen : T → List E
       → acknowledged_in l run.run.sent ≡ owed_of (choice_of c) (entries pieces) l
   pub held : (end : ℕ) → r.outcome ≡ Complete end → (limits : LabelLimits) (log : List Entry)
       (runs : List SenderRun) (i : ℕ) (events : List ReceiverEvent) (states : ℕ → ReceiverState)
-      → slice_get runs i ≡ Some (run_from_start run.run.sent)
-      → AreRunsOverLog (choice_of c) log runs → IsReceiverOf limits runs events states
-      → (l : Labels) → Begins (owed_of (choice_of c) (entries pieces) l)
+      (l : Labels) → slice_get runs i ≡ Some (run_from_start run.run.sent)
+      → AreRunsOverLog (choice_of c) log runs l → IsReceiverOf limits runs events states
+      → HasNoGap runs events states l
+      → Begins (owed_of (choice_of c) (entries pieces) l)
       (list_of (states (length events)).store l)
 
 abbrev pub SentIsRun : {T : Type 0} → (T → Type 0) → (T → List Exchange) → (ℕ → ℕ → T → Type 0)

@@ -42,8 +42,8 @@ pub fn one_receiver_holds_what_was_sent<T: Transport, S: Segments>()
 /// (`followed`), is one run of a sender over each log that begins with what was fed, as the laws of
 /// `rw_restarts` ask. So it may be one of many runs into one receiver (`many_runs_hold_one_log`).
 /// If the outcome is complete, all that what was fed owes of a label set was acknowledged, if no
-/// message was refused of it; and a receiver of these many runs, which refuses none, holds it.
-/// There is no premise on how the run ended.
+/// message was refused of it; and a receiver of these many runs, which refused none of it, holds
+/// it. There is no premise on how the run ended.
 pub fn a_send_is_such_a_sender<T: Transport, S: Segments>()
     ensures sent { (c : ConfigFields) (limit : Option ℕ) (lefts now : List (Option (List ℕ)))
         (sures : List Bool) (quiet : Bool) (said : StopRequest) (r : Report T)

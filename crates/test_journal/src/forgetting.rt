@@ -58,9 +58,9 @@ fn read_recent(
 }
 
 /// Asks a head the requests of the rows and the last one. Returns the first with another answer.
-fn ask_rows(
+fn ask_rows<J: Journal>(
     plan: &Plan,
-    kept: &mut KeptHead<MemoryJournal, RecentSamples>,
+    kept: &mut KeptHead<J, RecentSamples>,
 ) -> Option<&'static str> {
     for (at, (name, _, _)) in ROWS.iter().enumerate() {
         let Some(request) = plan.requests.get(at.saturating_add(1)) else {
@@ -77,7 +77,7 @@ fn ask_rows(
 }
 
 /// Asks a new head the first request, has it let samples go, and asks it the others.
-fn ask_all(plan: &Plan, kept: &mut KeptHead<MemoryJournal, RecentSamples>) -> Option<&'static str> {
+fn ask_all<J: Journal>(plan: &Plan, kept: &mut KeptHead<J, RecentSamples>) -> Option<&'static str> {
     let Some(first) = plan.requests.first() else {
         return Some("a plan");
     };
@@ -90,20 +90,19 @@ fn ask_all(plan: &Plan, kept: &mut KeptHead<MemoryJournal, RecentSamples>) -> Op
     ask_rows(plan, kept)
 }
 
-/// Opens a journal for a head that forgets, and asks it by `ask`. Returns the journal, and what is
-/// wrong first.
-fn live_recent(
-    alloc: Global,
+/// Opens a journal whose segments were read for a head that forgets, and asks it all requests, or
+/// only those after the first one. Returns the journal, and what is wrong first.
+fn ask_recent<J: Journal>(
     plan: &Plan,
-    mut journal: MemoryJournal,
+    reading: HeadReading<RecentSamples>,
+    mut journal: J,
     asks_all: bool,
-) -> (MemoryJournal, Option<&'static str>) {
-    if journal.sync().is_err() {
+) -> (J, Option<&'static str>)
+    requires { reading.segments ≡ J.seen journal }
+{
+    if let Err(_) = journal.sync() {
         return (journal, Some("a sync"));
     }
-    let Ok(reading) = read_recent(alloc, &plan.limits, &journal) else {
-        return (journal, Some("a reading"));
-    };
     match KeptHead::open(reading, journal, 4096) {
         Ok(opened) => {
             let mut kept = opened.kept;
@@ -115,6 +114,20 @@ fn live_recent(
             (kept.into_journal(), wrong)
         }
         Err((_, journal)) => (journal, Some("an open journal")),
+    }
+}
+
+/// Reads a journal for a head that forgets, and asks it. Returns the journal, and what is wrong
+/// first.
+fn live_recent(
+    alloc: Global,
+    plan: &Plan,
+    journal: MemoryJournal,
+    asks_all: bool,
+) -> (MemoryJournal, Option<&'static str>) {
+    match read_recent(alloc, &plan.limits, &journal) {
+        Ok(reading) => ask_recent(plan, reading, journal, asks_all),
+        Err(_) => (journal, Some("a reading")),
     }
 }
 

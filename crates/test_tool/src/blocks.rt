@@ -38,7 +38,7 @@ label sets                  1
 samples without a series    0
 samples with bad labels     0
 samples that do not rise    0
-";
+their first positions      \n";
 
 /// The sample.
 const FOUND: &str =
