@@ -2,7 +2,7 @@
 
 ghost use Rattle.std.specs.Prelude.{◌≡◌, ◌≤◌};
 
-use std::sync::atomic::{AtomicIn, Ordering, Rule};
+use std::sync::atomic::{AtomicU64, Ordering};
 
 /// What is asked of the work.
 #[derive(Clone, Copy, Debug, PartialEq, Eq)]
@@ -15,27 +15,18 @@ pub enum StopRequest {
     Abort,
 }
 
-/// The word of a signal is 0, 1 or 2, for the requests in their order.
-pub struct Level;
-
-impl Rule for Level {
-    ghost use Rattle.std.specs.Prelude.{◌≤◌};
-
-    ghost invariant = { λ n. n ≤ 2 };
-}
-
 /// A stop signal that threads share. It only goes up: from `Continue` to `Finish`, and to `Abort`.
 #[derive(Drop)]
 pub struct StopSignal {
-    level: AtomicIn<Level>,
+    /// 0, 1 or 2, for the requests in their order.
+    level: AtomicU64,
 }
 
 /// Returns the request at a level.
 fn request_at(level: u64) -> StopRequest
-    requires { level ≤ 2 }
     ensures work { level ≡ 0 → result ≡ StopRequest.Continue }
     ensures finish { level ≡ 1 → result ≡ StopRequest.Finish }
-    ensures abort { level ≡ 2 → result ≡ StopRequest.Abort }
+    ensures abort { 2 ≤ level → result ≡ StopRequest.Abort }
 {
     match level {
         0 => StopRequest::Continue,
@@ -48,7 +39,7 @@ impl StopSignal {
     /// Returns a signal that nobody has set: it says `Continue`.
     pub fn new() -> StopSignal {
         StopSignal {
-            level: AtomicIn::new(0),
+            level: AtomicU64::new(0),
         }
     }
 

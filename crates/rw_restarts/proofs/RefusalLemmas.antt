@@ -14,7 +14,7 @@ use Rattle.rw_head.specs.Growth.{EachRises}
 use Rattle.rw_head.specs.Lists.{IsEarlier}
 use Rattle.rw_head.specs.Order.{Point, accept, accept_one, holds, is_later}
 use Rattle.rw_head.specs.Store.{Store, list_of}
-use Rattle.rw_head.specs.Verdicts.{LabelLimits, taken, taken_all}
+use Rattle.rw_head.specs.Verdicts.{LabelLimits, taken_all}
 use Rattle.rw_head.proofs.shared.OrderLemmas.{accept-none, Rises-later}
 use Rattle.rw_restarts.specs.Parts.{points_in}
 use Rattle.rw_restarts.specs.Runs.{SentMessage, SenderRun, IsSentBy}

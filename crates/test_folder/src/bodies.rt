@@ -69,19 +69,20 @@ static BODIES: [(&str, &[u8], u64, [u64; 3]); 11] = [
 
 /// Returns the name of the first body of which something else is counted.
 fn wrong_body(alloc: Global) -> Result<Option<&'static str>, AllocError> {
-    for (name, body, samples, [histograms, exemplars, metadata]) in &BODIES {
+    for row in &BODIES {
+        let (name, body, samples, [histograms, exemplars, metadata]) = *row;
         let counters = ReceiveCounters::new(alloc)?;
         counters.skip_parts(body);
         let wanted = SkippedParts {
-            histograms: *histograms,
-            exemplars: *exemplars,
-            metadata: *metadata,
+            histograms,
+            exemplars,
+            metadata,
         };
         let refused = counters.refuse_body(Some(RefusalReason::Order), body);
         let numbers = counters.numbers(alloc)?;
         if numbers.skipped != wanted
-            || refused != *samples
-            || numbers.refused_samples.order != *samples
+            || refused != samples
+            || numbers.refused_samples.order != samples
         {
             return Ok(Some(name));
         }

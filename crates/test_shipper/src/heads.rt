@@ -10,7 +10,7 @@ use Call::{Feed, Flush, NextSegment, Reshard};
 use rw_head::{Head, Limits};
 use rw_in_memory::{Endpoint, Line, Lines, Receiver, Shipped, ship};
 use rw_ledger::Reason;
-use rw_recv_head::{Blank, Seat};
+use rw_recv_head::{Blank, Holding, Seat};
 use rw_sender::{Connect, Lost, Reply, Transport};
 use rw_types::{Bounded, LabelFault, LabelSet, Names, Word};
 use rw_wal_tail::Piece;
@@ -31,12 +31,12 @@ struct Row<'a> {
 
 /// A line that its test holds too, so that its seat comes back though its shard keeps no transport.
 #[derive(Drop)]
-struct SharedLine<R, L: Endpoint> {
+struct SharedLine<R, L: Endpoint + Holding<Head>> {
     rt: R,
     line: Arc<Mutex<Line<R, L>>>,
 }
 
-impl<R: Wait, L: Endpoint> Transport for SharedLine<R, L> {
+impl<R: Wait, L: Endpoint + Holding<Head>> Transport for SharedLine<R, L> {
     ghost use Rattle.std.specs.Prelude.{⊤, []};
 
     ghost is_for = { λ _ _ _. ⊤ };
@@ -53,7 +53,7 @@ impl<R: Wait, L: Endpoint> Transport for SharedLine<R, L> {
 
 /// A line for each shard, while there are any.
 #[derive(Drop)]
-struct SharedLines<R, L: Endpoint> {
+struct SharedLines<R, L: Endpoint + Holding<Head>> {
     rt: R,
     lines: Vec<Arc<Mutex<Line<R, L>>>>,
 }
@@ -61,7 +61,7 @@ struct SharedLines<R, L: Endpoint> {
 impl<R, L> Connect for SharedLines<R, L>
 where
     R: Wait + Copy + Send + 'static,
-    L: Endpoint + Send + Sync + 'static,
+    L: Endpoint + Holding<Head> + Send + Sync + 'static,
 {
     type T = SharedLine<R, L>;
 
@@ -80,7 +80,7 @@ where
 }
 
 /// Puts this many lines into both lists.
-fn put_lines<R: Wait + Copy + Send + 'static, L: Endpoint + Send + Sync + 'static>(
+fn put_lines<R: Wait + Copy + Send + 'static, L: Endpoint + Holding<Head> + Send + Sync + 'static>(
     alloc: Global,
     connect: &mut Lines<R, L, Quick>,
     count: usize,
@@ -96,7 +96,10 @@ fn put_lines<R: Wait + Copy + Send + 'static, L: Endpoint + Send + Sync + 'stati
     Ok(())
 }
 
-fn put_seats<R: Drop, L: Endpoint>(seats: &mut Vec<Seat<L>>, lines: Vec<Arc<Mutex<Line<R, L>>>>) {
+fn put_seats<R: Drop, L: Endpoint + Holding<Head>>(
+    seats: &mut Vec<Seat<L>>,
+    lines: Vec<Arc<Mutex<Line<R, L>>>>,
+) {
     for line in lines {
         if let Some(line) = Arc::into_inner(line) {
             let _ = seats.push(line.into_inner().into_seat());
@@ -105,7 +108,7 @@ fn put_seats<R: Drop, L: Endpoint>(seats: &mut Vec<Seat<L>>, lines: Vec<Arc<Mute
 }
 
 /// Returns a receiver over the head, and this many seats of it.
-fn opened<L: Endpoint>(
+fn opened<L: Endpoint + Holding<Head>>(
     alloc: Global,
     limits: Limits,
     blank: Blank,
@@ -128,7 +131,7 @@ fn opened<L: Endpoint>(
 }
 
 /// Returns the head, if all seats were returned and nobody else shares it.
-fn gathered<L: Endpoint>(
+fn gathered<L: Endpoint + Holding<Head>>(
     receiver: Arc<Receiver<L>>,
     seats: Vec<Seat<L>>,
     count: usize,
@@ -144,7 +147,10 @@ fn gathered<L: Endpoint>(
 
 /// Ships to the seats of the head, of which each worker takes one, and gathers them. Returns
 /// whether everything was done as expected, and the head.
-fn shipped<R: Threads + Wait + Copy + Send + 'static, L: Endpoint + Send + Sync + 'static>(
+fn shipped<
+    R: Threads + Wait + Copy + Send + 'static,
+    L: Endpoint + Holding<Head> + Send + Sync + 'static,
+>(
     rt: &R,
     alloc: Global,
     limits: Limits,
