@@ -28,8 +28,9 @@ fn main() -> io::Result<()> {
             };
             send::send(Path::new(folder), &settings)
         }
+        ["body", folder] => send::print_body(Path::new(folder)),
         ["receive", address] => receive::receive(address, Keeping::All),
         ["receive", address, "count"] => receive::receive(address, Keeping::Count),
-        _ => panic!("usage: plain send DIR SHARDS BATCH HOST:PORT [snappy] | plain receive HOST:PORT [count]"),
+        _ => panic!("usage: plain send DIR SHARDS BATCH HOST:PORT [snappy] | plain body DIR | plain receive HOST:PORT [count]"),
     }
 }

@@ -58,6 +58,28 @@ pub fn send(folder: &Path, settings: &Settings) -> io::Result<()> {
     Ok(())
 }
 
+/// Prints the message that has all samples of a log.
+pub fn print_body(folder: &Path) -> io::Result<()> {
+    let (mut names, mut of_reference, mut of_labels) = (Vec::new(), HashMap::new(), HashMap::new());
+    let mut all = Batch::default();
+    each_entry(folder, |entry| match entry {
+        Entry::Series(reference, labels) => {
+            let next = of_labels.len() as u32;
+            let series = *of_labels.entry(labels.clone()).or_insert_with(|| {
+                names.push(labels);
+                next
+            });
+            of_reference.insert(reference, series);
+        }
+        Entry::Sample(reference, t, value) => {
+            if let Some(series) = of_reference.get(&reference) {
+                all.take((*series, t, value));
+            }
+        }
+    })?;
+    io::stdout().write_all(&all.body(&names))
+}
+
 /// The samples of a batch, as fields of a message, series by series.
 #[derive(Default)]
 struct Batch {

@@ -66,7 +66,7 @@ pub struct LogDir<'a> {
 
 /// How far a log is read.
 #[derive(Clone, Copy)]
-pub enum Reading<'a> {
+pub enum ReadExtent<'a> {
     /// To its present end.
     Whole,
     /// While it grows, until a stop.
@@ -99,7 +99,7 @@ pub struct Sending<'a> {
     /// The segments of this folder are shipped.
     pub dir: LogDir<'a>,
     pub to: SendTo<'a>,
-    pub reading: Reading<'a>,
+    pub reading: ReadExtent<'a>,
     pub reporting: Reporting<'a>,
     /// Whether dropped samples in a complete report are a fault.
     pub fails_on_drop: bool,

@@ -1,15 +1,15 @@
 //! The arguments of the command `send`.
 
 use crate::answers::{dir_of, number_of, receiver_of, reporting_of};
-use crate::{Following, Reading, Sending, SettingsFile, Task};
+use crate::{Following, ReadExtent, Sending, SettingsFile, Task};
 use clap::ArgMatches;
 
 /// Returns how far the log is to be read.
-fn reading_of<'a>(options: &ArgMatches<'a>) -> Option<Reading<'a>> {
+fn reading_of<'a>(options: &ArgMatches<'a>) -> Option<ReadExtent<'a>> {
     if !options.get_flag("follow") {
-        return Some(Reading::Whole);
+        return Some(ReadExtent::Whole);
     }
-    Some(Reading::Follow(Following {
+    Some(ReadExtent::Follow(Following {
         stop_file: options.get_str("stop-file"),
         waits: options.get_flag("wait"),
         poll_ms: number_of(options, "poll-ms")?,

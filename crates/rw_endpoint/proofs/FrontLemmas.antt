@@ -6,7 +6,7 @@ use Rattle.rw_endpoint.specs.Reading.{BeginsWithHead, NeverHasHead}
 use Rattle.rw_endpoint.specs.inner.Reading.{Judges}
 use Rattle.rw_endpoint.specs.declared.coding.Coding.{Coding}
 use Rattle.rw_endpoint.specs.declared.finding.Finding.TheVariants.{Refused, Body}
-use Rattle.rw_endpoint.specs.declared.head.Reading.TheVariants.{Head}
+use Rattle.rw_endpoint.specs.declared.head.RequestReading.TheVariants.{Head}
 use Rattle.rw_endpoint.specs.Replies.{reply_bytes}
 use Rattle.rw_endpoint.specs.Coding.{through}
 use Rattle.rw_endpoint.specs.Serving.{Replies, AsksForBody}

@@ -15,7 +15,7 @@ const MAX_FIELDS: usize = 64;
 
 /// What the bytes of a request that have come say.
 #[derive(Clone, Copy, Debug, PartialEq, Eq)]
-pub enum Reading {
+pub enum RequestReading {
     /// A whole head: what it asks for, and how many bytes it takes.
     Head(Finding, usize),
     /// More bytes have to come.
@@ -25,7 +25,7 @@ pub enum Reading {
 }
 
 /// Reads the head of the request that these bytes begin.
-pub(crate) fn read_head(buf: &[u8], path: &[u8], intake: Intake) -> Reading
+pub(crate) fn read_head(buf: &[u8], path: &[u8], intake: Intake) -> RequestReading
     requires { length buf.now ≤ 8192 }
     ensures { Judges path.now intake buf.now result }
 {
@@ -34,12 +34,12 @@ pub(crate) fn read_head(buf: &[u8], path: &[u8], intake: Intake) -> Reading
         Ok(Status::Complete(head)) => head,
         Ok(Status::Partial) => {
             return if buf.len() < MAX_HEAD_BYTES {
-                Reading::More
+                RequestReading::More
             } else {
-                Reading::Never
+                RequestReading::Never
             };
         }
-        Err(_) => return Reading::Never,
+        Err(_) => return RequestReading::Never,
     };
     let fields = &headers[..head.headers];
     let finding = if head.path.of(buf) != path {
@@ -53,5 +53,5 @@ pub(crate) fn read_head(buf: &[u8], path: &[u8], intake: Intake) -> Reading
     } else {
         judge_body(buf, fields, head.version, intake)
     };
-    Reading::Head(finding, head.len)
+    RequestReading::Head(finding, head.len)
 }

@@ -5,7 +5,7 @@ ghost use Rattle.std.specs.Io.KnownBytes.{Keeps, IsAtEnd, prepend_known};
 ghost use Rattle.rw_endpoint.specs.inner.Reading.{HasRead, HasBody};
 
 use crate::finding::Finding;
-use crate::head::{Reading, read_head};
+use crate::head::{RequestReading, read_head};
 use crate::intake::Intake;
 use crate::pending::{MAX_HEAD_BYTES, Pending};
 use rw_types::{Failed, Source};
@@ -106,9 +106,9 @@ pub(crate) fn read_front<R: Source>(
 {
     loop {
         match read_head(pending.as_slice(), path, intake) {
-            Reading::Head(finding, len) => return Ok(Front::Head(finding, len)),
-            Reading::Never => return Ok(Front::Never),
-            Reading::More => match read_pending(reader, pending) {
+            RequestReading::Head(finding, len) => return Ok(Front::Head(finding, len)),
+            RequestReading::Never => return Ok(Front::Never),
+            RequestReading::More => match read_pending(reader, pending) {
                 Ok(0) => return Ok(Front::End),
                 Ok(_) => {}
                 Err(failed) => return Err(failed),

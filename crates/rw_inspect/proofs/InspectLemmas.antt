@@ -10,10 +10,10 @@ use Rattle.rw_inspect.specs.Counting.{log_counts}
 use Rattle.rw_inspect.specs.Inspecting.{IsReportOfFirst}
 use Rattle.rw_inspect.specs.inner.Inspecting.{Reports}
 use Rattle.rw_inspect.specs.Troubles.{not_rising, troubles_of}
-use Rattle.rw_inspect.specs.declared.report.Report.{Report}
+use Rattle.rw_inspect.specs.declared.report.LogFindings.{LogFindings}
 
 -- the report of what was read
-pub reported_first : (c : Bool) (lefts : List (Option (List ℕ))) (taken : List Entry) (rows : List Segment) (damage : Option Damage) (r : Report) → ReadsNamed c lefts taken rows (fault_in damage) → Reports c taken rows damage r → IsReportOfFirst c lefts r
+pub reported_first : (c : Bool) (lefts : List (Option (List ℕ))) (taken : List Entry) (rows : List Segment) (damage : Option Damage) (r : LogFindings) → ReadsNamed c lefts taken rows (fault_in damage) → Reports c taken rows damage r → IsReportOfFirst c lefts r
 reported_first c lefts taken rows damage r h m = record {
   texts = h.texts;
   read = subst (ReadsFirst lefts h.texts) h.are.fault_is h.read;

@@ -11,7 +11,7 @@ use Rattle.rw_inspect.specs.declared.cells.Cell.{Cell}
 use Rattle.rw_inspect.specs.declared.cells.Cell.TheVariants as cell
 use Rattle.rw_inspect.specs.declared.counts.Counts.{Counts}
 use Rattle.rw_inspect.specs.declared.json.TheConstants.{SEGMENT, TOTALS, MEASURES, FOUND, FIRST, FAULT}
-use Rattle.rw_inspect.specs.declared.report.Report.{Report}
+use Rattle.rw_inspect.specs.declared.report.LogFindings.{LogFindings}
 use Rattle.rw_inspect.specs.declared.sizes.Sizes.{Sizes}
 
 -- what is counted of a segment, or of all
@@ -42,7 +42,7 @@ unfoldable pub totals_json : Sizes → Counts → (first : List ℕ) → List �
 totals_json t c first = TOTALS.now ++ measures_json t c.sums ++ found_json c first
 
 -- a report
-unfoldable pub report_json : Report → List ℕ
+unfoldable pub report_json : LogFindings → List ℕ
 report_json r =
     flat_map line_json r.segments.items ++ totals_json (sizes_in r.segments.items) r.counts r.first_not_rising.items
     ++ damage_text (shape FAULT) r.may_compress r.segments.items r.damage

@@ -10,7 +10,7 @@ use Rattle.rw_inspect.specs.declared.cells.Cell.{Cell}
 use Rattle.rw_inspect.specs.declared.cells.Cell.TheVariants as cell
 use Rattle.rw_inspect.specs.declared.counts.Counts.{Counts}
 use Rattle.rw_inspect.specs.declared.faults.TheConstants.{LINES}
-use Rattle.rw_inspect.specs.declared.report.Report.{Report}
+use Rattle.rw_inspect.specs.declared.report.LogFindings.{LogFindings}
 use Rattle.rw_inspect.specs.declared.sizes.Sizes.{Sizes}
 use Rattle.rw_inspect.specs.declared.table.TheConstants.{NAME, COLUMNS, FOUND, FIRST, SPACES}
 
@@ -62,13 +62,13 @@ unfoldable pub head_text : (width : ℕ) → List ℕ
 head_text width = right_text width NAME.0.now ++ flat_map title_text (map column COLUMNS) ++ codes "\n"
 
 -- the rows of all segments, and of the log
-abbrev pub rows_text : (width : ℕ) → Report → List ℕ
+abbrev pub rows_text : (width : ℕ) → LogFindings → List ℕ
 rows_text width r =
     head_text width ++ flat_map (line_text width) r.segments.items
     ++ row_text width (codes "all") (sizes_in r.segments.items) r.counts.sums
 
 -- a report
-unfoldable pub report_text : Report → List ℕ
+unfoldable pub report_text : LogFindings → List ℕ
 report_text r =
     rows_text (name_width r.segments.items) r
     ++ found_text r.counts r.first_not_rising.items ++ damage_text (shape LINES) r.may_compress r.segments.items r.damage

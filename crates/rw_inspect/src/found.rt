@@ -9,10 +9,10 @@ ghost use Rattle.rw_inspect.specs.Finding.{Finds, any_names, entry_text, label_f
 ghost use Rattle.rw_inspect.specs.inner.Finding.{is_asked, note_of, noted_at, notes_in, told};
 ghost use Rattle.rw_follow.specs.Queues.{AreSure};
 ghost use Rattle.rw_log_read.specs.Logs.{source_of};
-ghost use Rattle.rw_log_read.specs.declared.named.Unread.{Unread};
+ghost use Rattle.rw_log_read.specs.declared.named.UnreadLog.{UnreadLog};
 
 use rw_history::History;
-use rw_log_read::{Damage, LogRead, Named, Segment, Unread, one_more, read_named};
+use rw_log_read::{Damage, LogRead, Named, Segment, UnreadLog, one_more, read_named};
 use rw_relabel::{Choice, Rules};
 use rw_series_cache::{Cache, Known};
 use rw_text::{push_integer, push_labels, push_number, push_value};
@@ -333,11 +333,11 @@ pub fn find_entries<S: Source + Drop>(
     segments: Vec<Named<S>>,
     may_compress: bool,
     positions: Vec<u64>,
-) -> Result<Found, Unread>
+) -> Result<Found, UnreadLog>
     ensures ok { IfOk result
         (Finds may_compress (map (source_of S.remaining) segments.items) positions.items) }
     ensures sure { AreSure (map (source_of S.is_sure) segments.items)
-        → (u : Unread) → result ≡ Err u → u.error ≡ Failed → ⊥ }
+        → (u : UnreadLog) → result ≡ Err u → u.error ≡ Failed → ⊥ }
 {
     let finder = Finder::new(alloc, positions);
     let (read, finder) = read_named(alloc, segments, may_compress, finder)?;

@@ -7,7 +7,7 @@ use crate::cells::{Cell, found_cells, push_fields, push_numbers, push_text};
 use crate::counts::Counts;
 use crate::faults::{FaultForm, push_damage};
 use crate::json_text::push_quoted;
-use crate::report::Report;
+use crate::report::LogFindings;
 use crate::sizes::{Sizes, sizes_in, sizes_of};
 use rw_log_read::{Segment, Sums};
 use rw_text::push_number;
@@ -139,7 +139,7 @@ fn push_totals(
 
 /// Returns a report as JSON: a line for each segment, one for all, and one for a fault.
 #[tactic(auto, unfolding(crate::specs::Json::report_json))]
-pub fn json_of(alloc: Global, report: &Report) -> Result<Vec<u8>, AllocError>
+pub fn json_of(alloc: Global, report: &LogFindings) -> Result<Vec<u8>, AllocError>
     ensures { IfOk result (λ text. text.items ≡ report_json report.now) }
 {
     let mut out = Vec::new(alloc);

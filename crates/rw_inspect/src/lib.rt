@@ -22,5 +22,5 @@ pub use faults::fault_lines;
 pub use found::{Found, find_entries};
 pub use json::json_of;
 pub use log_report::inspect;
-pub use report::Report;
+pub use report::LogFindings;
 pub use table::table_of;

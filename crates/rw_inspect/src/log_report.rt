@@ -4,13 +4,13 @@ ghost use Rattle.std.specs.Prelude.{◌≡◌, map, Err, IfOk};
 ghost use Rattle.rw_types.specs.declared.transfer.ReadFault.TheVariants.{Failed};
 ghost use Rattle.rw_follow.specs.Queues.{AreSure};
 ghost use Rattle.rw_log_read.specs.Logs.{source_of};
-ghost use Rattle.rw_log_read.specs.declared.named.Unread.{Unread};
+ghost use Rattle.rw_log_read.specs.declared.named.UnreadLog.{UnreadLog};
 ghost use Rattle.rw_inspect.specs.Inspecting.{IsReportOfFirst};
 ghost use Rattle.rw_inspect.specs.inner.Inspecting.{Reports};
 
 use crate::counter::Counter;
-use crate::report::Report;
-use rw_log_read::{LogRead, Named, Unread, read_named};
+use crate::report::LogFindings;
+use rw_log_read::{LogRead, Named, UnreadLog, read_named};
 use rw_types::Source;
 use std::alloc::{AllocError, Global};
 
@@ -20,7 +20,7 @@ fn report_of(
     counts: &Counter,
     read: LogRead,
     may_compress: bool,
-) -> Result<Report, AllocError>
+) -> Result<LogFindings, AllocError>
     ensures { IfOk result (Reports may_compress counts.now read.segments.items read.damage) }
 {
     let LogRead {
@@ -30,7 +30,7 @@ fn report_of(
     } = read;
     let mut first_not_rising = Vec::new(alloc);
     first_not_rising.extend_from_slice(counts.first_not_rising())?;
-    Ok(Report {
+    Ok(LogFindings {
         segments,
         counts: counts.counts(),
         first_not_rising,
@@ -47,11 +47,11 @@ pub fn inspect<S: Source + Drop>(
     alloc: Global,
     segments: Vec<Named<S>>,
     may_compress: bool,
-) -> Result<Report, Unread>
+) -> Result<LogFindings, UnreadLog>
     ensures ok { IfOk result
         (IsReportOfFirst may_compress (map (source_of S.remaining) segments.items)) }
     ensures sure { AreSure (map (source_of S.is_sure) segments.items)
-        → (u : Unread) → result ≡ Err u → u.error ≡ Failed → ⊥ }
+        → (u : UnreadLog) → result ≡ Err u → u.error ≡ Failed → ⊥ }
 {
     let (read, counts) = read_named(alloc, segments, may_compress, Counter::new(alloc))?;
     Ok(report_of(alloc, &counts, read, may_compress)?)

@@ -5,7 +5,7 @@ use rw_log_read::{Damage, Segment, SkippedRecords};
 
 /// What was found in a log, up to its fault, if it has one.
 #[derive(Debug, Drop)]
-pub struct Report {
+pub struct LogFindings {
     pub segments: Vec<Segment>,
     pub counts: Counts,
     /// The positions of the first ten samples that are not later than the last one of their series.

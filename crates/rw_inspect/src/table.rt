@@ -8,7 +8,7 @@ ghost use Rattle.rw_inspect.specs.inner.Table.{column_of};
 use crate::cells::{Cell, found_cells, push_fields, push_numbers, push_text};
 use crate::counts::Counts;
 use crate::faults::{LINES, push_damage};
-use crate::report::Report;
+use crate::report::LogFindings;
 use crate::sizes::{Sizes, sizes_in, sizes_of};
 use itoa::Buffer;
 use rw_log_read::{Segment, Sums};
@@ -170,7 +170,7 @@ fn push_found(out: &mut Vec<u8>, counts: &Counts, first: &[u64]) -> Result<(), A
 /// Returns a report as a table: a row for each segment, one for all, what was found in the log, and
 /// its fault.
 #[tactic(auto, unfolding(crate::specs::Table::report_text))]
-pub fn table_of(alloc: Global, report: &Report) -> Result<Vec<u8>, AllocError>
+pub fn table_of(alloc: Global, report: &LogFindings) -> Result<Vec<u8>, AllocError>
     ensures { IfOk result (λ text. text.items ≡ report_text report.now) }
 {
     let mut out = Vec::new(alloc);

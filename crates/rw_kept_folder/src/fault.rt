@@ -38,7 +38,7 @@ pub enum FaultCause {
 
 /// A call that failed, on a folder or on one of its segments.
 #[derive(Clone, Copy, Debug, PartialEq, Eq)]
-pub struct FolderFault {
+pub struct FailedCall {
     pub call: FolderCall,
     /// The number of the segment that was read, or of the last one.
     pub segment: u64,
@@ -92,7 +92,7 @@ impl fmt::Display for FaultCause {
     }
 }
 
-impl fmt::Display for FolderFault {
+impl fmt::Display for FailedCall {
     fn fmt<W: fmt::Write>(&self, f: &mut fmt::Formatter<W>) -> fmt::Result {
         write!(
             f,
@@ -102,4 +102,4 @@ impl fmt::Display for FolderFault {
     }
 }
 
-impl Error for FolderFault {}
+impl Error for FailedCall {}

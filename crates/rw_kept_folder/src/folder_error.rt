@@ -1,6 +1,6 @@
 //! Why the journal in a folder cannot be opened.
 
-use crate::fault::{FaultCause, FolderFault};
+use crate::fault::{FailedCall, FaultCause};
 use std::alloc::{AllocError, AllocFailed};
 use std::error::Error;
 use std::fmt;
@@ -35,7 +35,7 @@ pub enum FolderError {
     /// The segments from 0 up to this number are missing, and a later one is there.
     StartMissing(u64),
     /// A segment cannot be read or synced, or the last one cannot be written anew.
-    Fault(FolderFault),
+    Fault(FailedCall),
 }
 
 impl From<AllocError> for FolderError {

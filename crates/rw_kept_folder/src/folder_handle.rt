@@ -1,6 +1,6 @@
 //! A folder of segments as the operating system has it, with the file of the last one.
 
-use crate::fault::{FaultCause, FolderCall, FolderFault, cause_of};
+use crate::fault::{FailedCall, FaultCause, FolderCall, cause_of};
 use crate::folder_monitor::FolderMonitor;
 use std::alloc::{AllocError, Global};
 use std::fs::{OpenFile, OpenOptions};
@@ -29,7 +29,7 @@ pub(crate) struct FolderHandle<R: Files> {
     len: u64,
     /// How many of them are synced.
     synced: u64,
-    fault: Option<FolderFault>,
+    fault: Option<FailedCall>,
     monitor: FolderMonitor,
 }
 
@@ -107,13 +107,13 @@ impl<R: Files + Clock + AllocGlobal + Copy> FolderHandle<R> {
     }
 
     /// Returns the fault after which no call is made, if there was one.
-    pub(crate) fn fault(&self) -> Option<FolderFault> {
+    pub(crate) fn fault(&self) -> Option<FailedCall> {
         self.fault
     }
 
     /// Returns the fault of a segment that has no number.
-    pub(crate) fn cannot_create(&self) -> FolderFault {
-        FolderFault {
+    pub(crate) fn cannot_create(&self) -> FailedCall {
+        FailedCall {
             call: FolderCall::Create,
             segment: MAX_NUMBER,
             cause: FaultCause::Other,
@@ -249,15 +249,11 @@ impl<R: Files + Clock + AllocGlobal + Copy> FolderHandle<R> {
     }
 
     /// Keeps the fault of a call that failed, and counts it.
-    fn end(
-        &mut self,
-        call: FolderCall,
-        outcome: Result<(), FaultCause>,
-    ) -> Result<(), FolderFault> {
+    fn end(&mut self, call: FolderCall, outcome: Result<(), FaultCause>) -> Result<(), FailedCall> {
         match outcome {
             Ok(()) => Ok(()),
             Err(cause) => {
-                let fault = FolderFault {
+                let fault = FailedCall {
                     call,
                     segment: self.number.unwrap_or(0),
                     cause,
@@ -276,7 +272,7 @@ impl<R: Files + Clock + AllocGlobal + Copy> FolderHandle<R> {
         &mut self,
         call: FolderCall,
         outcome: Result<(), FaultCause>,
-    ) -> Result<(), FolderFault> {
+    ) -> Result<(), FailedCall> {
         if outcome.is_err() {
             let _ = self.shorten(self.synced);
         }
@@ -285,7 +281,7 @@ impl<R: Files + Clock + AllocGlobal + Copy> FolderHandle<R> {
 
     /// Writes a copy of the last segment, which has these bytes, to a file `NNNNNNNN.tmp` beside
     /// it.
-    pub(crate) fn write_copy(&mut self, text: &[u8]) -> Result<(), FolderFault> {
+    pub(crate) fn write_copy(&mut self, text: &[u8]) -> Result<(), FailedCall> {
         if let Some(fault) = self.fault {
             return Err(fault);
         }
@@ -294,7 +290,7 @@ impl<R: Files + Clock + AllocGlobal + Copy> FolderHandle<R> {
     }
 
     /// Syncs the copy.
-    pub(crate) fn sync_copy(&mut self) -> Result<(), FolderFault> {
+    pub(crate) fn sync_copy(&mut self) -> Result<(), FailedCall> {
         if let Some(fault) = self.fault {
             return Err(fault);
         }
@@ -305,7 +301,7 @@ impl<R: Files + Clock + AllocGlobal + Copy> FolderHandle<R> {
     }
 
     /// Renames the copy over the last segment, of which it is the file from then on.
-    pub(crate) fn rename_copy(&mut self) -> Result<(), FolderFault> {
+    pub(crate) fn rename_copy(&mut self) -> Result<(), FailedCall> {
         if let Some(fault) = self.fault {
             return Err(fault);
         }
@@ -314,7 +310,7 @@ impl<R: Files + Clock + AllocGlobal + Copy> FolderHandle<R> {
     }
 
     /// Appends bytes to the file of the last segment.
-    pub(crate) fn append(&mut self, bytes: &[u8]) -> Result<(), FolderFault> {
+    pub(crate) fn append(&mut self, bytes: &[u8]) -> Result<(), FailedCall> {
         if let Some(fault) = self.fault {
             return Err(fault);
         }
@@ -328,7 +324,7 @@ impl<R: Files + Clock + AllocGlobal + Copy> FolderHandle<R> {
 
     /// Copies the bytes of the last segment from an offset on to a file `torn-NNNNNNNN`, and syncs
     /// it and the folder, if there are any such bytes.
-    pub(crate) fn set_aside(&mut self, offset: u64) -> Result<(), FolderFault> {
+    pub(crate) fn set_aside(&mut self, offset: u64) -> Result<(), FailedCall> {
         if let Some(fault) = self.fault {
             return Err(fault);
         }
@@ -337,7 +333,7 @@ impl<R: Files + Clock + AllocGlobal + Copy> FolderHandle<R> {
     }
 
     /// Cuts the file of the last segment to a length, if it is longer.
-    pub(crate) fn set_len(&mut self, len: u64) -> Result<(), FolderFault> {
+    pub(crate) fn set_len(&mut self, len: u64) -> Result<(), FailedCall> {
         if let Some(fault) = self.fault {
             return Err(fault);
         }
@@ -348,7 +344,7 @@ impl<R: Files + Clock + AllocGlobal + Copy> FolderHandle<R> {
     }
 
     /// Syncs the bytes of the file of the last segment. Fails if that is no longer in its place.
-    pub(crate) fn sync_data(&mut self) -> Result<(), FolderFault> {
+    pub(crate) fn sync_data(&mut self) -> Result<(), FailedCall> {
         if let Some(fault) = self.fault {
             return Err(fault);
         }
@@ -366,7 +362,7 @@ impl<R: Files + Clock + AllocGlobal + Copy> FolderHandle<R> {
     }
 
     /// Syncs the folder.
-    pub(crate) fn sync_folder(&mut self) -> Result<(), FolderFault> {
+    pub(crate) fn sync_folder(&mut self) -> Result<(), FailedCall> {
         if let Some(fault) = self.fault {
             return Err(fault);
         }
@@ -378,7 +374,7 @@ impl<R: Files + Clock + AllocGlobal + Copy> FolderHandle<R> {
 
     /// Creates the file of a next segment, which must not exist. Fails if the last one is no longer
     /// in its place.
-    pub(crate) fn create_next(&mut self) -> Result<(), FolderFault> {
+    pub(crate) fn create_next(&mut self) -> Result<(), FailedCall> {
         if let Some(fault) = self.fault {
             return Err(fault);
         }

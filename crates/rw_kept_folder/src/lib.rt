@@ -14,7 +14,7 @@ mod record;
 mod segment_files;
 mod server_lock;
 
-pub use fault::{FaultCause, FolderCall, FolderFault};
+pub use fault::{FailedCall, FaultCause, FolderCall};
 pub use folder_error::FolderError;
 pub use folder_journal::FolderJournal;
 pub use folder_monitor::FolderMonitor;

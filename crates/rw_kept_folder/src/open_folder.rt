@@ -5,7 +5,7 @@ ghost use Rattle.rw_kept_log.specs.Journal.{Only};
 ghost use Rattle.rw_kept_folder.specs.Noted.{seen_of, MayLeave, LeftSinceNoted, Tears};
 ghost use Rattle.rw_kept_folder.specs.inner.Noted.{counts_now, only_now, leaves_seen};
 
-use crate::fault::{FaultCause, FolderFault};
+use crate::fault::{FailedCall, FaultCause};
 use crate::file_call::FileCall;
 use crate::folder_handle::FolderHandle;
 use crate::record::Record;
@@ -40,7 +40,7 @@ impl<R: Files> Model for OpenFolder<R> {
 }
 
 /// Returns the error of a call that failed, and adds the fault to the record.
-fn fail(noted: &mut Record, fault: FolderFault) -> JournalError
+fn fail(noted: &mut Record, fault: FailedCall) -> JournalError
     ensures { noted.new ≡ record noted.old { faults = noted.old.faults + 1 } }
 {
     noted.fail(&fault);
@@ -77,7 +77,7 @@ impl<R: Files + Clock + AllocGlobal + Copy> OpenFolder<R> {
     }
 
     /// Returns the fault after which each call fails, if there was one.
-    pub fn fault(&self) -> Option<FolderFault> {
+    pub fn fault(&self) -> Option<FailedCall> {
         self.handle.fault()
     }
 }

@@ -5,7 +5,7 @@ ghost use Rattle.rw_kept_log.specs.Journal.{Segments, Only};
 ghost use Rattle.rw_kept_folder.specs.Noted.{seen_of, MayLeave};
 ghost use Rattle.rw_kept_folder.specs.inner.Loaded.{IsHeld, IsLoaded};
 
-use crate::fault::{FolderCall, FolderFault, cause_of};
+use crate::fault::{FailedCall, FolderCall, cause_of};
 use crate::file_call::FileCall;
 use crate::folder_error::FolderError;
 use crate::folder_handle::FolderHandle;
@@ -27,7 +27,7 @@ use std::{fs, io};
 
 /// Returns the error of a call on a segment.
 fn error_of(call: FolderCall, segment: u64, error: &io::Error) -> FolderError {
-    FolderError::Fault(FolderFault {
+    FolderError::Fault(FailedCall {
         call,
         segment,
         cause: cause_of(error),
@@ -128,7 +128,7 @@ fn write_last_anew<R: Files + Clock + AllocGlobal + Copy>(
     handle: &mut FolderHandle<R>,
     last: &Option<Vec<u8>>,
     noted: &mut Record,
-) -> Result<(), FolderFault>
+) -> Result<(), FailedCall>
     ensures anew { OnOk result ((before after : Segments) (count : ℕ)
         → IsLoaded before after noted.old.calls last.now count
         → IsHeld before after noted.new count) }

@@ -2,7 +2,7 @@
 
 ghost use Rattle.std.specs.Prelude.{◌≡◌, ◌+◌, [], ◌∷◌, ◌++◌};
 
-use crate::fault::FolderFault;
+use crate::fault::FailedCall;
 use crate::file_call::FileCall;
 use rw_history::History;
 use std::marker::Model;
@@ -11,7 +11,7 @@ use std::marker::Model;
 #[derive(Drop)]
 pub(crate) struct Record {
     calls: History<FileCall>,
-    faults: History<FolderFault>,
+    faults: History<FailedCall>,
 }
 
 impl Model for Record {
@@ -42,7 +42,7 @@ impl Record {
     }
 
     /// Adds a fault.
-    pub(crate) fn fail(&mut self, fault: &FolderFault)
+    pub(crate) fn fail(&mut self, fault: &FailedCall)
         ensures { self.new ≡ record self.old { faults = self.old.faults + 1 } }
     {
         self.faults.push(fault);

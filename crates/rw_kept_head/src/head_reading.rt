@@ -24,7 +24,8 @@ use crate::restoring::{RestoredParts, Restoring};
 use rw_head::{AllSamples, Head, Limits, Memory, RecentSamples};
 use rw_kept_log::append_laws::an_empty_segment_ends_at_0;
 use rw_kept_log::{
-    Damage, Journal, LogEnd, LogReading, ReadEnd, References, ReopenError, SegmentTaker, close_torn,
+    Journal, KeptLogDamage, LogEnd, LogReading, ReadEnd, References, ReopenError, SegmentTaker,
+    close_torn,
 };
 use rw_types::RequestPath;
 use std::alloc::{AllocError, Global};
@@ -118,7 +119,7 @@ fn limits_of(alloc: Global, limits: &Limits) -> Result<Limits, AllocError>
 
 /// A head that was opened, and what was read of its log.
 #[derive(Drop)]
-pub struct Opened<J: Journal, M: Memory = AllSamples> {
+pub struct OpenedHead<J: Journal, M: Memory = AllSamples> {
     pub kept: KeptHead<J, M>,
     /// How many segments were read.
     pub segments: usize,
@@ -208,7 +209,7 @@ impl<M: Memory> HeadReading<M> {
     /// Returns the fault at which reading stops in the last segment, and where a whole record
     /// begins after it, if there are both. The fault may then be damage, and what follows it may
     /// have been acknowledged: `KeptHead::open` cuts it off as the end of a torn write.
-    pub fn record_after_fault(&self) -> Option<(Damage, usize)>
+    pub fn record_after_fault(&self) -> Option<(KeptLogDamage, usize)>
         ensures { IfSome result (λ r. HasRecordAfter self.now.segments r.0 r.1) }
     {
         self.log.record_after_fault()
@@ -240,7 +241,7 @@ impl<J: Journal, M: Memory> KeptHead<J, M> {
         reading: HeadReading<M>,
         journal: J,
         pages: usize,
-    ) -> Result<Opened<J, M>, (OpenError, J)>
+    ) -> Result<OpenedHead<J, M>, (OpenError, J)>
         // After a restart, what is read is what is on the disk.
         requires synced { Only (J.seen journal) (J.may_leave journal) }
         requires read { reading.segments ≡ J.seen journal }
@@ -312,7 +313,7 @@ impl<J: Journal, M: Memory> KeptHead<J, M> {
                     log,
                 };
                 kept.log.conforms();
-                Ok(Opened {
+                Ok(OpenedHead {
                     kept,
                     segments,
                     end,

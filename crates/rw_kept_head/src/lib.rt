@@ -15,7 +15,7 @@ mod open_error;
 mod reading_memory;
 mod restoring;
 
-pub use head_reading::{HeadReading, Opened};
+pub use head_reading::{HeadReading, OpenedHead};
 pub use kept_head::KeptHead;
 pub use oddities::Oddities;
 pub use open_error::OpenError;

@@ -8,7 +8,7 @@ use Rattle.rw_kept_log.specs.Logs.{entries_of, IsCleanCut}
 use Rattle.rw_kept_log.specs.TornLogs.{last_of}
 use Rattle.rw_kept_log.specs.Reading.{HasFault, greatest_after}
 use Rattle.rw_kept_log.specs.Records.{IsRecordAt, FollowsFault}
-use Rattle.rw_kept_log.specs.declared.error.Damage.{Damage}
+use Rattle.rw_kept_log.specs.declared.error.KeptLogDamage.{KeptLogDamage}
 use Rattle.rw_kept_log.specs.declared.error.ReopenError.{ReopenError}
 use Rattle.rw_kept_log.specs.declared.error.ReopenError.TheVariants.{OutOfMemory, Failed, Damaged}
 use Rattle.rw_kept_log.specs.declared.log_reading.ReadEnd.{ReadEnd}
@@ -21,7 +21,7 @@ pub record IsSegmentCut (text : List ℕ) (at : ℕ) : Type 0 where
 
 -- A segment of the log has this fault, there. If it is the last one it goes on after the page in
 -- which reading stops, so no crash left it.
-pub record IsDamage (segments : Segments) (d : Damage) : Type 0 where
+pub record IsDamage (segments : Segments) (d : KeptLogDamage) : Type 0 where
   pub within : d.place.segment < length segments
   pub has : HasFault (get_or segments d.place.segment []) d.fault d.place.offset
   pub goes_on : d.place.segment + 1 ≡ length segments → end_of_page page_size d.place.offset < length (get_or segments d.place.segment [])
@@ -33,7 +33,7 @@ HasDamage segments Failed = Unit {0}
 HasDamage segments (Damaged d) = IsDamage segments d
 
 -- The last segment has this fault, there, and a whole record begins after it.
-pub record HasRecordAfter (segments : Segments) (d : Damage) (at : ℕ) : Type 0 where
+pub record HasRecordAfter (segments : Segments) (d : KeptLogDamage) (at : ℕ) : Type 0 where
   pub last : d.place.segment + 1 ≡ length segments
   pub has : HasFault (last_of segments) d.fault d.place.offset
   pub after : d.place.offset < at

@@ -7,7 +7,7 @@ ghost use Rattle.rw_kept_log.specs.inner.Reading.{IsReadOf};
 ghost use Rattle.rw_kept_log.specs.Reopening.{IsSegmentCut};
 ghost use Rattle.rw_kept_log.specs.inner.Reopening.{IsRefusal};
 
-use crate::error::Damage;
+use crate::error::KeptLogDamage;
 use crate::segment_read::{SegmentFault, SegmentRead};
 use crate::whole_records::whole_len;
 use rw_wal_format::PAGE_BYTES;
@@ -23,13 +23,13 @@ fn ends_in_page(len: usize, offset: u64) -> bool
 }
 
 /// Returns the damage of a segment with this number and this fault.
-pub(crate) fn damage_of(segment: usize, fault: SegmentFault) -> Damage
+pub(crate) fn damage_of(segment: usize, fault: SegmentFault) -> KeptLogDamage
     ensures { result ≡ record {
       fault = fault.fault;
       place = record { segment = segment; offset = fault.offset };
     } }
 {
-    Damage {
+    KeptLogDamage {
         fault: fault.fault,
         place: FaultPlace {
             segment: segment as u64,
@@ -40,7 +40,11 @@ pub(crate) fn damage_of(segment: usize, fault: SegmentFault) -> Damage
 
 /// Returns where the last segment is cut: at its end, or after its last whole record if a crash
 /// tore it. An error is returned only if text follows the page in which reading stops.
-pub(crate) fn find_cut(text: &[u8], read: &SegmentRead, segment: usize) -> Result<usize, Damage>
+pub(crate) fn find_cut(
+    text: &[u8],
+    read: &SegmentRead,
+    segment: usize,
+) -> Result<usize, KeptLogDamage>
     requires { IsReadOf text.now read.now }
     ensures cut { IfOk result (IsSegmentCut text.now) }
     ensures damaged { IfErr result (IsRefusal text.now segment) }

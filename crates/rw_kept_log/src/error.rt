@@ -10,9 +10,9 @@ use std::alloc::AllocError;
 use std::error::Error;
 use std::fmt;
 
-/// Damage that no crash leaves.
+/// KeptLogDamage that no crash leaves.
 #[derive(Clone, Copy, Debug, PartialEq, Eq, Drop)]
-pub struct Damage {
+pub struct KeptLogDamage {
     pub fault: TailFault,
     pub place: FaultPlace,
 }
@@ -25,7 +25,7 @@ pub enum ReopenError {
     /// The device failed.
     Failed,
     /// The log is damaged. Nothing was cut.
-    Damaged(Damage),
+    Damaged(KeptLogDamage),
 }
 
 impl From<AllocError> for ReopenError {

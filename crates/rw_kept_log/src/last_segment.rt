@@ -5,7 +5,7 @@ ghost use Rattle.rw_kept_log.specs.inner.Reading.{IsFaultOf};
 ghost use Rattle.rw_kept_log.specs.inner.Reopening.{IsFaultAt, IsLast, IsTornOf};
 
 use crate::cut::{damage_of, find_cut};
-use crate::error::Damage;
+use crate::error::KeptLogDamage;
 use crate::record_search::find_after_fault;
 use crate::segment_read::{SegmentFault, read_segment};
 use rw_wal_tail::Taker;
@@ -16,9 +16,9 @@ use std::alloc::{AllocError, Global};
 #[derive(Debug, Drop)]
 pub(crate) struct LastSegment {
     /// Why no other segment may follow; `None` if it ends between two records.
-    pub(crate) fault: Option<Damage>,
+    pub(crate) fault: Option<KeptLogDamage>,
     /// Where it is cut if it is the last one, or why it is not.
-    pub(crate) cut: Result<usize, Damage>,
+    pub(crate) cut: Result<usize, KeptLogDamage>,
     /// The bytes after that place.
     pub(crate) torn: Vec<u8>,
     /// Where the first whole record after its fault begins.
@@ -28,7 +28,7 @@ pub(crate) struct LastSegment {
 impl LastSegment {
     /// Returns its fault, and where a whole record begins after it, if there are both and the
     /// segment can be cut.
-    pub(crate) fn record_after_fault(&self) -> Option<(Damage, usize)>
+    pub(crate) fn record_after_fault(&self) -> Option<(KeptLogDamage, usize)>
         ensures { IfSome result
             (λ r. (self.now.fault ≡ Some r.0) × (self.now.follows ≡ Some r.1)) }
     {
@@ -43,7 +43,11 @@ impl LastSegment {
 }
 
 /// Returns the bytes that are cut off.
-fn torn_of(alloc: Global, text: &[u8], cut: Result<usize, Damage>) -> Result<Vec<u8>, AllocError>
+fn torn_of(
+    alloc: Global,
+    text: &[u8],
+    cut: Result<usize, KeptLogDamage>,
+) -> Result<Vec<u8>, AllocError>
     requires { IfOk cut (λ at. at ≤ length text.now) }
     ensures { IfOk result (λ v. IsTornOf text.now cut v.items) }
 {
@@ -54,7 +58,7 @@ fn torn_of(alloc: Global, text: &[u8], cut: Result<usize, Damage>) -> Result<Vec
 }
 
 /// Returns the damage of a segment of this number, if it has a fault.
-fn damage_in(segment: usize, fault: Option<SegmentFault>) -> Option<Damage>
+fn damage_in(segment: usize, fault: Option<SegmentFault>) -> Option<KeptLogDamage>
     ensures { (text : List ℕ) → IsFaultOf text fault → IsFaultAt text segment result }
 {
     match fault {

@@ -26,7 +26,7 @@ mod torn_end;
 mod whole_records;
 
 pub use append_error::AppendError;
-pub use error::{Damage, ReopenError};
+pub use error::{KeptLogDamage, ReopenError};
 pub use journal::{Journal, JournalError};
 pub use log_end::LogEnd;
 pub use log_reading::{LogReading, ReadEnd};

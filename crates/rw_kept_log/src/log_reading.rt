@@ -10,7 +10,7 @@ ghost use Rattle.rw_kept_log.specs.Reading.{greatest_after};
 ghost use Rattle.rw_kept_log.specs.Reopening.{HasDamage, HasRecordAfter, IsEnd};
 ghost use Rattle.rw_kept_log.specs.inner.Reopening.{EndsLog, IsFound, IsReadBefore};
 
-use crate::error::{Damage, ReopenError};
+use crate::error::{KeptLogDamage, ReopenError};
 use crate::greatest::Greatest;
 use crate::last_segment::{LastSegment, read_last};
 use crate::segment_taker::SegmentTaker;
@@ -41,11 +41,11 @@ pub(crate) enum Found {
     /// All segments are whole but the last one, of which this was found.
     Last(LastSegment),
     /// A segment before the last one is not whole. No further one is read.
-    Broken(Damage),
+    Broken(KeptLogDamage),
 }
 
 /// Returns why no further segment is read, if a next one comes.
-fn damage_before(found: &Found) -> Option<Damage>
+fn damage_before(found: &Found) -> Option<KeptLogDamage>
     ensures { (ss : Segments) (taken : List Entry) → IsFound ss taken found.now
         → IsReadBefore ss taken result }
 {
@@ -77,7 +77,7 @@ fn read_next<S: Taker>(
 
 /// Returns the fault of the last segment, and where a whole record begins after it, if there are
 /// both.
-fn record_after(found: &Found) -> Option<(Damage, usize)>
+fn record_after(found: &Found) -> Option<(KeptLogDamage, usize)>
     ensures { IfSome result (λ r. (ss : Segments) (taken : List Entry)
         → IsFound ss taken found.now → HasRecordAfter ss r.0 r.1) }
 {
@@ -178,7 +178,7 @@ impl<S: Taker + Drop> LogReading<S> {
     /// Returns the fault of the last segment, and where a whole record begins after it, if there
     /// are both. The fault may then be damage, and what follows it may have been acknowledged;
     /// `finish` takes it for the end of a torn write.
-    pub fn record_after_fault(&self) -> Option<(Damage, usize)>
+    pub fn record_after_fault(&self) -> Option<(KeptLogDamage, usize)>
         ensures { IfSome result (λ r. HasRecordAfter self.now.segments r.0 r.1) }
     {
         if self.failed {

@@ -10,7 +10,7 @@ use Rattle.std.proofs.lemmas.List.Folds.{list_any_none}
 use Rattle.std.proofs.lemmas.List.Elements.{All-head, All-weaker, filter_passes}
 use Rattle.std.proofs.lemmas.List.{drop_more}
 use Rattle.std.proofs.lemmas.List.Sorted.{All-permutation, list_any-IsPermutation, IsNonDecreasingBy-from_sort}
-use Rattle.rw_log_folder.specs.declared.listing.Name.{Name}
+use Rattle.rw_log_folder.specs.declared.listing.NumberedName.{NumberedName}
 use Rattle.std.specs.declared.result.Result.{Result}
 use Rattle.std.proofs.lemmas.Bool.{or_right}
 use Rattle.rw_log_folder.specs.declared.order.OrderFault.{OrderFault}
@@ -18,7 +18,7 @@ use Rattle.rw_log_folder.specs.declared.order.OrderFault.TheVariants.{OutOfMemor
 use Rattle.rw_log_folder.specs.Order.{comes_before, is_after_checkpoint, has_number, has_above, AreByNumber, IsGap, HasNoGap}
 use Rattle.rw_log_folder.specs.inner.Order.{gap_after}
 
-abbrev number : Name → ℕ
+abbrev number : NumberedName → ℕ
 number s = s.number
 
 -- ---- names in order
@@ -27,14 +27,14 @@ first_not_lt Less b e = e
 first_not_lt Equal b e = refl
 first_not_lt Greater b e = e
 
-numbers_rise : (ns : List Name) → IsSortedBy comes_before ns → IsNonDecreasingBy number ns
+numbers_rise : (ns : List NumberedName) → IsSortedBy comes_before ns → IsNonDecreasingBy number ns
 numbers_rise ns up =
     IsNonDecreasingBy-from_sort number ns (λ k d low lt. first_not_lt _ _ (up k d low lt))
 
-tail_up : (s : Name) (ss : List Name) → IsNonDecreasingBy number (s ∷ ss) → IsNonDecreasingBy number ss
+tail_up : (s : NumberedName) (ss : List NumberedName) → IsNonDecreasingBy number (s ∷ ss) → IsNonDecreasingBy number ss
 tail_up s ss up i j d le lt = up (suc i) (suc j) d (omega arith) (omega arith)
 
-head_low : (s : Name) (ss : List Name) → IsNonDecreasingBy number (s ∷ ss) → All (λ (t : Name). s.number ≤ t.number) ss
+head_low : (s : NumberedName) (ss : List NumberedName) → IsNonDecreasingBy number (s ∷ ss) → All (λ (t : NumberedName). s.number ≤ t.number) ss
 head_low s ss up j d lt = up 0 (suc j) d (omega arith) (omega arith)
 
 -- ---- tests
@@ -60,11 +60,11 @@ or_unless false b h = h refl
 or_second : (a b : Bool) → a ≡ false → (a || b) ≡ true → b ≡ true
 or_second a b h k = sym (ap (λ c. c || b) h) ∙ k
 
-none_at : (a n : ℕ) (ns : List Name) → n < a → All (λ (t : Name). a ≤ t.number) ns → has_number ns n ≡ false
-none_at a n ns h low = list_any_none (λ (t : Name). t.number == n) ns (λ k d lt. differ a n _ h (low k d lt))
+none_at : (a n : ℕ) (ns : List NumberedName) → n < a → All (λ (t : NumberedName). a ≤ t.number) ns → has_number ns n ≡ false
+none_at a n ns h low = list_any_none (λ (t : NumberedName). t.number == n) ns (λ k d lt. differ a n _ h (low k d lt))
 
 -- ---- the walk finds the least gap
-gap_here : (m : ℕ) (s : Name) (ss : List Name) → IsNonDecreasingBy number (s ∷ ss) → ltb (m + 1) s.number ≡ true → IsGap m (s ∷ ss) (m + 1)
+gap_here : (m : ℕ) (s : NumberedName) (ss : List NumberedName) → IsNonDecreasingBy number (s ∷ ss) → ltb (m + 1) s.number ≡ true → IsGap m (s ∷ ss) (m + 1)
 gap_here m s ss up far =
     let high : m + 1 < s.number = less (m + 1) s.number far in
     record {
@@ -74,7 +74,7 @@ gap_here m s ss up far =
       least = λ k low lt. absurd (omega arith);
     }
 
-gap_past : (m n : ℕ) (s : Name) (ss : List Name) → m ≤ s.number → ltb (m + 1) s.number ≡ false → IsGap s.number ss n → IsGap m (s ∷ ss) n
+gap_past : (m n : ℕ) (s : NumberedName) (ss : List NumberedName) → m ≤ s.number → ltb (m + 1) s.number ≡ false → IsGap s.number ss n → IsGap m (s ∷ ss) n
 gap_past m n s ss low near is =
     let past : s.number < n = is.above in
     record {
@@ -91,15 +91,15 @@ abbrev or_zero : Option ℕ → ℕ
 or_zero None = 0
 or_zero (Some n) = n
 
-pub gap-some : (m n : ℕ) (ns : List Name) → IsNonDecreasingBy number ns → All (λ (t : Name). m ≤ t.number) ns → gap_after m ns ≡ Some n → IsGap m ns n
+pub gap-some : (m n : ℕ) (ns : List NumberedName) → IsNonDecreasingBy number ns → All (λ (t : NumberedName). m ≤ t.number) ns → gap_after m ns ≡ Some n → IsGap m ns n
 gap-some m n [] up low e = absurd cc
 gap-some m n (s ∷ ss) up low e = by_test (ltb (m + 1) s.number) refl (gap-some s.number n ss (tail_up s ss up) (head_low s ss up)) e
   where
     by_test : (b : Bool) → ltb (m + 1) s.number ≡ b → (gap_after s.number ss ≡ Some n → IsGap s.number ss n) → cond b (Some (m + 1)) (gap_after s.number ss) ≡ Some n → IsGap m (s ∷ ss) n
     by_test true far on e = subst (IsGap m (s ∷ ss)) (ap or_zero e) (gap_here m s ss up far)
-    by_test false near on e = gap_past m n s ss (All-head (λ (t : Name). m ≤ t.number) s ss low) near (on e)
+    by_test false near on e = gap_past m n s ss (All-head (λ (t : NumberedName). m ≤ t.number) s ss low) near (on e)
 
-pub gap-none : (m : ℕ) (ns : List Name) → IsNonDecreasingBy number ns → gap_after m ns ≡ None → HasNoGap m ns
+pub gap-none : (m : ℕ) (ns : List NumberedName) → IsNonDecreasingBy number ns → gap_after m ns ≡ None → HasNoGap m ns
 gap-none m [] up e k lk later = absurd (true≢false (sym later))
 gap-none m (s ∷ ss) up e k lk later = by_test (ltb (m + 1) s.number) refl (λ rest. gap-none s.number ss (tail_up s ss up) rest) e
   where
@@ -110,7 +110,7 @@ gap-none m (s ∷ ss) up e k lk later = by_test (ltb (m + 1) s.number) refl (λ 
         on e k past (or_second (ltb k s.number) (has_above ss k) (not_above k s.number past) later))
 
 -- ---- a step of the walk
-module _ (m i : ℕ) (ns : List Name) (d : Name) (lt : i < length ns) where
+module _ (m i : ℕ) (ns : List NumberedName) (d : NumberedName) (lt : i < length ns) where
   pub gap_stops : 1 < (get_or ns i d).number - m → gap_after m (drop i ns) ≡ Some (m + 1)
   gap_stops far = ap (gap_after m) (drop_more ns i d lt) ∙ ap (λ b. cond b (Some (m + 1)) (gap_after (get_or ns i d).number (drop (i + 1) ns))) (far_test m (get_or ns i d).number far)
     where
@@ -124,17 +124,17 @@ module _ (m i : ℕ) (ns : List Name) (d : Name) (lt : i < length ns) where
       near_test m a h = grind (arith, nat_tests)
 
 -- ---- there is one gap at most
-not_less : (m a b : ℕ) (ns : List Name) → IsGap m ns a → IsGap m ns b → ltb a b ≡ false
+not_less : (m a b : ℕ) (ns : List NumberedName) → IsGap m ns a → IsGap m ns b → ltb a b ≡ false
 not_less m a b ns one other = by_test (ltb a b) refl
   where
     by_test : (t : Bool) → ltb a b ≡ t → t ≡ false
     by_test true e = absurd (true≢false (sym (other.least a one.above (less a b e)) ∙ one.absent))
     by_test false e = refl
 
-same_gap : (m a b : ℕ) (ns : List Name) → IsGap m ns a → IsGap m ns b → a ≡ b
+same_gap : (m a b : ℕ) (ns : List NumberedName) → IsGap m ns a → IsGap m ns b → a ≡ b
 same_gap m a b ns one other = no_less a b (not_less m a b ns one other) (not_less m b a ns other one)
 
-pub gap-is : (m n : ℕ) (ns : List Name) → IsNonDecreasingBy number ns → All (λ (t : Name). m ≤ t.number) ns → IsGap m ns n → gap_after m ns ≡ Some n
+pub gap-is : (m n : ℕ) (ns : List NumberedName) → IsNonDecreasingBy number ns → All (λ (t : NumberedName). m ≤ t.number) ns → IsGap m ns n → gap_after m ns ≡ Some n
 gap-is m n ns up low is = by_walk (gap_after m ns) refl
   where
     by_walk : (o : Option ℕ) → gap_after m ns ≡ o → o ≡ Some n
@@ -142,9 +142,9 @@ gap-is m n ns up low is = by_walk (gap_after m ns) refl
     by_walk (Some a) e = ap Some (same_gap m a n ns (gap-some m a ns up low e) is)
 
 -- ---- and it does not depend on the order of a listing
-module _ (xs ys : List Name) (same : IsPermutation xs ys) where
+module _ (xs ys : List NumberedName) (same : IsPermutation xs ys) where
   number_moved : (k : ℕ) → has_number xs k ≡ has_number ys k
-  number_moved k = list_any-IsPermutation (λ (s : Name). s.number == k) xs ys same
+  number_moved k = list_any-IsPermutation (λ (s : NumberedName). s.number == k) xs ys same
 
   above_moved : (k : ℕ) → has_above xs k ≡ has_above ys k
   above_moved k = list_any-IsPermutation (is_after_checkpoint k) xs ys same
@@ -177,13 +177,13 @@ number_missing (Ok x) = 0
 number_missing (Err OutOfMemory) = 0
 number_missing (Err (Missing n)) = n
 
-module _ (m : ℕ) (names sorted : List Name) (up : AreByNumber (filter (is_after_checkpoint m) names) sorted) where
+module _ (m : ℕ) (names sorted : List NumberedName) (up : AreByNumber (filter (is_after_checkpoint m) names) sorted) where
   rise : IsNonDecreasingBy number sorted
   rise = numbers_rise sorted up.1
 
-  all_low : All (λ (t : Name). m ≤ t.number) sorted
-  all_low = All-permutation (λ (t : Name). m ≤ t.number) (filter (is_after_checkpoint m) names) sorted up.0
-      (All-weaker (λ (t : Name). is_after_checkpoint m t ≡ true) (λ (t : Name). m ≤ t.number) (λ t h. weaker m t.number (less m t.number h)) (filter (is_after_checkpoint m) names) (filter_passes (is_after_checkpoint m) names))
+  all_low : All (λ (t : NumberedName). m ≤ t.number) sorted
+  all_low = All-permutation (λ (t : NumberedName). m ≤ t.number) (filter (is_after_checkpoint m) names) sorted up.0
+      (All-weaker (λ (t : NumberedName). is_after_checkpoint m t ≡ true) (λ (t : NumberedName). m ≤ t.number) (λ t h. weaker m t.number (less m t.number h)) (filter (is_after_checkpoint m) names) (filter_passes (is_after_checkpoint m) names))
     where
       weaker : (a b : ℕ) → a < b → a ≤ b
       weaker a b h = omega arith

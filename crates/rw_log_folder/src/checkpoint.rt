@@ -6,7 +6,7 @@ ghost use Rattle.rw_log_folder.specs.inner.Folders.{IsCheckpointName, IsNameOf};
 use crate::files::{SegmentFile, SegmentName, count_bytes, file_of, number_of};
 use crate::folder::Current;
 use crate::folder_fault::{FolderFault, fault_of};
-use crate::listing::{Checkpoint, Listing, Name, Place};
+use crate::listing::{Checkpoint, Listing, LogFile, NumberedName};
 use crate::opened::Opened;
 use crate::order::log_order;
 use rw_metrics::SendCounters;
@@ -27,13 +27,13 @@ const MOST_LISTINGS: usize = 3;
 
 /// Returns the number that a text of one to eight decimal digits spells, and how many digits these
 /// are.
-fn name_of(text: &str) -> Option<Name>
+fn name_of(text: &str) -> Option<NumberedName>
     ensures number { MatchOption result ((n : ℕ) → n < 2 ^ 64 → IsNameOf text.now n → ⊥)
         (λ name. IsNameOf text.now name.number) }
     ensures digits { IfSome result (λ name. name.digits ≡ length text.now) }
 {
     match number_of(text) {
-        Some(number) => Some(Name {
+        Some(number) => Some(NumberedName {
             number,
             digits: text.len(),
         }),
@@ -44,7 +44,7 @@ fn name_of(text: &str) -> Option<Name>
 /// Returns the number of a checkpoint by the name of its folder, or `None` if the name is not that
 /// of a checkpoint. A name that goes on after the number belongs to one that the server has not
 /// finished.
-fn checkpoint_of(text: &str) -> Option<Name>
+fn checkpoint_of(text: &str) -> Option<NumberedName>
     ensures number { MatchOption result ((n : ℕ) → n < 2 ^ 64 → IsCheckpointName text.now n → ⊥)
         (λ name. IsCheckpointName text.now name.number) }
     ensures digits { IfSome result (λ name. length text.now ≡ 11 + name.digits) }
@@ -100,7 +100,7 @@ pub fn has_checkpoint<R: Files + AllocGlobal + Copy>(rt: &R, dir: &str) -> bool 
 }
 
 /// Appends a number with its digits.
-fn push_name(alloc: Global, text: &mut String, name: Name) -> Result<(), AllocError> {
+fn push_name(alloc: Global, text: &mut String, name: NumberedName) -> Result<(), AllocError> {
     let number = name.number;
     let decimal = format!(in alloc; "{number}")?;
     for _ in decimal.len()..name.digits {
@@ -110,7 +110,7 @@ fn push_name(alloc: Global, text: &mut String, name: Name) -> Result<(), AllocEr
 }
 
 /// Returns the name of a checkpoint's folder.
-fn folder_name(alloc: Global, checkpoint: Name) -> Result<String, AllocError> {
+fn folder_name(alloc: Global, checkpoint: NumberedName) -> Result<String, AllocError> {
     let mut text = String::from_str(alloc, CHECKPOINT)?;
     push_name(alloc, &mut text, checkpoint)?;
     Ok(text)
@@ -139,7 +139,7 @@ fn list_all<R: Files + AllocGlobal + Copy>(rt: &R, dir: &str) -> Result<Listing,
 
 /// Returns the file at a place, by its path in the folder. One in a checkpoint has the
 /// checkpoint's number.
-fn segment_at(alloc: Global, place: Place) -> Result<SegmentName, AllocError> {
+fn segment_at(alloc: Global, place: LogFile) -> Result<SegmentName, AllocError> {
     let Some(checkpoint) = place.checkpoint else {
         let mut name = String::new(alloc);
         push_name(alloc, &mut name, place.segment)?;
@@ -187,7 +187,7 @@ fn open_files<R: Files<File = File> + AllocGlobal + Copy>(
 fn open_place<R: Files<File = File> + AllocGlobal + Copy>(
     rt: &R,
     dir: &str,
-    place: Place,
+    place: LogFile,
 ) -> Result<Current, FolderFault> {
     let segment = segment_at(rt.alloc(), place)?;
     let path = Path::new(dir).join(rt.alloc(), segment.name.as_str())?;

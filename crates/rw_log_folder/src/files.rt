@@ -6,7 +6,7 @@ ghost use Rattle.rw_log_folder.specs.Folders.{comes_before};
 ghost use Rattle.rw_log_folder.specs.inner.Folders.{IsNameOf};
 
 use crate::folder_fault::{FolderFault, fault_of};
-use crate::opened::{Open, Opened};
+use crate::opened::{OpenSource, Opened};
 use rw_metrics::SendCounters;
 use rw_text::read_number;
 use rw_types::{Failed, Std};
@@ -73,7 +73,7 @@ impl<R: Files> SegmentFile<R> {
     }
 }
 
-impl<R: Files<File = File>> Open for SegmentFile<R> {
+impl<R: Files<File = File>> OpenSource for SegmentFile<R> {
     ghost use Rattle.std.specs.Prelude.{None};
 
     type S = Std<File>;

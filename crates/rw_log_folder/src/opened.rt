@@ -6,7 +6,7 @@ ghost use Rattle.rw_log_folder.specs.Opening.{left_of};
 use rw_types::{Failed, Source};
 
 /// What can be opened to be read.
-pub trait Open {
+pub trait OpenSource {
     type S: Source + Drop;
 
     /// The bytes that a source that it opens has left, if they are known.
@@ -20,13 +20,13 @@ pub trait Open {
 /// Opens a source when it is first read, and reads it. Contracts see the bytes that are left of
 /// what was opened, and before that those that it will open.
 #[derive(Drop)]
-pub struct Opened<O: Open> {
+pub struct Opened<O: OpenSource> {
     place: O,
     source: Option<O::S>,
     failed: bool,
 }
 
-impl<O: Open> Opened<O> {
+impl<O: OpenSource> Opened<O> {
     /// Returns a source that is not yet opened.
     pub(crate) fn new(place: O) -> Opened<O> {
         Opened {
@@ -59,7 +59,7 @@ impl<O: Open> Opened<O> {
     }
 }
 
-impl<O: Open> Source for Opened<O> {
+impl<O: OpenSource> Source for Opened<O> {
     ghost use Rattle.std.specs.Prelude.{false};
     ghost use Rattle.rw_log_folder.specs.Opening.{left_of};
 

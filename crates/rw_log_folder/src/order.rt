@@ -6,7 +6,7 @@ ghost use Rattle.rw_log_folder.specs.Order.{AreByNumber, IsGap, IsNewest, IsLogO
 ghost use Rattle.rw_log_folder.specs.inner.Order.{gap_after};
 ghost use Rattle.rw_log_folder.specs.declared.order.OrderFault.TheVariants.{Missing};
 
-use crate::listing::{Checkpoint, Listing, Name, Place};
+use crate::listing::{Checkpoint, Listing, LogFile, NumberedName};
 use std::alloc::{AllocError, Global};
 use std::error::Error;
 use std::fmt;
@@ -41,7 +41,7 @@ impl From<AllocError> for OrderFault {
     }
 }
 
-fn put_in_order(names: &mut Vec<Name>)
+fn put_in_order(names: &mut Vec<NumberedName>)
     ensures { AreByNumber names.old.items names.new.items }
 {
     names.sort_unstable_by_key(|name| (name.number, name.digits));
@@ -57,7 +57,7 @@ fn newest(checkpoints: Vec<Checkpoint>) -> Option<Checkpoint>
 }
 
 /// Returns the first number after `last` that is missing among names in order.
-fn gap_after(last: u64, names: &[Name]) -> Option<u64>
+fn gap_after(last: u64, names: &[NumberedName]) -> Option<u64>
     ensures { result ≡ gap_after last names.now }
 {
     let mut last = last;
@@ -71,15 +71,15 @@ fn gap_after(last: u64, names: &[Name]) -> Option<u64>
 }
 
 fn push_places(
-    places: &mut Vec<Place>,
-    checkpoint: Option<Name>,
-    names: &[Name],
+    places: &mut Vec<LogFile>,
+    checkpoint: Option<NumberedName>,
+    names: &[NumberedName],
 ) -> Result<(), AllocError>
     ensures { OnOk result
         (places.new.items ≡ places.old.items ++ map (place_in checkpoint) names.now) }
 {
     for name in names {
-        places.push(Place {
+        places.push(LogFile {
             checkpoint,
             segment: *name,
         })?;
@@ -88,14 +88,14 @@ fn push_places(
 }
 
 /// Keeps the segments with greater numbers than this one.
-fn keep_above(segments: &mut Vec<Name>, number: u64)
+fn keep_above(segments: &mut Vec<NumberedName>, number: u64)
     ensures { segments.new.items ≡ filter (is_after_checkpoint number) segments.old.items }
 {
     segments.retain(|segment| number < segment.number);
 }
 
 /// Returns the files of a log without a checkpoint.
-fn whole_folder(alloc: Global, segments: Vec<Name>) -> Result<Vec<Place>, AllocError>
+fn whole_folder(alloc: Global, segments: Vec<NumberedName>) -> Result<Vec<LogFile>, AllocError>
     ensures { IfOk result (λ places. IsReadAfter None segments.items places.items) }
 {
     let mut segments = segments;
@@ -108,10 +108,10 @@ fn whole_folder(alloc: Global, segments: Vec<Name>) -> Result<Vec<Place>, AllocE
 /// Returns the files of a checkpoint, and those after it.
 fn both_places(
     alloc: Global,
-    checkpoint: Name,
-    first: &[Name],
-    later: &[Name],
-) -> Result<Vec<Place>, AllocError>
+    checkpoint: NumberedName,
+    first: &[NumberedName],
+    later: &[NumberedName],
+) -> Result<Vec<LogFile>, AllocError>
     ensures { IfOk result (λ places. places.items
         ≡ map (place_in (Some checkpoint)) first.now ++ map (place_in None) later.now) }
 {
@@ -125,8 +125,8 @@ fn both_places(
 fn log_from(
     alloc: Global,
     checkpoint: Checkpoint,
-    segments: Vec<Name>,
-) -> Result<Vec<Place>, OrderFault>
+    segments: Vec<NumberedName>,
+) -> Result<Vec<LogFile>, OrderFault>
     ensures order { IfOk result
         (λ places. IsReadFrom checkpoint segments.items places.items) }
     ensures missing { (n : ℕ) → (result ≡ Err (Missing n))
@@ -159,7 +159,7 @@ fn log_from(
 /// number that is missing. No segment after the checkpoint is not a fault: the log ends with the
 /// checkpoint. Without a checkpoint nothing is reported as missing. A missing segment is found
 /// before memory is taken.
-pub fn log_order(alloc: Global, listing: Listing) -> Result<Vec<Place>, OrderFault>
+pub fn log_order(alloc: Global, listing: Listing) -> Result<Vec<LogFile>, OrderFault>
     ensures order { IfOk result (λ places. IsLogOrder listing places.items) }
     ensures missing { (n : ℕ) → (result ≡ Err (Missing n)) ↔ IsMissing listing n }
 {

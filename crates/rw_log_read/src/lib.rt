@@ -12,7 +12,7 @@ mod sums;
 
 pub use log::{read_into, read_named};
 pub use log_read::{LogRead, Segment};
-pub use named::{Named, Unread};
+pub use named::{Named, UnreadLog};
 pub use rw_wal_tail::Damage;
 pub use skipped::SkippedRecords;
 pub use sums::{Sums, one_more};

@@ -10,11 +10,11 @@ ghost use Rattle.rw_wal_format.specs.Pieces.{begun_log, is_marked};
 ghost use Rattle.rw_wal_tail.specs.Taking.{HasTaken, HasTakenAll};
 ghost use Rattle.rw_log_read.specs.Logs.{ReadsInto, ReadsNamed, fault_in, source_of};
 ghost use Rattle.rw_log_read.specs.inner.Logs.{AreTaken, ReadsLog, ReadsSegment, begun};
-ghost use Rattle.rw_log_read.specs.declared.named.Unread.{Unread};
+ghost use Rattle.rw_log_read.specs.declared.named.UnreadLog.{UnreadLog};
 
 use crate::counting::Counting;
 use crate::log_read::{LogRead, Segment};
-use crate::named::{Named, Unread, names_of, unread_of};
+use crate::named::{Named, UnreadLog, names_of, unread_of};
 use crate::segment_text::{TextRead, read_text};
 use crate::skipped::skipped_records;
 use rw_follow::{Queue, SegmentError, Segments};
@@ -243,14 +243,14 @@ pub fn read_named<S: Source + Drop, T: Taker + Drop>(
     segments: Vec<Named<S>>,
     may_compress: bool,
     taker: T,
-) -> Result<(LogRead, T), Unread>
+) -> Result<(LogRead, T), UnreadLog>
     requires { T.taken taker ≡ [] }
     ensures ok { IfOk result (λ read. ReadsNamed may_compress
         (map (source_of S.remaining) segments.items) (T.taken read.1) read.0.segments.items
         (fault_in read.0.damage)) }
     ensures fixed { IfOk result (λ read. T.fixed read.1 ≡ T.fixed taker) }
     ensures sure { AreSure (map (source_of S.is_sure) segments.items)
-        → (u : Unread) → result ≡ Err u → u.error ≡ Failed → ⊥ }
+        → (u : UnreadLog) → result ≡ Err u → u.error ≡ Failed → ⊥ }
 {
     if segments.is_empty() {
         return Ok((nothing_read(alloc), taker));

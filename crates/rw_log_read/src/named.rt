@@ -29,13 +29,13 @@ impl<S: Source> Source for Named<S> {
 
 /// Why named segments were not read to their end.
 #[derive(Debug, Drop)]
-pub struct Unread {
+pub struct UnreadLog {
     pub error: ReadFault,
     /// The name of the segment whose device failed.
     pub file: Option<String>,
 }
 
-impl fmt::Display for Unread {
+impl fmt::Display for UnreadLog {
     fn fmt<W: fmt::Write>(&self, f: &mut fmt::Formatter<W>) -> fmt::Result {
         let error = self.error;
         match &self.file {
@@ -45,16 +45,16 @@ impl fmt::Display for Unread {
     }
 }
 
-impl Error for Unread {}
+impl Error for UnreadLog {}
 
-impl From<AllocError> for Unread {
+impl From<AllocError> for UnreadLog {
     ghost use Rattle.std.specs.Prelude.{◌≡◌, None};
     ghost use Rattle.rw_types.specs.declared.transfer.ReadFault.TheVariants.{OutOfMemory};
 
     ghost from_gives = { λ _ u. u ≡ record { error = OutOfMemory; file = None } };
 
-    fn from(_e: AllocError) -> Unread {
-        Unread {
+    fn from(_e: AllocError) -> UnreadLog {
+        UnreadLog {
             error: ReadFault::OutOfMemory,
             file: None,
         }
@@ -72,12 +72,12 @@ pub(crate) fn names_of<S>(alloc: Global, segments: &[Named<S>]) -> Result<Vec<St
 
 /// Returns why these segments cannot be read further, with the name of the current one if its
 /// device has failed. If there is no memory for the name, it is left out.
-pub(crate) fn unread_of<S: Source + Drop>(log: &Queue<Named<S>>, error: ReadFault) -> Unread
+pub(crate) fn unread_of<S: Source + Drop>(log: &Queue<Named<S>>, error: ReadFault) -> UnreadLog
     ensures { result.error ≡ error }
 {
     let file = match (log.current(), error) {
         (Some(segment), ReadFault::Failed) => segment.name.clone().ok(),
         _ => None,
     };
-    Unread { error, file }
+    UnreadLog { error, file }
 }

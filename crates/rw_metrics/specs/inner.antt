@@ -1,4 +1,3 @@
-pub mod Asking
 pub mod Exposition
 pub mod Rows
 pub mod Lines

@@ -2,12 +2,10 @@
 //! format of Prometheus over HTTP, and lines of progress.
 #![tactic(auto)]
 
-mod asked;
 mod atomics;
 mod body;
 mod body_contents;
 mod cause;
-mod client;
 mod codes;
 mod counters;
 mod exposition;
@@ -26,13 +24,11 @@ mod receive_numbers;
 mod receiver_html;
 mod receiver_page;
 mod refusals;
-mod reply;
 mod rows;
 mod send_counters;
 mod send_numbers;
 mod sender_html;
 mod sender_page;
-mod server;
 mod skipped_counters;
 mod skipped_parts;
 mod stalls;
@@ -40,16 +36,16 @@ mod stalls;
 pub use cause::Cause;
 pub use counters::Counters;
 pub use lines::{drops_line, receive_line, send_line, skipped_line};
+pub use page_source::PageSource;
 pub use progress::{Screen, show_progress, write_end};
 pub use receive_counters::ReceiveCounters;
 pub use receive_numbers::{KeptNumbers, MemoryNumbers, ReceiveNumbers};
 pub use receiver_html::receive_html;
 pub use receiver_page::receive_page;
-pub use refusals::{Refusal, RefusalReason, RefusedSamples};
+pub use refusals::{RefusalReason, RefusedRequest, RefusedSamples};
 pub use send_counters::SendCounters;
 pub use send_numbers::{Drops, Failures, SendNumbers, Skipped};
 pub use sender_html::send_html;
 pub use sender_page::send_page;
-pub use server::serve_metrics;
 pub use skipped_parts::SkippedParts;
 pub use stalls::show_stalls;

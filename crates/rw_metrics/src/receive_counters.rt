@@ -6,7 +6,7 @@ use crate::codes::Codes;
 use crate::kept_counters::KeptCounters;
 use crate::memory_counters::MemoryCounters;
 use crate::receive_numbers::ReceiveNumbers;
-use crate::refusals::{Refusal, RefusalCounters, RefusalReason};
+use crate::refusals::{RefusalCounters, RefusalReason, RefusedRequest};
 use crate::skipped_parts::SkippedPartCounters;
 use std::alloc::{AllocError, Global};
 use std::sync::atomic::{AtomicU64, Ordering};
@@ -118,12 +118,12 @@ impl ReceiveCounters {
     }
 
     /// Takes an example of a refused request.
-    pub fn set_refusal(&self, refusal: Refusal) {
+    pub fn set_refusal(&self, refusal: RefusedRequest) {
         self.refusals.set_example(refusal);
     }
 
     /// Returns the example of a refused request, if there is one, and has none from then on.
-    pub fn take_refusal(&self) -> Option<Refusal> {
+    pub fn take_refusal(&self) -> Option<RefusedRequest> {
         self.refusals.take_example()
     }
 

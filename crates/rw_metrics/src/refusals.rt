@@ -77,7 +77,7 @@ impl RefusedSamples {
 
 /// A request that was refused, as an example.
 #[derive(Drop)]
-pub struct Refusal {
+pub struct RefusedRequest {
     pub status: u16,
     /// Why its body was refused; `None` if that is not known, or the request was refused without a
     /// look at its message.
@@ -100,7 +100,7 @@ pub(crate) struct RefusalCounters {
     full: AtomicU64,
     unavailable: AtomicU64,
     busy: AtomicU64,
-    example: Mutex<Option<Refusal>>,
+    example: Mutex<Option<RefusedRequest>>,
 }
 
 impl RefusalCounters {
@@ -154,14 +154,14 @@ impl RefusalCounters {
     }
 
     /// Sets the example, unless another thread looks at it.
-    pub(crate) fn set_example(&self, refusal: Refusal) {
+    pub(crate) fn set_example(&self, refusal: RefusedRequest) {
         if let Some(mut example) = self.example.try_lock() {
             *example = Some(refusal);
         }
     }
 
     /// Returns the example, and has none from then on.
-    pub(crate) fn take_example(&self) -> Option<Refusal> {
+    pub(crate) fn take_example(&self) -> Option<RefusedRequest> {
         match self.example.try_lock() {
             Some(mut example) => example.take(),
             None => None,

@@ -5,7 +5,7 @@ ghost use Rattle.rw_text.specs.declared.tool_fault.ToolFault.TheVariants.{OutOfM
 
 use crate::server_context::{ServerContext, serve_connection};
 use crate::until::ServeUntil;
-use rw_recv_head::{Admit, Holding, Naming, Seat, SharedHead};
+use rw_recv_head::{Admit, HeadNaming, Holding, Seat, SharedHead};
 use rw_text::ToolFault;
 use std::alloc::Global;
 use std::net::TcpStream;
@@ -17,7 +17,7 @@ use std::time::Clock;
 /// A connection that is served in a thread. It is one value, so that the thread is joined only
 /// after its end was seen.
 #[derive(Drop)]
-pub(crate) struct ActiveConnection<L: Naming> {
+pub(crate) struct ActiveConnection<L: HeadNaming> {
     thread: JoinHandle<Seat<L>>,
     /// Whether it has ended, but for the thread's last steps.
     has_ended: Arc<AtomicBool, Global>,
@@ -25,7 +25,7 @@ pub(crate) struct ActiveConnection<L: Naming> {
 
 /// What became of a connection.
 #[derive(Drop)]
-pub(crate) enum Connection<L: Naming> {
+pub(crate) enum Connection<L: HeadNaming> {
     /// It is served in a thread.
     Active(ActiveConnection<L>),
     /// It has ended, and gave its seat back.
@@ -33,7 +33,7 @@ pub(crate) enum Connection<L: Naming> {
 }
 
 /// Closes a connection for which memory ran out. It ends a service for a number of connections.
-fn close_unserved<L: Naming>(
+fn close_unserved<L: HeadNaming>(
     context: &ServerContext<'_>,
     seat: Seat<L>,
 ) -> Result<Connection<L>, ToolFault>
@@ -81,7 +81,7 @@ pub(crate) fn start_connection<
     }
 }
 
-impl<L: Naming> ActiveConnection<L> {
+impl<L: HeadNaming> ActiveConnection<L> {
     /// Returns what has become of it by now. It never waits.
     pub(crate) fn try_end<R: Threads>(self, rt: &R) -> Connection<L> {
         if self.has_ended.load(Ordering::SeqCst) {

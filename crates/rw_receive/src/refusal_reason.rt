@@ -7,7 +7,7 @@ ghost use Rattle.rw_write_request.specs.declared.fault.WireFault.{WireFault};
 
 use rw_head::Limits;
 use rw_metrics::RefusalReason;
-use rw_recv_head::Asked;
+use rw_recv_head::SeatAnswer;
 use rw_types::{LabelFault, LabelSet};
 use rw_write_request::{WireFault, check_message, label_count, message_part, read_labels};
 use std::alloc::Global;
@@ -76,7 +76,7 @@ fn fault_of(alloc: Global, limits: &Limits, body: &[u8]) -> Option<RefusalReason
 pub(crate) fn reason_of(
     alloc: Global,
     limits: &Limits,
-    asked: &Asked,
+    asked: &SeatAnswer,
     body: &[u8],
 ) -> Option<RefusalReason> {
     match asked.status {

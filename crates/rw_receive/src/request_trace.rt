@@ -1,7 +1,7 @@
 //! What is known of the request of a connection that is being answered, for the counters. It is
 //! best effort: no clause says anything about it.
 
-use rw_metrics::{ReceiveCounters, Refusal, RefusalReason};
+use rw_metrics::{ReceiveCounters, RefusalReason, RefusedRequest};
 use std::alloc::Global;
 use std::cell::Cell;
 use std::net::TcpStream;
@@ -122,7 +122,7 @@ impl<'s> RequestTrace<'s> {
         if !self.counters.wants_refusal() {
             return;
         }
-        self.counters.set_refusal(Refusal {
+        self.counters.set_refusal(RefusedRequest {
             status,
             reason,
             samples,

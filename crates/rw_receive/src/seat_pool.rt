@@ -8,7 +8,7 @@ use crate::forgetting::Forgetting;
 use crate::next_connection::next_connection;
 use crate::server_context::ServerContext;
 use rw_follow::StopRequest;
-use rw_recv_head::{Admit, Holding, Naming, Seat, SharedHead};
+use rw_recv_head::{Admit, HeadNaming, Holding, Seat, SharedHead};
 use rw_text::ToolFault;
 use std::alloc::{AllocError, Global};
 use std::collections::VecDeque;
@@ -27,13 +27,13 @@ const SOME: usize = 16;
 
 /// Seats, each free or with a connection. Contracts see how many there are.
 #[derive(Drop)]
-pub struct SeatPool<L: Naming> {
+pub struct SeatPool<L: HeadNaming> {
     free: Vec<Seat<L>>,
     /// The connection that was not checked for longest is in front.
     active: VecDeque<ActiveConnection<L>>,
 }
 
-impl<L: Naming> Model for SeatPool<L> {
+impl<L: HeadNaming> Model for SeatPool<L> {
     ghost use Rattle.std.specs.Prelude.{ℕ, ◌+◌, ◌≤◌, vec_len, vec_capacity};
     ghost use Rattle.std.specs.VecDeque.{deque_len, deque_capacity};
 
@@ -45,7 +45,7 @@ impl<L: Naming> Model for SeatPool<L> {
         × (vec_len p.free + deque_len p.active ≤ deque_capacity p.active) };
 }
 
-impl<L: Naming> SeatPool<L> {
+impl<L: HeadNaming> SeatPool<L> {
     /// Returns seats that are all free.
     pub fn new(alloc: Global, seats: Vec<Seat<L>>) -> Result<SeatPool<L>, AllocError>
         ensures { IfOk result (λ pool. pool ≡ vec_len seats) }

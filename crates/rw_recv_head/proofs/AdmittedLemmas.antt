@@ -1,7 +1,7 @@
 -- What holds a head, after one question more.
 use Rattle.std.proofs.Common.{◌≡◌, ℕ, List, [], ◌∷◌, ◌++◌, Option, Some, refl, sym, subst}
 use Rattle.rw_recv_head.specs.declared.question.Question.{Question}
-use Rattle.rw_recv_head.specs.declared.questions.Known.{Known}
+use Rattle.rw_recv_head.specs.declared.questions.PassState.{PassState}
 use Rattle.rw_recv_head.specs.Seats.{AreAdmitted, HasAdmitted}
 
 module _ {H : Type 0} (admits : H → List ℕ → ℕ → H → Type 0) where
@@ -18,8 +18,8 @@ module _ {H : Type 0} (admits : H → List ℕ → ℕ → H → Type 0) where
       (first, is, subst (λ (l : List Question). AreAdmitted admits first l first) (sym none) refl)
 
   -- one more was asked, and noted
-  pub one_more_admitted : (opening : Option H) (known now : Known) (old new : H) (q : Question)
+  pub one_more_admitted : (opening : Option H) (known now : PassState) (old new : H) (q : Question)
       → HasAdmitted admits opening known.asked old → now ≡ record known { asked = known.asked ++ q ∷ [] }
       → admits old q.body q.status new → HasAdmitted admits opening now.asked new
   one_more_admitted opening known now old new q (first, is, before) noted step =
-      (first, is, subst (λ (k : Known). AreAdmitted admits first k.asked new) (sym noted) (AreAdmitted-push known.asked first old new q before step))
+      (first, is, subst (λ (k : PassState). AreAdmitted admits first k.asked new) (sym noted) (AreAdmitted-push known.asked first old new q before step))

@@ -9,7 +9,7 @@ use Rattle.rw_types.proofs.shared.Booleans.{or_true}
 use Rattle.rw_head.specs.Store.{Store}
 use Rattle.rw_head.specs.Head.{State}
 use Rattle.rw_recv_head.specs.declared.question.Question.{Question}
-use Rattle.rw_recv_head.specs.declared.questions.Known.{Known}
+use Rattle.rw_recv_head.specs.declared.questions.PassState.{PassState}
 use Rattle.rw_recv_head.specs.Seats.{own, bodies_of, store_after, Seated, HasGathered}
 use Rattle.rw_recv_head.specs.inner.Questions.{IsSeat}
 
@@ -53,7 +53,7 @@ all_there ns n distinct below count m less false e =
     absurd (omega (arith, longer, count))
 
 -- ---- the seats that are back
-pub record AreBack (known : Known) (seats : List Seated) : Type 0 where
+pub record AreBack (known : PassState) (seats : List Seated) : Type 0 where
   pub seen : (k : ℕ) (s : Seated) → slice_get seats k ≡ Some s → Begins s.asked known.asked × (own s.number known.asked ≡ own s.number s.asked)
   pub noted : (k : ℕ) (s : Seated) → slice_get seats k ≡ Some s → list_any (eqb s.number) known.back ≡ true
   pub found : (n : ℕ) → list_any (eqb n) known.back ≡ true → (k : ℕ) × (s : Seated) × (slice_get seats k ≡ Some s) × (s.number ≡ n)
@@ -66,7 +66,7 @@ no_numbers : IsDistinct eqb []
 unfolding IsDistinct
 no_numbers = tt
 
-pub none_are_back : (known : Known) → known.back ≡ [] → AreBack known []
+pub none_are_back : (known : PassState) → known.back ≡ [] → AreBack known []
 none_are_back known none = record {
   seen = λ k s e. absurd cc;
   noted = λ k s e. absurd cc;
@@ -77,7 +77,7 @@ none_are_back known none = record {
   count = ap length none;
 }
 
-pub one_more_back : (known : Known) (seats : List Seated) (s : Seated) → AreBack known seats → IsSeat known s.number s.asked
+pub one_more_back : (known : PassState) (seats : List Seated) (s : Seated) → AreBack known seats → IsSeat known s.number s.asked
     → AreBack (record known { back = s.number ∷ known.back }) (seats ++ s ∷ [])
 one_more_back known seats s h i =
     let was : (j : ℕ) (t : Seated) → slice_get seats j ≡ Some t → s.number ≢ t.number =
@@ -113,7 +113,7 @@ one_more_back known seats s h i =
     }
 
 -- all are back
-abbrev pub gathers : (opening : State) (known : Known) (seats : List Seated) (store : Store) → AreBack known seats → length seats ≡ known.given
+abbrev pub gathers : (opening : State) (known : PassState) (seats : List Seated) (store : Store) → AreBack known seats → length seats ≡ known.given
     → store ≡ store_after opening (bodies_of known.asked) → ((n : ℕ) (q : Question) → slice_get known.asked n ≡ Some q → q.seat < known.given)
     → HasGathered opening seats store
 gathers opening known seats store h count holds given = record {

@@ -9,7 +9,7 @@ use Rattle.rw_head.specs.Head.{State, SpellsMessage, judged_body, answer_to, ans
 use Rattle.rw_head.specs.Store.{total}
 use Rattle.rw_head.specs.Growth.{EachRises, HasStoredBody}
 use Rattle.rw_recv_head.specs.declared.question.Question.{Question}
-use Rattle.rw_recv_head.specs.declared.questions.Known.{Known}
+use Rattle.rw_recv_head.specs.declared.questions.PassState.{PassState}
 use Rattle.rw_recv_head.specs.Seats.{most, store_after, head_after, body_if_taken, bodies_of, Seated, HasAsked, FindsFull}
 use Rattle.rw_recv_head.specs.inner.Seats.{IsKept}
 use Rattle.rw_recv_head.specs.inner.Questions.{IsSeat}
@@ -92,18 +92,18 @@ no_503 : (status : ℕ) → status ≡ 204 → status ≢ 503
 no_503 status e q = absurd (omega (arith, e, q))
 
 -- what is known once it is noted
-abbrev noted : Known → ℕ → List ℕ → ℕ → Known
+abbrev noted : PassState → ℕ → List ℕ → ℕ → PassState
 noted known seat body status = record known { asked = known.asked ++ record { seat = seat; body = body; status = status } ∷ [] }
 
-pub noted_as : (known now : Known) (seat : ℕ) (body : List ℕ) (status told : ℕ) → status ≡ told → now ≡ noted known seat body status → now ≡ noted known seat body told
+pub noted_as : (known now : PassState) (seat : ℕ) (body : List ℕ) (status told : ℕ) → status ≡ told → now ≡ noted known seat body status → now ≡ noted known seat body told
 noted_as known now seat body status told same is = subst (λ s. now ≡ noted known seat body s) same is
 
-module _ (opening head new : State) (body : List ℕ) (status : ℕ) (known now : Known) (seat : ℕ) (gives : Gives head new body status) (is_noted : now ≡ noted known seat body status) where
+module _ (opening head new : State) (body : List ℕ) (status : ℕ) (known now : PassState) (seat : ℕ) (gives : Gives head new body status) (is_noted : now ≡ noted known seat body status) where
   abbrev one : Question
   one = record { seat = seat; body = body; status = status }
 
   bodies_now : bodies_of now.asked ≡ bodies_of (known.asked ++ one ∷ [])
-  bodies_now = ap (λ (k : Known). bodies_of k.asked) is_noted
+  bodies_now = ap (λ (k : PassState). bodies_of k.asked) is_noted
 
   noted_holds : (b : Bool) → nat_eq status 204 ≡ b → head.store ≡ store_after opening (bodies_of known.asked) → head.limits ≡ opening.limits
       → new.store ≡ store_after opening (bodies_of now.asked)
@@ -133,9 +133,9 @@ module _ (opening head new : State) (body : List ℕ) (status : ℕ) (known now 
   each_given : ((n : ℕ) (q : Question) → slice_get known.asked n ≡ Some q → q.seat < known.given) → seat < known.given
       → (n : ℕ) (q : Question) → slice_get now.asked n ≡ Some q → q.seat < now.given
   each_given each given n q e =
-      subst (λ (k : Known). q.seat < k.given) (sym is_noted)
+      subst (λ (k : PassState). q.seat < k.given) (sym is_noted)
       (⊎_elim (each n q) (λ (t : (n ≡ length known.asked) × (one ≡ q)). subst (λ (p : Question). p.seat < known.given) t.1 given)
-      (at_push known.asked one q n (subst (λ (k : Known). slice_get k.asked n ≡ Some q) is_noted e)))
+      (at_push known.asked one q n (subst (λ (k : PassState). slice_get k.asked n ≡ Some q) is_noted e)))
 
   pub kept_again : (all parts rest parts' rest' : ℕ) → IsKept opening all (record { head = head; questions = known }) parts rest → seat < known.given
       → EachRises new.store → parts' ≡ 1 → total new.store + rest' ≡ most → IsKept opening all (record { head = new; questions = now }) parts' rest'
@@ -146,8 +146,8 @@ module _ (opening head new : State) (body : List ℕ) (status : ℕ) (known now 
         limits = s.0 ∙ k.limits;
         less_busy = omega (arith, s.1, k.less_busy);
         each = each_given k.each given;
-        all_given = k.all_given ∙ ap (λ (x : Known). x.given + 1) (sym is_noted);
-        none_back = ap (λ (x : Known). x.back) is_noted ∙ k.none_back;
+        all_given = k.all_given ∙ ap (λ (x : PassState). x.given + 1) (sym is_noted);
+        none_back = ap (λ (x : PassState). x.back) is_noted ∙ k.none_back;
         one_part = one_part;
         adds_up = adds;
       }
@@ -170,7 +170,7 @@ module _ (opening head new : State) (body : List ℕ) (status : ℕ) (known now 
         not_busy = λ h. (gives.memory h).1;
         readable = readable;
         number = same;
-        asked = sees ∙ ap (λ (x : Known). x.asked) is_noted
+        asked = sees ∙ ap (λ (x : PassState). x.asked) is_noted
             ∙ ap (λ n. known.asked ++ record { seat = n; body = body; status = status } ∷ []) (sym is_seat);
         stored = λ h. let t = taken h in (t.0, t.1, omega (arith, t.2, more, b, a, stores));
         nothing = λ h. omega (arith, ap total (gives.refused h), b, a, stores);

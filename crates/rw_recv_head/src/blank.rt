@@ -4,7 +4,7 @@ ghost use Rattle.std.specs.Prelude.{◌≡◌, IfOk};
 ghost use Rattle.rw_head.specs.Capacity.{unlimited};
 ghost use Rattle.rw_recv_head.specs.inner.Questions.{nothing_known};
 
-use crate::naming::Naming;
+use crate::naming::HeadNaming;
 use crate::questions::{Questions, Unnamed};
 use rw_head::Capacity;
 use std::alloc::{AllocError, Global};
@@ -62,7 +62,7 @@ impl Blank {
     }
 
     /// Returns the ledger and an empty list of questions, both under a name.
-    pub(crate) fn named<L: Naming>(self) -> (ledger::Blank, Questions<L>)
+    pub(crate) fn named<L: HeadNaming>(self) -> (ledger::Blank, Questions<L>)
         requires { self.table ≡ L.table }
         ensures name { result.0.name ≡ self.name }
         ensures parts { result.0.parts ≡ self.parts }

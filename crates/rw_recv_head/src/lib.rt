@@ -17,12 +17,12 @@ mod shared_head;
 pub use admit::{Admit, Show};
 pub use blank::Blank;
 pub use laws::{what_is_answered_204_is_held, what_is_stored_stays};
-pub use naming::{Holding, Naming};
+pub use naming::{HeadNaming, Holding};
 pub use question::Question;
 pub use rw_head::{
     AddedSeries, Admission, AllAdded, AllSamples, AllSeries, Block, Capacity, Head, HeldSeries,
     InMemory, LabelSets, Limits, Memory, RecentSamples, StagedHead, Verdict, stores_are_lists,
     stores_hold_no_empty_list,
 };
-pub use seat::{Asked, Seat};
+pub use seat::{Seat, SeatAnswer};
 pub use shared_head::SharedHead;

@@ -4,7 +4,7 @@
 ghost use Rattle.std.specs.Prelude.{◌≡◌, ◌+◌, ◌++◌, [], ◌∷◌};
 ghost use Rattle.rw_recv_head.specs.inner.Questions.{nothing_known, IsSeat};
 
-use crate::naming::Naming;
+use crate::naming::HeadNaming;
 use crate::question::Question;
 use atomic_table::{Join, Play, Seat as Pass, Split, Table, TableRule};
 use rw_history::History;
@@ -14,7 +14,7 @@ use std::marker::{Model, PhantomData};
 use std::mem;
 
 /// What the pass under the lock knows. No value of it is made.
-pub struct Known {
+pub struct PassState {
     /// All questions, in the order in which they were answered.
     pub asked: LinkedList<Question>,
     /// How many seats there are; their numbers count from 0.
@@ -27,7 +27,7 @@ pub struct Known {
 /// and the first questions. No value of it is made.
 pub struct View {
     pub knows: bool,
-    pub known: Known,
+    pub known: PassState,
     pub sits: bool,
     pub number: u64,
     pub seen: LinkedList<Question>,
@@ -139,7 +139,7 @@ impl Unnamed {
     }
 
     /// Returns an empty list of questions under a name.
-    pub(crate) fn named<L: Naming>(self) -> Questions<L>
+    pub(crate) fn named<L: HeadNaming>(self) -> Questions<L>
         requires { self ≡ L.table.id }
         ensures { result ≡ nothing_known }
     {
@@ -155,18 +155,18 @@ impl Unnamed {
 /// What a head was asked so far, how many seats it has, and which of them were returned. Contracts
 /// see these.
 #[derive(Drop)]
-pub(crate) struct Questions<L: Naming> {
+pub(crate) struct Questions<L: HeadNaming> {
     table: Table<Question, View, (), Law, Global>,
     pass: Pass<Question, View>,
     name: PhantomData<L>,
 }
 
-impl<L: Naming> Model for Questions<L> {
+impl<L: HeadNaming> Model for Questions<L> {
     ghost use Rattle.std.specs.Prelude.{◌≡◌, ◌<◌, []};
-    ghost use Rattle.rw_recv_head.specs.declared.questions.Known.{Known};
+    ghost use Rattle.rw_recv_head.specs.declared.questions.PassState.{PassState};
     ghost use Rattle.rw_recv_head.specs.inner.Questions.{keeper};
 
-    ghost Value = { Known };
+    ghost Value = { PassState };
 
     ghost view = { λ q. q.pass.me.0.known };
 
@@ -179,13 +179,13 @@ impl<L: Naming> Model for Questions<L> {
 /// The number of a seat, and the questions that it has seen: a prefix of all, with all of its own.
 /// Contracts see both.
 #[derive(Drop)]
-pub(crate) struct Seen<L: Naming> {
+pub(crate) struct Seen<L: HeadNaming> {
     number: u64,
     pass: Pass<Question, View>,
     name: PhantomData<L>,
 }
 
-impl<L: Naming> Model for Seen<L> {
+impl<L: HeadNaming> Model for Seen<L> {
     ghost use Rattle.std.specs.Prelude.{◌≡◌, []};
     ghost use Rattle.rw_recv_head.specs.inner.Questions.{Sight, sitter};
 
@@ -197,7 +197,7 @@ impl<L: Naming> Model for Seen<L> {
         × (s.pass.me ≡ (sitter s.number s.pass.me.0.seen, [])) };
 }
 
-impl<L: Naming> Questions<L> {
+impl<L: HeadNaming> Questions<L> {
     /// Returns a new seat, with the next number.
     pub(crate) fn give(&mut self, number: u64) -> Seen<L>
         requires next { number ≡ self.old.given }

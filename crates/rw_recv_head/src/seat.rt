@@ -8,7 +8,7 @@ ghost use Rattle.rw_recv_head.specs.inner.Questions.{IsSeat};
 ghost use Rattle.rw_recv_head.specs.Seats.{most, bodies_of, store_after, HasAdmitted, HasAsked, FindsFull};
 
 use crate::admit::Admit;
-use crate::naming::{Holding, Naming};
+use crate::naming::{HeadNaming, Holding};
 use crate::questions::{Questions, Seen};
 use crate::shared_head::SharedHead;
 use std::marker::Model;
@@ -17,7 +17,7 @@ use std::sync::ledger::{Share, Total};
 
 /// How a request was answered.
 #[derive(Clone, Copy, Debug, PartialEq, Eq)]
-pub struct Asked {
+pub struct SeatAnswer {
     /// 204, 400, 429 or 503.
     pub status: u16,
     /// Whether the status is 503 because the request would have taken the head above its capacity.
@@ -31,13 +31,13 @@ pub struct Asked {
 /// A handle by which one thread asks a shared head. Contracts see its number, how many samples its
 /// requests stored, and what the head had been asked from all seats when this one asked last.
 #[derive(Drop)]
-pub struct Seat<L: Naming> {
+pub struct Seat<L: HeadNaming> {
     stored: u64,
     share: Share<L>,
     seen: Seen<L>,
 }
 
-impl<L: Naming> Model for Seat<L> {
+impl<L: HeadNaming> Model for Seat<L> {
     ghost use Rattle.std.specs.Prelude.{◌≡◌};
     ghost use Rattle.rw_recv_head.specs.Seats.{Seated};
 
@@ -48,7 +48,7 @@ impl<L: Naming> Model for Seat<L> {
     ghost invariant = { λ s. (s.share.parts ≡ 1) × (s.share.amount ≡ s.stored) };
 }
 
-impl<L: Naming> Seat<L> {
+impl<L: HeadNaming> Seat<L> {
     /// Returns a seat that has stored nothing.
     pub(crate) fn new(share: Share<L>, seen: Seen<L>) -> Seat<L>
         requires one_part { share.parts ≡ 1 }
@@ -128,7 +128,7 @@ impl<L: Naming> Seat<L> {
         rt: &R,
         shared: &SharedHead<L, H>,
         body: &[u8],
-    ) -> Asked
+    ) -> SeatAnswer
     where
         L: Holding<H>,
         ensures statuses { IsStatus result.status }

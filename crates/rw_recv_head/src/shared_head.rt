@@ -11,7 +11,7 @@ use crate::admit::Admit;
 use crate::blank::Blank;
 use crate::locked::Locked;
 use crate::naming::Holding;
-use crate::seat::{Asked, Seat};
+use crate::seat::{Seat, SeatAnswer};
 use rw_head::{Head, InMemory};
 use std::alloc::{AllocError, Global};
 use std::marker::Model;
@@ -83,7 +83,7 @@ impl<L: Holding<H>, H: Admit> SharedHead<L, H> {
     }
 
     /// Returns the answer to a body from a seat, under the lock.
-    pub(crate) fn ask<R: Wait>(&self, rt: &R, seat: &mut Seat<L>, body: &[u8]) -> Asked
+    pub(crate) fn ask<R: Wait>(&self, rt: &R, seat: &mut Seat<L>, body: &[u8]) -> SeatAnswer
         ensures statuses { IsStatus result.status }
         ensures asked { HasAsked L.opening seat.old body.now result.status seat.new }
         ensures label_sets { result.label_sets
@@ -99,7 +99,7 @@ impl<L: Holding<H>, H: Admit> SharedHead<L, H> {
     {
         let mut locked = self.locked.lock(rt);
         let admission = locked.answer(&self.all, seat, body);
-        Asked {
+        SeatAnswer {
             status: admission.status(),
             is_full: admission.is_full(),
             label_sets: locked.label_sets(),

@@ -2,7 +2,7 @@
 use Rattle.std.specs.Prelude.{List}
 use Rattle.std.specs.Borrow.{Lends, MutBor, Fml, Array, RattleType}
 use Rattle.rw_reshard.specs.Fleets.{FleetShards, with_running}
-use Rattle.rw_reshard.specs.declared.stage.Stage.{Ghosts}
+use Rattle.rw_reshard.specs.declared.stage.FleetStage.{Ghosts}
 use Rattle.rw_reshard.specs.contracts.fleet.Fleet.{the_row}
 
 -- once the borrow ends, the shards are those that it shows last

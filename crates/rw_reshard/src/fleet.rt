@@ -9,7 +9,7 @@ ghost use Rattle.rw_reshard.specs.Fleets.{FleetShards, AreNew, AreAllNew, GoesOn
 ghost use Rattle.rw_reshard.specs.declared.fleet.NextFault.TheVariants.{NotDrained};
 
 use crate::shard::{Make, Shard};
-use crate::stage::{Draining, Running, Stage};
+use crate::stage::{Draining, FleetStage, Running};
 use std::alloc::{AllocError, Global};
 use std::error::Error;
 use std::fmt;
@@ -37,7 +37,7 @@ impl Error for NextFault {}
 
 /// The shards of one epoch. The type `G` says what they do: `Running` or `Draining`.
 #[derive(Drop)]
-pub struct Fleet<S, G: Stage> {
+pub struct Fleet<S, G: FleetStage> {
     alloc: Global,
     epoch: u64,
     running: Vec<S>,
@@ -46,7 +46,7 @@ pub struct Fleet<S, G: Stage> {
     stage: PhantomData<G>,
 }
 
-impl<S, G: Stage> Model for Fleet<S, G> {
+impl<S, G: FleetStage> Model for Fleet<S, G> {
     ghost use Rattle.std.specs.Prelude.{length};
     ghost use Rattle.rw_reshard.specs.Fleets.{FleetShards};
 
@@ -105,10 +105,10 @@ fn all_drained<S: Shard>(shards: &[S]) -> bool
     shards.iter().all(|shard| shard.drained())
 }
 
-impl<S, G: Stage> Fleet<S, G> {
+impl<S, G: FleetStage> Fleet<S, G> {
     /// Returns the shards of this epoch, in the order of their numbers.
     pub fn shards_mut(&mut self) -> &mut [S]
-        ensures* writes_back { sem 𝓛 (lends_shards S.row G.row G.Stage self.entry result) }
+        ensures* writes_back { sem 𝓛 (lends_shards S.row G.row G.FleetStage self.entry result) }
         ensures shards { result.now ≡ self.old.running }
     {
         self.running.as_mut_slice()

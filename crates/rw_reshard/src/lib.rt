@@ -9,5 +9,5 @@ mod wanted;
 
 pub use fleet::{Fleet, NextFault};
 pub use shard::{Make, Shard};
-pub use stage::{Draining, Running, Stage};
+pub use stage::{Draining, FleetStage, Running};
 pub use wanted::want;

@@ -3,7 +3,7 @@
 ghost use Rattle.std.specs.Prelude.{◌≡◌, ◌≤◌, ℕ};
 
 /// What the shards of a fleet do: `Running` or `Draining`.
-pub trait Stage {
+pub trait FleetStage {
     /// Whether the stage allows that this many shards of the next epoch were made, if that many are
     /// wanted.
     ghost allows: { ℕ → ℕ → Type 0 };
@@ -13,7 +13,7 @@ pub trait Stage {
 #[derive(Debug)]
 pub struct Running;
 
-impl Stage for Running {
+impl FleetStage for Running {
     ghost allows = { λ made wanted. made ≡ 0 };
 }
 
@@ -21,6 +21,6 @@ impl Stage for Running {
 #[derive(Debug)]
 pub struct Draining;
 
-impl Stage for Draining {
+impl FleetStage for Draining {
     ghost allows = { λ made wanted. (made ≤ wanted) × (wanted ≤ 1000) };
 }

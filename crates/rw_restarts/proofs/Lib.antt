@@ -21,6 +21,7 @@ mod RelayLemmas
 mod RunLemmas
 mod SenderLemmas
 mod ServedLemmas
+mod SeveralSenderLemmas
 mod ShardLemmas
 mod StoppedLemmas
 mod TakenLemmas

@@ -16,6 +16,7 @@ pub mod Relay
 pub mod Runs
 pub mod Senders
 pub mod ServedReceivers
+pub mod SeveralSenders
 pub mod Shards
 pub mod Stopped
 pub mod WireExamples

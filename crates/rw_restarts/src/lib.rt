@@ -9,6 +9,7 @@ mod receivers;
 mod relay;
 mod runs;
 mod senders;
+mod several_senders;
 mod stopped;
 mod wire;
 mod workers;
@@ -35,6 +36,7 @@ pub use runs::{
     what_comes_next_is_accepted,
 };
 pub use senders::{a_sender_is_a_run, what_is_put_is_what_is_owed};
+pub use several_senders::several_senders_share_a_receiver;
 pub use stopped::{a_stopped_shipper_adds_its_samples, a_stopped_shipper_is_such_a_sender};
 pub use wire::{
     a_kept_receiver_is_such_a_receiver, a_served_receiver_is_asked_in_order,

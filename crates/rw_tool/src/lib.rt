@@ -4,7 +4,7 @@
 
 pub use rw_follow::{Segments, StopRequest, StopSignal, Watch};
 pub use rw_log_commands::{run_body, run_log, run_log_dir, run_plan};
-pub use rw_log_folder::{Folder, FolderFault, Gap, Open, Opened, SegmentFile, segment_files};
+pub use rw_log_folder::{Folder, FolderFault, Gap, OpenSource, Opened, SegmentFile, segment_files};
 pub use rw_metrics::{ReceiveCounters, SendCounters};
 pub use rw_receive::{ServeUntil, Service, run_receive};
 pub use rw_replay::run_replay;

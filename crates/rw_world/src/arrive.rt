@@ -9,7 +9,7 @@ ghost use Rattle.rw_world.specs.Arriving.{AnswersBytes};
 
 use crate::engine::Engine;
 use crate::receiver::answer_to;
-use crate::sent::Answer;
+use crate::sent::BatchReply;
 use http::StatusCode;
 use rw_machine::How;
 use rw_roundtrip::requests_are_read;
@@ -50,7 +50,7 @@ impl Engine {
         let sent = &self.requests[k];
         let id = sent.id();
         let status = answer_to(self.alloc, sent, &self.host, &mut self.head, &self.limits)?;
-        self.replies.push_reserved(Answer::new(id, status));
+        self.replies.push_reserved(BatchReply::new(id, status));
         Ok(())
     }
 
@@ -66,7 +66,7 @@ impl Engine {
     {
         self.replies.reserve(1)?;
         let id = self.requests[k].id();
-        self.replies.push_reserved(Answer::new(id, status));
+        self.replies.push_reserved(BatchReply::new(id, status));
         Ok(())
     }
 

@@ -6,9 +6,9 @@ ghost use Rattle.rw_machine.specs.Worlds.{start, is_finished, is_over};
 ghost use Rattle.rw_machine.specs.Promises.{CanWork};
 ghost use Rattle.rw_world.specs.Machine.{setup_of};
 
-use crate::log::Log;
+use crate::log::LogInPieces;
 use crate::receiver::{copy_of, limits_at};
-use crate::sent::{Answer, Sent};
+use crate::sent::{BatchReply, SentBatch};
 use crate::shards::Shards;
 use rw_head::{Head, LabelSets, Limits};
 use rw_ledger::Ledger;
@@ -29,12 +29,12 @@ pub(crate) struct Engine {
     pub(crate) host: HostName,
     /// The limits of the receiver, which is at the target's path.
     pub(crate) limits: Limits,
-    pub(crate) log: Log,
+    pub(crate) log: LogInPieces,
     pub(crate) placed: u64,
     pub(crate) router: Router,
     pub(crate) senders: Shards,
-    pub(crate) requests: Vec<Sent>,
-    pub(crate) replies: Vec<Answer>,
+    pub(crate) requests: Vec<SentBatch>,
+    pub(crate) replies: Vec<BatchReply>,
     pub(crate) head: Head,
     pub(crate) draining: Option<u64>,
     pub(crate) closed: Option<u64>,
@@ -119,7 +119,7 @@ impl Engine {
             alloc,
             shards,
             host,
-            log: Log::new(alloc),
+            log: LogInPieces::new(alloc),
             placed: 0,
             router: Router::new(alloc, Choice { names, rules }),
             senders,

@@ -15,14 +15,14 @@ use std::marker::Model;
 
 /// A log that comes in pieces, and its entries. Contracts see the pieces.
 #[derive(Drop)]
-pub struct Log {
+pub struct LogInPieces {
     alloc: Global,
     tail: Tail,
     entries: Vec<Entry>,
     fault: Option<TailFault>,
 }
 
-impl Model for Log {
+impl Model for LogInPieces {
     ghost use Rattle.std.specs.Prelude.{List};
     ghost use Rattle.rw_wal_format.specs.Pieces.{Piece};
     ghost use Rattle.rw_wal_tail.specs.Taking.{HasTakenAll};
@@ -78,12 +78,12 @@ fn drain(tail: &mut Tail, entries: &mut Vec<Entry>) -> Result<Option<TailFault>,
     Err(AllocError)
 }
 
-impl Log {
+impl LogInPieces {
     /// Returns a log of which no piece has come.
-    pub fn new(alloc: Global) -> Log
+    pub fn new(alloc: Global) -> LogInPieces
         ensures { result ≡ [] }
     {
-        Log {
+        LogInPieces {
             alloc,
             tail: Tail::new(alloc),
             entries: Vec::new(alloc),

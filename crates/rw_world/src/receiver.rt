@@ -4,7 +4,7 @@ ghost use Rattle.std.specs.Prelude.{◌≡◌, IfOk, OnOk, OnErr};
 ghost use Rattle.rw_world.specs.Answering.{IsSentTo, answer_to_batch};
 ghost use Rattle.rw_world.specs.inner.Answering.{IsReplied};
 
-use crate::sent::Sent;
+use crate::sent::SentBatch;
 use http::StatusCode;
 use rw_head::{Head, Limits};
 use rw_roundtrip::{exchange, requests_are_read};
@@ -45,7 +45,7 @@ pub fn copy_of(alloc: Global, host: &HostName) -> Result<HostName, AllocError>
 /// Returns what the receiver replies to a request.
 fn ask(
     alloc: Global,
-    sent: &Sent,
+    sent: &SentBatch,
     host: &HostName,
     head: &mut Head,
     limits: &Limits,
@@ -67,7 +67,7 @@ fn ask(
 /// Returns the receiver's answer to a request, or an error if memory runs out.
 pub fn answer_to(
     alloc: Global,
-    sent: &Sent,
+    sent: &SentBatch,
     host: &HostName,
     head: &mut Head,
     limits: &Limits,

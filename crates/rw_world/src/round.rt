@@ -15,7 +15,7 @@ ghost use Rattle.rw_world.specs.inner.Rounds.{events_of, HasSettled};
 
 use crate::engine::Engine;
 use crate::log::Ahead;
-use crate::sent::Sent;
+use crate::sent::SentBatch;
 use rw_batch::BatchId;
 use rw_machine::{Event, How};
 use std::alloc::AllocError;
@@ -40,7 +40,7 @@ fn is_same(a: BatchId, b: BatchId) -> bool
 }
 
 /// Returns the number of the newest request with this id.
-fn newest(requests: &[Sent], id: BatchId) -> u64
+fn newest(requests: &[SentBatch], id: BatchId) -> u64
     ensures { result ≡ newest_from id 0 requests.now 0 }
 {
     let mut k = requests.len();

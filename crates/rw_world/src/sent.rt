@@ -13,13 +13,13 @@ use std::marker::Model;
 
 /// A batch that was sent.
 #[derive(Drop)]
-pub struct Sent {
+pub struct SentBatch {
     id: BatchId,
     request: Bytes,
     samples: History<Item>,
 }
 
-impl Model for Sent {
+impl Model for SentBatch {
     ghost use Rattle.rw_plain_queue.specs.Items.{samples_in};
     ghost use Rattle.rw_machine.specs.Worlds.{Request};
 
@@ -30,12 +30,12 @@ impl Model for Sent {
 
 /// A reply to a batch.
 #[derive(Drop)]
-pub struct Answer {
+pub struct BatchReply {
     id: BatchId,
     status: StatusCode,
 }
 
-impl Model for Answer {
+impl Model for BatchReply {
     ghost use Rattle.rw_machine.specs.Worlds.{Reply};
 
     ghost Value = { Reply };
@@ -43,14 +43,14 @@ impl Model for Answer {
     ghost view = { λ r. record { id = r.id; status = r.status } };
 }
 
-impl Sent {
+impl SentBatch {
     /// Returns the batch of an attempt.
-    pub(crate) fn of(attempt: Attempt, samples: History<Item>) -> Sent
+    pub(crate) fn of(attempt: Attempt, samples: History<Item>) -> SentBatch
         ensures { result
             ≡ record { id = attempt.id; batch = samples_in samples; bytes = attempt.request } }
     {
         let Attempt { id, request } = attempt;
-        Sent {
+        SentBatch {
             id,
             request,
             samples,
@@ -72,12 +72,12 @@ impl Sent {
     }
 }
 
-impl Answer {
+impl BatchReply {
     /// Returns a reply to this batch.
-    pub fn new(id: BatchId, status: StatusCode) -> Answer
+    pub fn new(id: BatchId, status: StatusCode) -> BatchReply
         ensures { result ≡ record { id = id; status = status } }
     {
-        Answer { id, status }
+        BatchReply { id, status }
     }
 
     /// Returns the id of the batch.

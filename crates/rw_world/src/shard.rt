@@ -12,7 +12,7 @@ ghost use Rattle.rw_world.specs.Guards.{is_open, is_ready, may_take, may_flush, 
 ghost use Rattle.rw_world.specs.Held.{flushed, sent_request};
 ghost use Rattle.rw_world.specs.inner.Held.{sample_for, queued_of, samples_of};
 
-use crate::sent::Sent;
+use crate::sent::SentBatch;
 use http::StatusCode;
 use rw_batch::{BatchId, MAX_BATCH};
 use rw_ledger::Ledger;
@@ -239,7 +239,7 @@ impl WorldShard {
     }
 
     /// Begins an attempt to send the open batch.
-    pub(crate) fn send(&mut self) -> Result<Option<Sent>, AllocError>
+    pub(crate) fn send(&mut self) -> Result<Option<SentBatch>, AllocError>
         ensures sent { IfOk result (λ r. r ≡ sent_request self.old.shard) }
         ensures read { IsReadAgain self.old.shard.core.batch }
         ensures ok { OnOk result
@@ -248,7 +248,7 @@ impl WorldShard {
     {
         let samples = self.core.open_samples();
         match self.core.attempt()? {
-            Some(attempt) => Ok(Some(Sent::of(attempt, samples))),
+            Some(attempt) => Ok(Some(SentBatch::of(attempt, samples))),
             None => Ok(None),
         }
     }

@@ -13,7 +13,7 @@ ghost use Rattle.rw_world.specs.Answering.{IsSentTo};
 ghost use Rattle.rw_world.specs.Sending.{sent_at, replied, has_room_at, put_to, new_held};
 ghost use Rattle.rw_world.specs.inner.Sending.{all_pending};
 
-use crate::sent::Sent;
+use crate::sent::SentBatch;
 use crate::shard::WorldShard;
 use http::StatusCode;
 use rw_batch::{BatchId, MAX_BATCH};
@@ -217,7 +217,7 @@ impl Shards {
     }
 
     /// Lets this shard send its open batch, if it may.
-    pub fn send(&mut self, i: usize) -> Result<Option<Sent>, AllocError>
+    pub fn send(&mut self, i: usize) -> Result<Option<SentBatch>, AllocError>
         ensures sent { IfOk result (λ r. r ≡ sent_at (slice_get self.old.shards i)) }
         ensures read { IfOk result
             (λ r. IfSome r (λ s. IsSentTo self.old.target.host self.old.target.path s)) }

@@ -2,12 +2,12 @@
 //! `inspect` at given positions.
 
 use crate::input::Reader;
-use crate::log_fault::{LogFault, has_output_failed, print_lines, report_run_fault};
+use crate::log_fault::{LogReadFault, has_output_failed, print_lines, report_run_fault};
 use crate::log_files::{files_of, names_of, note_checkpoint, note_empty};
 use crate::program_end::{report_missing, report_output_fault, report_unread_input};
 use rw_cli::LogDir;
 use rw_follow::Queue;
-use rw_inspect::{Report, fault_lines, find_entries, inspect, json_of, table_of};
+use rw_inspect::{LogFindings, fault_lines, find_entries, inspect, json_of, table_of};
 use rw_log_commands::plan_log;
 use rw_log_folder::{Opened, SegmentFile};
 use rw_log_read::{Named, SkippedRecords};
@@ -32,7 +32,7 @@ fn print_text(output: &mut Std<Stdout>, text: &[u8]) -> Result<(), ToolFault> {
 /// Prints the records that were passed over, a line for each type.
 fn print_skipped(
     rt: &HostRuntime,
-    report: &Report,
+    report: &LogFindings,
     json: bool,
     output: &mut Std<Stdout>,
 ) -> Result<(), ToolFault> {
@@ -53,7 +53,7 @@ fn print_skipped(
 /// Prints a report.
 fn print_report(
     rt: &HostRuntime,
-    report: &Report,
+    report: &LogFindings,
     json: bool,
     output: &mut Std<Stdout>,
 ) -> Result<(), ToolFault> {
@@ -87,7 +87,7 @@ impl<'a> LogCommand<'a> {
     }
 
     /// Returns the files of the log. That there is none is reported as `note_empty` does.
-    fn files(&self) -> Result<LogFiles, LogFault> {
+    fn files(&self) -> Result<LogFiles, LogReadFault> {
         let alloc = self.rt.alloc();
         let sources = files_of(self.rt, self.dir, None)?;
         if sources.is_empty() {
@@ -98,37 +98,37 @@ impl<'a> LogCommand<'a> {
         for source in sources {
             let name = String::from_str(alloc, source.place().name())?;
             if files.push(Named { name, source }).is_err() {
-                return Err(LogFault::from(ToolFault::OutOfMemory));
+                return Err(LogReadFault::from(ToolFault::OutOfMemory));
             }
         }
         Ok(LogFiles { files, names })
     }
 
     /// Prints what the segments hold. A fault of the log is printed at the end, and returned.
-    fn print_inspected(&mut self, json: bool) -> Result<(), LogFault> {
+    fn print_inspected(&mut self, json: bool) -> Result<(), LogReadFault> {
         let LogFiles { files, names } = self.files()?;
         let report = inspect(self.rt.alloc(), files, self.dir.may_compress)?;
         print_report(self.rt, &report, json, &mut self.output)?;
         match report.damage {
-            Some(damage) => Err(LogFault::of_damage(names, damage)),
+            Some(damage) => Err(LogReadFault::of_damage(names, damage)),
             None => Ok(()),
         }
     }
 
     /// Prints the entries at positions, and returns how many do not exist. A fault of the log is
     /// printed at the end, and returned.
-    fn print_found(&mut self, positions: Vec<u64>) -> Result<u64, LogFault> {
+    fn print_found(&mut self, positions: Vec<u64>) -> Result<u64, LogReadFault> {
         let LogFiles { files, names } = self.files()?;
         let found = find_entries(self.rt.alloc(), files, self.dir.may_compress, positions)?;
         print_text(&mut self.output, &found.text)?;
         match found.damage {
-            Some(damage) => Err(LogFault::of_damage(names, damage)),
+            Some(damage) => Err(LogReadFault::of_damage(names, damage)),
             None => Ok(found.missing),
         }
     }
 
     /// Prints the plan of the segments.
-    fn print_plan(&mut self, settings: Settings) -> Result<(), LogFault> {
+    fn print_plan(&mut self, settings: Settings) -> Result<(), LogReadFault> {
         let LogFiles { files, names } = self.files()?;
         let mut log = Queue::new(files);
         let choice = settings.config.into_fields().into_choice();
@@ -139,20 +139,20 @@ impl<'a> LogCommand<'a> {
             choice,
             self.dir.may_compress,
         ) {
-            Ok(Some(damage)) => Err(LogFault::of_damage(names, damage)),
+            Ok(Some(damage)) => Err(LogReadFault::of_damage(names, damage)),
             Ok(None) => Ok(()),
             Err(fault) => {
                 let file = match log.current() {
                     Some(segment) => Some(segment.name.clone()?),
                     None => None,
                 };
-                Err(LogFault::at_file(fault, file))
+                Err(LogReadFault::at_file(fault, file))
             }
         }
     }
 
     /// Reports how the command ended, and returns the exit status.
-    fn end(&mut self, outcome: Result<(), LogFault>) -> ExitCode {
+    fn end(&mut self, outcome: Result<(), LogReadFault>) -> ExitCode {
         match outcome {
             Ok(()) => ExitCode::SUCCESS,
             Err(fault) => report_run_fault(
@@ -195,7 +195,7 @@ pub fn inspect_segment(
     rt: &HostRuntime,
     source: Reader<'_>,
     may_compress: bool,
-) -> Result<Report, ToolFault> {
+) -> Result<LogFindings, ToolFault> {
     let name = String::from_str(rt.alloc(), "-")?;
     let mut one = Vec::with_capacity(rt.alloc(), 1)?;
     one.push_reserved(Named { name, source });
@@ -206,7 +206,7 @@ pub fn inspect_segment(
 }
 
 /// Prints where the log of a report has a fault, and what to do, if it has one.
-pub fn print_damage(rt: &HostRuntime, report: &Report) -> Result<(), AllocError> {
+pub fn print_damage(rt: &HostRuntime, report: &LogFindings) -> Result<(), AllocError> {
     let Some(damage) = report.damage else {
         return Ok(());
     };

@@ -7,11 +7,11 @@ use crate::program_end::{report_output_fault, report_result};
 use rw_cli::Receiving;
 use rw_head::{Memory, RecentSamples};
 use rw_kept_folder::{
-    FaultCause, FolderError, FolderFault, FolderJournal, FolderMonitor, FolderRules, OpenFolder,
+    FailedCall, FaultCause, FolderError, FolderJournal, FolderMonitor, FolderRules, OpenFolder,
     open_journal, refuse_running_server,
 };
-use rw_kept_head::{HeadReading, KeptHead, Oddities, OpenError, Opened};
-use rw_kept_log::{Damage, ReopenError, whole_len};
+use rw_kept_head::{HeadReading, KeptHead, Oddities, OpenError, OpenedHead};
+use rw_kept_log::{KeptLogDamage, ReopenError, whole_len};
 use rw_metrics::ReceiveCounters;
 use rw_receive::Received;
 use rw_text::ToolFault;
@@ -23,46 +23,46 @@ use std::sync::Arc;
 use std::{fs, io};
 
 /// A log in the files of a folder.
-pub type Log = FolderJournal<OpenFolder<HostRuntime>>;
+pub type FolderLog = FolderJournal<OpenFolder<HostRuntime>>;
 
 /// A head whose log is in the files of a folder.
-pub type FolderHead = KeptHead<Log>;
+pub type FolderHead = KeptHead<FolderLog>;
 
 /// A head whose log is in the files of a folder, and that keeps only the latest samples in memory.
-pub type RecentFolderHead = KeptHead<Log, RecentSamples>;
+pub type RecentFolderHead = KeptHead<FolderLog, RecentSamples>;
 
 /// The most pages of a segment: 128 MiB, as a segment of Prometheus has.
 const PAGES: usize = 4096;
 
 /// Why the log in a folder cannot be opened.
-pub enum KeepError {
+pub enum KeptLogError {
     /// Another receiver keeps samples there.
     InUse,
     /// The folder cannot be locked.
     Unlocked(Error),
     Folder(FolderError),
     /// The log is damaged, in the segment of this number.
-    Damaged(Damage, u64),
+    Damaged(KeptLogDamage, u64),
     /// The last segment, of this number, has a fault, and a whole record after it begins at this
     /// byte.
-    RecordFollows(Damage, u64, usize),
-    Log(OpenError, Option<FolderFault>),
+    RecordFollows(KeptLogDamage, u64, usize),
+    Log(OpenError, Option<FailedCall>),
 }
 
 /// Returns why the last segment is not cut at its fault, if a whole record follows that.
-fn doubt_of<M: Memory>(reading: &HeadReading<M>, journal: &Log) -> Option<KeepError> {
+fn doubt_of<M: Memory>(reading: &HeadReading<M>, journal: &FolderLog) -> Option<KeptLogError> {
     let (damage, at) = reading.record_after_fault()?;
     let number = journal.files().number_of(damage.place.segment);
-    Some(KeepError::RecordFollows(damage, number, at))
+    Some(KeptLogError::RecordFollows(damage, number, at))
 }
 
 /// Returns why the log in these files cannot be opened.
-fn open_error(error: OpenError, files: &OpenFolder<HostRuntime>) -> KeepError {
+fn open_error(error: OpenError, files: &OpenFolder<HostRuntime>) -> KeptLogError {
     match error {
         OpenError::Log(ReopenError::Damaged(damage)) => {
-            KeepError::Damaged(damage, files.number_of(damage.place.segment))
+            KeptLogError::Damaged(damage, files.number_of(damage.place.segment))
         }
-        _ => KeepError::Log(error, files.fault()),
+        _ => KeptLogError::Log(error, files.fault()),
     }
 }
 
@@ -75,11 +75,11 @@ fn rules_of(receiving: &Receiving<'_>) -> FolderRules {
 }
 
 /// Returns the fault that stands for an error in the exit status.
-fn fault_of(error: &KeepError) -> ToolFault {
+fn fault_of(error: &KeptLogError) -> ToolFault {
     match error {
-        KeepError::Folder(FolderError::OutOfMemory)
-        | KeepError::Log(OpenError::Log(ReopenError::OutOfMemory), _) => ToolFault::OutOfMemory,
-        KeepError::Damaged(damage, _) | KeepError::RecordFollows(damage, ..) => {
+        KeptLogError::Folder(FolderError::OutOfMemory)
+        | KeptLogError::Log(OpenError::Log(ReopenError::OutOfMemory), _) => ToolFault::OutOfMemory,
+        KeptLogError::Damaged(damage, _) | KeptLogError::RecordFollows(damage, ..) => {
             ToolFault::from(damage.fault)
         }
         _ => ToolFault::Device,
@@ -131,22 +131,22 @@ fn step_after_folder(error: &FolderError) -> Option<&'static str> {
 
 /// Returns what to do if the log in a folder cannot be opened because of this error, or `None` if
 /// the text of the error says so.
-fn next_step(error: &KeepError) -> Option<&'static str> {
+fn next_step(error: &KeptLogError) -> Option<&'static str> {
     match error {
-        KeepError::InUse => Some("stop that one, or choose another folder"),
-        KeepError::Unlocked(_) => {
+        KeptLogError::InUse => Some("stop that one, or choose another folder"),
+        KeptLogError::Unlocked(_) => {
             Some("see whether the folder exists and may be read; 'mkdir -p' makes one")
         }
-        KeepError::Folder(error) => step_after_folder(error),
-        KeepError::Log(OpenError::Foreign(_), None) => {
+        KeptLogError::Folder(error) => step_after_folder(error),
+        KeptLogError::Log(OpenError::Foreign(_), None) => {
             Some("give the settings with which the folder was written, or another folder")
         }
-        KeepError::Log(OpenError::NoReferenceLeft, None) => Some("choose another folder"),
-        KeepError::Log(_, Some(fault)) => Some(step_after_cause(fault.cause, SEE_THE_DISK)),
-        KeepError::RecordFollows(..) => Some(
+        KeptLogError::Log(OpenError::NoReferenceLeft, None) => Some("choose another folder"),
+        KeptLogError::Log(_, Some(fault)) => Some(step_after_cause(fault.cause, SEE_THE_DISK)),
+        KeptLogError::RecordFollows(..) => Some(
             "after a power failure this may be the end of a write, and otherwise it is damage, which acknowledged samples follow: copy that segment, then give --cut-at-fault to cut it there, and start the sender again at once, so that it ships once more what its log still has",
         ),
-        KeepError::Damaged(..) | KeepError::Log(..) => None,
+        KeptLogError::Damaged(..) | KeptLogError::Log(..) => None,
     }
 }
 
@@ -181,15 +181,15 @@ impl<'a> KeptFolder<'a> {
     }
 
     /// Locks the folder until the file is dropped, so that no second receiver writes there.
-    pub fn lock(&self) -> Result<File, KeepError> {
+    pub fn lock(&self) -> Result<File, KeptLogError> {
         let folder = match fs::open(self.rt, self.dir) {
             Ok(folder) => folder,
-            Err(error) => return Err(KeepError::Unlocked(error)),
+            Err(error) => return Err(KeptLogError::Unlocked(error)),
         };
         match folder.try_lock() {
             Ok(()) => Ok(folder),
-            Err(TryLockError::WouldBlock) => Err(KeepError::InUse),
-            Err(TryLockError::Error(error)) => Err(KeepError::Unlocked(error)),
+            Err(TryLockError::WouldBlock) => Err(KeptLogError::InUse),
+            Err(TryLockError::Error(error)) => Err(KeptLogError::Unlocked(error)),
         }
     }
 
@@ -199,23 +199,23 @@ impl<'a> KeptFolder<'a> {
         &self,
         reading: Result<HeadReading<M>, AllocError>,
         counters: &Arc<ReceiveCounters, Global>,
-    ) -> Result<Opened<Log, M>, KeepError>
+    ) -> Result<OpenedHead<FolderLog, M>, KeptLogError>
         requires { IfOk reading (λ r. r.segments ≡ []) }
     {
         let (rt, dir, receiving) = (self.rt, self.dir, self.receiving);
         let Ok(counters) = Arc::try_clone(counters) else {
-            return Err(KeepError::Folder(FolderError::OutOfMemory));
+            return Err(KeptLogError::Folder(FolderError::OutOfMemory));
         };
         if let Err(error) = refuse_running_server(rt, dir) {
-            return Err(KeepError::Folder(error));
+            return Err(KeptLogError::Folder(error));
         }
         let Ok(mut reading) = reading else {
-            return Err(KeepError::Folder(FolderError::OutOfMemory));
+            return Err(KeptLogError::Folder(FolderError::OutOfMemory));
         };
         let monitor = FolderMonitor::new(counters);
         let journal = match open_journal(rt, dir, rules_of(receiving), monitor, &mut reading) {
             Ok(journal) => journal,
-            Err(error) => return Err(KeepError::Folder(error)),
+            Err(error) => return Err(KeptLogError::Folder(error)),
         };
         if !receiving.cuts_at_fault {
             if let Some(error) = doubt_of(&reading, &journal) {
@@ -239,7 +239,7 @@ impl<'a> KeptFolder<'a> {
     }
 
     /// Says where the log is damaged, and where to cut it, if that segment can be read.
-    fn print_damage(&self, damage: &Damage, number: u64) {
+    fn print_damage(&self, damage: &KeptLogDamage, number: u64) {
         let (rt, dir) = (self.rt, self.dir);
         let (fault, at) = (damage.fault, damage.place.offset);
         let _ = eprintln!(rt;
@@ -255,29 +255,31 @@ impl<'a> KeptFolder<'a> {
     }
 
     /// Reports why the log in the folder cannot be opened, and what to do. Returns the exit status.
-    pub fn report_error(&self, error: KeepError) -> ExitCode {
+    pub fn report_error(&self, error: KeptLogError) -> ExitCode {
         let (rt, dir) = (self.rt, self.dir);
         let status = report_result(rt, Err(fault_of(&error)));
         let next = next_step(&error);
         let _ = match error {
-            KeepError::InUse => eprintln!(rt; "  another receiver keeps samples in {dir}"),
-            KeepError::Unlocked(error) => eprintln!(rt; "  cannot lock the folder {dir}: {error}"),
-            KeepError::Folder(error) => eprintln!(rt; "  cannot keep samples in {dir}: {error}"),
-            KeepError::Log(OpenError::Foreign(at), None) => eprintln!(rt;
+            KeptLogError::InUse => eprintln!(rt; "  another receiver keeps samples in {dir}"),
+            KeptLogError::Unlocked(error) => eprintln!(rt;
+                "  cannot lock the folder {dir}: {error}"
+            ),
+            KeptLogError::Folder(error) => eprintln!(rt; "  cannot keep samples in {dir}: {error}"),
+            KeptLogError::Log(OpenError::Foreign(at), None) => eprintln!(rt;
                 "  cannot keep samples in {dir}: entry {at} of the log there is refused; rwship inspect --dir {dir} --at {at} prints it"
             ),
-            KeepError::Log(_, Some(fault)) => {
+            KeptLogError::Log(_, Some(fault)) => {
                 eprintln!(rt; "  cannot keep samples in {dir}: {fault}")
             }
-            KeepError::Damaged(damage, number) => {
+            KeptLogError::Damaged(damage, number) => {
                 self.print_damage(&damage, number);
                 Ok(())
             }
-            KeepError::RecordFollows(damage, number, at) => eprintln!(rt;
+            KeptLogError::RecordFollows(damage, number, at) => eprintln!(rt;
                 "  cannot keep samples in {dir}: {} in segment {number} at byte {}, and a whole record follows at byte {at}",
                 damage.fault, damage.place.offset
             ),
-            KeepError::Log(error, None) => {
+            KeptLogError::Log(error, None) => {
                 eprintln!(rt; "  cannot keep samples in {dir}: {error}")
             }
         };
@@ -288,7 +290,7 @@ impl<'a> KeptFolder<'a> {
     }
 
     /// Reports that the first segments are missing, if they are.
-    fn report_missing_start<M: Memory>(&self, opened: &Opened<Log, M>) {
+    fn report_missing_start<M: Memory>(&self, opened: &OpenedHead<FolderLog, M>) {
         let (rt, dir) = (self.rt, self.dir);
         let first = opened.kept.journal().files().number_of(0);
         if first > 0 && opened.segments > 0 {
@@ -297,7 +299,7 @@ impl<'a> KeptFolder<'a> {
     }
 
     /// Reports what was cut off the end of the log, and what to do.
-    fn report_cut<M: Memory>(&self, opened: &Opened<Log, M>) {
+    fn report_cut<M: Memory>(&self, opened: &OpenedHead<FolderLog, M>) {
         let (rt, dir) = (self.rt, self.dir);
         let torn = opened.end.torn.len();
         if torn == 0 {
@@ -342,7 +344,7 @@ impl<'a> KeptFolder<'a> {
 
     /// Reports what the folder holds, if somebody may read that, and in any case what was cut off,
     /// and what is odd of its log.
-    pub fn report_opened<M: Memory>(&self, opened: &Opened<Log, M>) {
+    pub fn report_opened<M: Memory>(&self, opened: &OpenedHead<FolderLog, M>) {
         let (rt, dir, receiving) = (self.rt, self.dir, self.receiving);
         self.report_cut(opened);
         self.report_missing_start(opened);
@@ -357,7 +359,7 @@ impl<'a> KeptFolder<'a> {
     }
 
     /// Says why nothing more could be kept, and what to do.
-    fn print_write_fault(&self, fault: FolderFault) {
+    fn print_write_fault(&self, fault: FailedCall) {
         let (rt, dir) = (self.rt, self.dir);
         let _ = eprintln!(rt; "  cannot keep samples in {dir}: {fault}");
         let _ = eprintln!(rt;
@@ -368,7 +370,7 @@ impl<'a> KeptFolder<'a> {
     /// Reports how serving, printing what is held, and keeping ended. Returns the exit status.
     pub fn report_end<M: Memory>(
         &self,
-        outcome: Result<Received<KeptHead<Log, M>>, ToolFault>,
+        outcome: Result<Received<KeptHead<FolderLog, M>>, ToolFault>,
     ) -> ExitCode {
         let rt = self.rt;
         let Received { holder, printed } = match outcome {

@@ -3,7 +3,8 @@
 ghost use Rattle.std.specs.Prelude.{◌≡◌};
 
 use rw_cli::{Reporting, VERSION};
-use rw_metrics::{Counters, Screen, serve_metrics, show_progress, write_end};
+use rw_metrics::{Counters, Screen, show_progress, write_end};
+use rw_metrics_server::serve_metrics;
 use rw_text::{Address, ToolFault};
 use rw_types::{Failed, Sink};
 use std::io::{Error, IsTerminal};

@@ -4,7 +4,7 @@ use crate::program_end::{print_device_error, report_follow_fault, report_output_
 use rw_cli::LogDir;
 use rw_inspect::fault_lines;
 use rw_log_folder::FolderFault;
-use rw_log_read::Unread;
+use rw_log_read::UnreadLog;
 use rw_send::FollowFault;
 use rw_text::ToolFault;
 use rw_types::{Sink, Std};
@@ -18,7 +18,7 @@ use std::rt::Stdout;
 
 /// Why the log in a folder was not read to its end.
 #[derive(Debug, Drop)]
-pub struct LogFault {
+pub struct LogReadFault {
     pub fault: FollowFault,
     /// The file that has a fault of the log, or that could not be read, by its path in the folder.
     pub file: Option<String>,
@@ -26,9 +26,9 @@ pub struct LogFault {
     pub offset: u64,
 }
 
-impl From<FollowFault> for LogFault {
-    fn from(fault: FollowFault) -> LogFault {
-        LogFault {
+impl From<FollowFault> for LogReadFault {
+    fn from(fault: FollowFault) -> LogReadFault {
+        LogReadFault {
             fault,
             file: None,
             offset: 0,
@@ -36,31 +36,31 @@ impl From<FollowFault> for LogFault {
     }
 }
 
-impl From<ToolFault> for LogFault {
-    fn from(fault: ToolFault) -> LogFault {
-        LogFault::from(FollowFault::Tool(fault))
+impl From<ToolFault> for LogReadFault {
+    fn from(fault: ToolFault) -> LogReadFault {
+        LogReadFault::from(FollowFault::Tool(fault))
     }
 }
 
-impl From<AllocError> for LogFault {
-    fn from(_e: AllocError) -> LogFault {
-        LogFault::from(ToolFault::OutOfMemory)
+impl From<AllocError> for LogReadFault {
+    fn from(_e: AllocError) -> LogReadFault {
+        LogReadFault::from(ToolFault::OutOfMemory)
     }
 }
 
-impl From<Unread> for LogFault {
-    fn from(unread: Unread) -> LogFault {
-        LogFault::at_file(ToolFault::from(unread.error), unread.file)
+impl From<UnreadLog> for LogReadFault {
+    fn from(unread: UnreadLog) -> LogReadFault {
+        LogReadFault::at_file(ToolFault::from(unread.error), unread.file)
     }
 }
 
-impl From<FolderFault> for LogFault {
-    fn from(fault: FolderFault) -> LogFault {
+impl From<FolderFault> for LogReadFault {
+    fn from(fault: FolderFault) -> LogReadFault {
         match fault {
-            FolderFault::OutOfMemory => LogFault::from(ToolFault::OutOfMemory),
-            FolderFault::Missing(number) => LogFault::from(FollowFault::Missing(number)),
-            FolderFault::Unreadable => LogFault::from(ToolFault::Device),
-            FolderFault::Closed(name) => LogFault::at_file(ToolFault::Device, Some(name)),
+            FolderFault::OutOfMemory => LogReadFault::from(ToolFault::OutOfMemory),
+            FolderFault::Missing(number) => LogReadFault::from(FollowFault::Missing(number)),
+            FolderFault::Unreadable => LogReadFault::from(ToolFault::Device),
+            FolderFault::Closed(name) => LogReadFault::at_file(ToolFault::Device, Some(name)),
         }
     }
 }
@@ -74,10 +74,10 @@ fn name_at(names: Vec<String>, at: u64) -> Option<String> {
     Some(names.swap_remove(at as usize))
 }
 
-impl LogFault {
+impl LogReadFault {
     /// Returns a fault of a file.
-    pub fn at_file(fault: ToolFault, file: Option<String>) -> LogFault {
-        LogFault {
+    pub fn at_file(fault: ToolFault, file: Option<String>) -> LogReadFault {
+        LogReadFault {
             fault: FollowFault::Tool(fault),
             file,
             offset: 0,
@@ -85,8 +85,8 @@ impl LogFault {
     }
 
     /// Returns a fault at a place of a log whose segments have these names.
-    pub fn at_place(names: Vec<String>, fault: FollowFault, place: FaultPlace) -> LogFault {
-        LogFault {
+    pub fn at_place(names: Vec<String>, fault: FollowFault, place: FaultPlace) -> LogReadFault {
+        LogReadFault {
             fault,
             file: name_at(names, place.segment),
             offset: place.offset,
@@ -94,11 +94,11 @@ impl LogFault {
     }
 
     /// Returns the fault of a log with this damage, whose segments have these names.
-    pub fn of_damage(names: Vec<String>, damage: Damage) -> LogFault {
+    pub fn of_damage(names: Vec<String>, damage: Damage) -> LogReadFault {
         let fault = FollowFault::Tool(ToolFault::Log(damage.fault));
         match damage.place {
-            Some(place) => LogFault::at_place(names, fault, place),
-            None => LogFault::from(fault),
+            Some(place) => LogReadFault::at_place(names, fault, place),
+            None => LogReadFault::from(fault),
         }
     }
 }
@@ -154,7 +154,7 @@ fn print_unread(rt: &HostRuntime, dir: LogDir<'_>, name: &str) -> Result<(), All
 
 /// Prints what is wrong with the log in a folder that could not be read because of this fault. A
 /// device that failed at no file is the folder.
-fn explain(rt: &HostRuntime, dir: LogDir<'_>, fault: &LogFault) {
+fn explain(rt: &HostRuntime, dir: LogDir<'_>, fault: &LogReadFault) {
     match (fault.fault, &fault.file) {
         (FollowFault::Tool(ToolFault::Log(found)), Some(file)) => {
             if let Ok(lines) = spot_lines(rt, dir, found, file.as_str(), fault.offset) {
@@ -186,7 +186,7 @@ fn print_gap(rt: &HostRuntime, dir: LogDir<'_>) {
 pub fn log_fault(
     rt: &HostRuntime,
     dir: LogDir<'_>,
-    fault: &LogFault,
+    fault: &LogReadFault,
     is_explained: bool,
 ) -> ExitCode {
     let status = report_follow_fault(rt, fault.fault);
@@ -209,7 +209,7 @@ pub fn report_run_fault(
     rt: &HostRuntime,
     output: &mut Std<Stdout>,
     dir: LogDir<'_>,
-    fault: &LogFault,
+    fault: &LogReadFault,
     is_explained: bool,
 ) -> ExitCode {
     if has_output_failed(output) {

@@ -1,7 +1,7 @@
 //! The command `receive`.
 
 use crate::event_log::EventLog;
-use crate::kept_receiver::{FolderHead, KeptFolder, Log, RecentFolderHead};
+use crate::kept_receiver::{FolderHead, FolderLog, KeptFolder, RecentFolderHead};
 use crate::live_report::{
     OutputAfterReport, begin_reporting, end_reporting, is_watched, name_to_listen_on,
     print_listen_error,
@@ -17,7 +17,7 @@ use crate::stop::{is_misplaced, note_left_file, report_stop, report_write_error,
 use rw_cli::{Receiving, SettingsFile, Until};
 use rw_follow::StopSignal;
 use rw_head::{Capacity, Memory};
-use rw_kept_head::{HeadReading, KeepFor, KeptHead, Opened};
+use rw_kept_head::{HeadReading, KeepFor, KeptHead, OpenedHead};
 use rw_metrics::{Counters, ReceiveCounters};
 use rw_receive::{
     Received, ServeUntil, Service, now_ms, run_receive, serve_and_print, serve_connections,
@@ -254,8 +254,8 @@ impl<R: Threads + Wait + Clock + Sync> Receiver<'_, R> {
         &self,
         folder: &KeptFolder<'_>,
         counters: &ReceiveCounters,
-        opened: Opened<Log, M>,
-    ) -> KeptHead<Log, M> {
+        opened: OpenedHead<FolderLog, M>,
+    ) -> KeptHead<FolderLog, M> {
         folder.report_opened(&opened);
         let head = opened.kept;
         let (samples, series) = (head.head().total(), head.head().places());

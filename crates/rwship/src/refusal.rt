@@ -9,14 +9,14 @@ use std::sync::Arc;
 
 /// What a refusal of the first batch does, and where requests went.
 #[derive(Drop)]
-pub struct Refusal {
+pub struct RefusalWatch {
     pub stop: Arc<RefusalStop, Global>,
     pub url: String,
 }
 
 /// Reports with which status the receiver refused the first batch, and what to do, if that has
 /// stopped the run. Returns the exit status.
-pub fn report_refusal(rt: &HostRuntime, refusal: &Refusal) -> Option<ExitCode> {
+pub fn report_refusal(rt: &HostRuntime, refusal: &RefusalWatch) -> Option<ExitCode> {
     let status = refusal.stop.refusal()?;
     let (url, next) = (&refusal.url, advice(status));
     let _ = eprintln!(rt;

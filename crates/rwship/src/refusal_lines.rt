@@ -1,7 +1,7 @@
 //! Lines on requests that a receiver has refused.
 
 use crate::event_log::LastLine;
-use rw_metrics::{ReceiveCounters, ReceiveNumbers, Refusal, RefusalReason};
+use rw_metrics::{ReceiveCounters, ReceiveNumbers, RefusalReason, RefusedRequest};
 use std::alloc::{AllocError, Global};
 use std::sync::Arc;
 use std::thread::{self, Threads};
@@ -56,7 +56,7 @@ fn words_of_status(status: u16) -> &'static str {
 }
 
 /// Returns why a request was refused, in words.
-fn why(refusal: &Refusal) -> &'static str {
+fn why(refusal: &RefusedRequest) -> &'static str {
     match refusal.reason {
         Some(reason) => words_of(reason),
         None if refusal.samples > 0 => "for a reason that is not known",
@@ -65,7 +65,11 @@ fn why(refusal: &Refusal) -> &'static str {
 }
 
 /// Adds an example of a refused request.
-fn push_example(alloc: Global, text: &mut String, refusal: &Refusal) -> Result<(), AllocError> {
+fn push_example(
+    alloc: Global,
+    text: &mut String,
+    refusal: &RefusedRequest,
+) -> Result<(), AllocError> {
     let (status, why) = (refusal.status, why(refusal));
     text.push_str(format!(in alloc; "; one of them with {status}: {why}")?.as_str())?;
     if let Some(asked) = &refusal.asked {
@@ -86,7 +90,7 @@ fn refusals_text(
     alloc: Global,
     more: u64,
     numbers: &ReceiveNumbers,
-    example: &Option<Refusal>,
+    example: &Option<RefusedRequest>,
 ) -> Result<String, AllocError> {
     let mut text = format!(in alloc; "requests were refused: {more}; since the start")?;
     for (status, count) in &numbers.statuses {

@@ -4,7 +4,7 @@ use crate::destination::destination_of;
 use crate::drops::{explain_drops, explain_reply};
 use crate::event_log::EventLog;
 use crate::live_report::{begin_reporting, end_reporting};
-use crate::log_fault::{LogFault, has_output_failed, log_fault, report_run_fault};
+use crate::log_fault::{LogReadFault, has_output_failed, log_fault, report_run_fault};
 use crate::log_files::{
     files_of, names_of, note_checkpoint, note_empty, note_gaps, passes_checkpoint_over,
 };
@@ -12,11 +12,11 @@ use crate::program_end::{
     empty_status, gap_status, print_device_error, report_dropped, report_misplaced, report_result,
     report_settings_fault, report_skipped,
 };
-use crate::refusal::{Refusal, report_refusal};
+use crate::refusal::{RefusalWatch, report_refusal};
 use crate::settings::{dir_with, settings_in};
 use crate::stop::{Awaited, is_misplaced, note_left_file, report_stop, stop_signal};
 use crate::waiting::wait_for_start;
-use rw_cli::{Following, LogDir, Reading, Sending, SettingsFile};
+use rw_cli::{Following, LogDir, ReadExtent, Sending, SettingsFile};
 use rw_follow::{Queue, StopSignal, Timed};
 use rw_log_folder::{Folder, FolderFault, Opened, SegmentFile, check_folder, watch_newest_segment};
 use rw_metrics::{Counters, SendCounters, show_stalls};
@@ -40,7 +40,7 @@ use std::time::{Clock, Duration};
 const NOTHING_READ: &[u8] = b"filtered 0\nreport abandoned 0\n";
 
 /// The log that is shipped.
-enum Log {
+enum ShippedLog {
     /// The files of the folder, and the watch that may end it early.
     Whole(Vec<Opened<SegmentFile<HostRuntime>>>, UntilAborted),
     /// The folder while it grows, and the watch that ends it.
@@ -50,12 +50,12 @@ enum Log {
 /// All that shipping needs besides settings. It is made before the settings are given away, since
 /// each way out of a function that owns settings is expensive to prove.
 struct Shipment {
-    log: Log,
+    log: ShippedLog,
     connect: TcpConnect<HostRuntime>,
     stop: StopFlag,
     counters: Arc<SendCounters, Global>,
     /// What a refusal of the first batch does, if it is to stop the run.
-    refusal: Option<Refusal>,
+    refusal: Option<RefusalWatch>,
 }
 
 /// What is wrong with the segments of a folder before a run.
@@ -100,10 +100,10 @@ fn fault_of(
     files: &Queue<Opened<SegmentFile<HostRuntime>>>,
     names: Vec<String>,
     ended: RunFault,
-) -> Result<LogFault, AllocError> {
+) -> Result<LogReadFault, AllocError> {
     let mut fault = match ended.place {
-        Some(place) => return Ok(LogFault::at_place(names, ended.fault, place)),
-        None => LogFault::from(ended.fault),
+        Some(place) => return Ok(LogReadFault::at_place(names, ended.fault, place)),
+        None => LogReadFault::from(ended.fault),
     };
     if let Some(file) = files.current() {
         fault.file = Some(String::from_str(alloc, file.place().name())?);
@@ -116,8 +116,8 @@ fn fault_in(
     alloc: Global,
     folder: Folder<HostRuntime>,
     ended: RunFault,
-) -> Result<LogFault, AllocError> {
-    let mut fault = LogFault::from(ended.fault);
+) -> Result<LogReadFault, AllocError> {
+    let mut fault = LogReadFault::from(ended.fault);
     let Some(place) = ended.place else {
         fault.file = folder.into_unread();
         return Ok(fault);
@@ -144,7 +144,7 @@ impl<R: Threads + Wait + Clock + Copy + Send + 'static> Sender<'_, R> {
     /// is said what a stop waits for.
     fn has_readers(&self) -> bool {
         let reporting = &self.sending.reporting;
-        let is_followed = matches!(self.sending.reading, Reading::Follow(_));
+        let is_followed = matches!(self.sending.reading, ReadExtent::Follow(_));
         reporting.has_progress
             || reporting.has_log
             || reporting.metrics.is_some()
@@ -247,8 +247,8 @@ impl<R: Threads + Wait + Clock + Copy + Send + 'static> Sender<'_, R> {
     /// a log that is there whole is set by nobody outside.
     fn signal(&self, stop: &StopFlag) -> Result<Arc<StopSignal, Global>, AllocError> {
         match &self.sending.reading {
-            Reading::Whole => Ok(Arc::new(self.rt.alloc(), StopSignal::new())?),
-            Reading::Follow(following) => {
+            ReadExtent::Whole => Ok(Arc::new(self.rt.alloc(), StopSignal::new())?),
+            ReadExtent::Follow(following) => {
                 let workers = stop.share()?;
                 stop_signal(self.rt, self.threads, following.stop_file, Some(workers))
             }
@@ -260,15 +260,15 @@ impl<R: Threads + Wait + Clock + Copy + Send + 'static> Sender<'_, R> {
         &self,
         signal: Arc<StopSignal, Global>,
         counters: &Arc<SendCounters, Global>,
-    ) -> Result<Log, FolderFault> {
+    ) -> Result<ShippedLog, FolderFault> {
         match &self.sending.reading {
-            Reading::Whole => {
+            ReadExtent::Whole => {
                 let files = files_of(self.rt, self.dir, Some(counters))?;
-                Ok(Log::Whole(files, UntilAborted::new(signal)))
+                Ok(ShippedLog::Whole(files, UntilAborted::new(signal)))
             }
-            Reading::Follow(following) => {
+            ReadExtent::Follow(following) => {
                 let folder = self.folder(counters)?;
-                Ok(Log::Growing(folder, self.watch(following, signal, counters)?))
+                Ok(ShippedLog::Growing(folder, self.watch(following, signal, counters)?))
             }
         }
     }
@@ -276,8 +276,8 @@ impl<R: Threads + Wait + Clock + Copy + Send + 'static> Sender<'_, R> {
     /// Fails if a folder that is followed cannot be read.
     fn check_folder(&self) -> Result<(), FolderFault> {
         match &self.sending.reading {
-            Reading::Whole => Ok(()),
-            Reading::Follow(_) => check_folder(self.rt, self.dir.path),
+            ReadExtent::Whole => Ok(()),
+            ReadExtent::Follow(_) => check_folder(self.rt, self.dir.path),
         }
     }
 
@@ -288,7 +288,7 @@ impl<R: Threads + Wait + Clock + Copy + Send + 'static> Sender<'_, R> {
         settings: &Settings,
         signal: &Arc<StopSignal, Global>,
         stop: &StopFlag,
-    ) -> Result<Option<Refusal>, AllocError> {
+    ) -> Result<Option<RefusalWatch>, AllocError> {
         if !self.sending.stops_on_refusal {
             return Ok(None);
         }
@@ -296,7 +296,7 @@ impl<R: Threads + Wait + Clock + Copy + Send + 'static> Sender<'_, R> {
         let path = settings.config.fields().target.path.as_str();
         let url = format!(in alloc; "http://{host}:{port}{path}")?;
         let stop = RefusalStop::new(Arc::try_clone(signal)?, stop.share()?);
-        Ok(Some(Refusal {
+        Ok(Some(RefusalWatch {
             stop: Arc::new(alloc, stop)?,
             url,
         }))
@@ -354,7 +354,7 @@ impl<R: Threads + Wait + Clock + Copy + Send + 'static> Sender<'_, R> {
         &mut self,
         addresses: Vec<SocketAddr>,
         settings: &Settings,
-    ) -> Result<Shipment, LogFault> {
+    ) -> Result<Shipment, LogReadFault> {
         let counters = self.begin_counting()?;
         match self.shipment(addresses, settings, &counters) {
             Ok(shipment) => Ok(shipment),
@@ -363,7 +363,7 @@ impl<R: Threads + Wait + Clock + Copy + Send + 'static> Sender<'_, R> {
                     let _ = write_all(&mut self.output, NOTHING_READ);
                 }
                 end_reporting(self.rt, &self.sending.reporting, &Counters::Send(counters));
-                Err(LogFault::from(fault))
+                Err(LogReadFault::from(fault))
             }
         }
     }
@@ -384,7 +384,7 @@ impl<R: Threads + Wait + Clock + Copy + Send + 'static> Sender<'_, R> {
     /// Returns the stop file, if it is waited for what shipping needs.
     fn stop_file_to_wait_for(&self) -> Option<&str> {
         match &self.sending.reading {
-            Reading::Follow(following) if following.waits => following.stop_file,
+            ReadExtent::Follow(following) if following.waits => following.stop_file,
             _ => None,
         }
     }
@@ -410,8 +410,8 @@ impl<R: Threads + Wait + Clock + Copy + Send + 'static> Sender<'_, R> {
 
     /// Reports that the folder has no segment, or lacks some between others, if somebody may read
     /// that.
-    fn note_segments(&self, log: &Log) -> Noted {
-        let Log::Whole(files, _) = log else {
+    fn note_segments(&self, log: &ShippedLog) -> Noted {
+        let ShippedLog::Whole(files, _) = log else {
             return Noted {
                 has_nothing: false,
                 has_gap: false,
@@ -432,12 +432,12 @@ impl<R: Threads + Wait + Clock + Copy + Send + 'static> Sender<'_, R> {
     fn ship_log(
         &mut self,
         settings: Settings,
-        log: Log,
+        log: ShippedLog,
         options: SendOptions<'_, TcpConnect<HostRuntime>>,
-    ) -> Result<(), LogFault> {
+    ) -> Result<(), LogReadFault> {
         let (threads, alloc, output) = (self.threads, self.rt.alloc(), &mut self.output);
         match log {
-            Log::Whole(files, mut watch) => {
+            ShippedLog::Whole(files, mut watch) => {
                 let names = names_of(alloc, &files)?;
                 let mut files = Queue::new(files);
                 match run_follow(
@@ -447,7 +447,7 @@ impl<R: Threads + Wait + Clock + Copy + Send + 'static> Sender<'_, R> {
                     Err(ended) => Err(fault_of(alloc, &files, names, ended)?),
                 }
             }
-            Log::Growing(mut folder, mut watch) => {
+            ShippedLog::Growing(mut folder, mut watch) => {
                 match run_follow(
                     threads,
                     alloc,
@@ -489,8 +489,8 @@ impl<R: Threads + Wait + Clock + Copy + Send + 'static> Sender<'_, R> {
     /// returns the exit status.
     fn report_refused(
         &mut self,
-        refusal: &Option<Refusal>,
-        outcome: &Result<(), LogFault>,
+        refusal: &Option<RefusalWatch>,
+        outcome: &Result<(), LogReadFault>,
     ) -> Option<ExitCode> {
         let is_other = match outcome {
             Ok(()) => false,
@@ -511,8 +511,8 @@ impl<R: Threads + Wait + Clock + Copy + Send + 'static> Sender<'_, R> {
         &mut self,
         counters: Arc<SendCounters, Global>,
         noted: Noted,
-        refusal: Option<Refusal>,
-        outcome: Result<(), LogFault>,
+        refusal: Option<RefusalWatch>,
+        outcome: Result<(), LogReadFault>,
     ) -> ExitCode {
         let (rt, dir, sending) = (self.rt, self.dir, self.sending);
         let (dropped, skipped) = (counters.dropped(), counters.skipped().lost());
@@ -590,7 +590,7 @@ pub fn send<'a, R: Threads + Wait + Clock + Copy + Send + 'static>(
     file: SettingsFile<'_>,
     sending: &'a Sending<'a>,
 ) -> ExitCode {
-    if let Reading::Follow(following) = &sending.reading {
+    if let ReadExtent::Follow(following) = &sending.reading {
         if let Some(path) = following.stop_file {
             if is_misplaced(rt, path) {
                 return report_misplaced(rt, path);

@@ -1,6 +1,6 @@
 //! The files that are read of a listing, by rows.
 
-use rw_log_folder::{Checkpoint, Listing, Name, OrderFault, Place, log_order};
+use rw_log_folder::{Checkpoint, Listing, LogFile, NumberedName, OrderFault, log_order};
 use std::alloc::{AllocError, Global};
 
 /// A number and its digits.
@@ -100,10 +100,10 @@ static LONG_AGO: Row = Row {
     read: &[(3, 0, 8), (0, 4, 8)],
 };
 
-fn names_of(alloc: Global, written: &[Written]) -> Result<Vec<Name>, AllocError> {
+fn names_of(alloc: Global, written: &[Written]) -> Result<Vec<NumberedName>, AllocError> {
     let mut names = Vec::with_capacity(alloc, written.len())?;
     for (number, digits) in written {
-        names.push(Name {
+        names.push(NumberedName {
             number: *number,
             digits: *digits,
         })?;
@@ -114,7 +114,7 @@ fn names_of(alloc: Global, written: &[Written]) -> Result<Vec<Name>, AllocError>
 fn listing_of(alloc: Global, row: &Row) -> Result<Listing, AllocError> {
     let mut checkpoints = Vec::with_capacity(alloc, row.checkpoints.len())?;
     for (number, segments) in row.checkpoints {
-        let name = Name {
+        let name = NumberedName {
             number: *number,
             digits: 8,
         };
@@ -127,7 +127,7 @@ fn listing_of(alloc: Global, row: &Row) -> Result<Listing, AllocError> {
     })
 }
 
-fn is_read(place: &Place, wanted: &Read) -> bool {
+fn is_read(place: &LogFile, wanted: &Read) -> bool {
     let checkpoint = match place.checkpoint {
         Some(name) => name.number,
         None => 0,
@@ -135,7 +135,7 @@ fn is_read(place: &Place, wanted: &Read) -> bool {
     checkpoint == wanted.0 && place.segment.number == wanted.1 && place.segment.digits == wanted.2
 }
 
-fn are_read(places: &[Place], wanted: &[Read]) -> bool {
+fn are_read(places: &[LogFile], wanted: &[Read]) -> bool {
     if places.len() != wanted.len() {
         return false;
     }

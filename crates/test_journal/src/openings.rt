@@ -5,7 +5,7 @@ ghost use Rattle.rw_kept_log.specs.Memory.{image_segments, IsLeftOf};
 
 use crate::entry_counter::{UP, reopen};
 use Outcome::{Opened, Refused};
-use rw_kept_log::{Damage, Journal, JournalError, MemoryJournal, ReopenError};
+use rw_kept_log::{Journal, JournalError, KeptLogDamage, MemoryJournal, ReopenError};
 use rw_wal_tail::{FaultPlace, TailFault};
 use std::alloc::{AllocError, Global};
 use std::test::Fail;
@@ -198,7 +198,7 @@ fn outcome_of(alloc: Global, journal: &mut MemoryJournal) -> Outcome
         Ok((count, end)) => Opened(count, end.whole, end.torn.len(), end.greatest),
         Err(
             ReopenError::Damaged(
-                Damage {
+                KeptLogDamage {
                     fault,
                     place: FaultPlace { segment, offset },
                 },

@@ -9,7 +9,7 @@ use crate::messages::{Samples, UP, has_samples, standard};
 use crate::store::is_served_by;
 use rw_endpoint::{Answer, ServeEnd};
 use rw_head::{Capacity, Head};
-use rw_recv_head::{Asked, Blank, Holding, Seat, SharedHead};
+use rw_recv_head::{Blank, Holding, Seat, SeatAnswer, SharedHead};
 use rw_recv_http::Asking;
 use rw_test_parts::{UP_MESSAGE as ONE, WORD_OF_ONE};
 use std::alloc::{AllocError, Global};
@@ -274,7 +274,7 @@ fn finds_full<L: Holding<Head>, R: Wait>(
 }
 
 /// Whether a request had this status, and the head holds one sample.
-fn is_one_held(asked: Asked, status: u16, is_full: bool) -> bool {
+fn is_one_held(asked: SeatAnswer, status: u16, is_full: bool) -> bool {
     asked.status == status
         && asked.is_full == is_full
         && asked.label_sets == 1

@@ -7,8 +7,9 @@ use crate::shipped::settings_of;
 use rw_ledger::Reason;
 use rw_metrics::{
     Cause, Counters, ReceiveCounters, RefusalReason, SendCounters, Skipped, drops_line,
-    receive_page, send_line, serve_metrics,
+    receive_page, send_line,
 };
+use rw_metrics_server::serve_metrics;
 use rw_send::{SendOptions, StopFlag, run_send};
 use rw_text::ToolFault;
 use rw_types::Room;

@@ -1,7 +1,7 @@
 //! What the engines of the program take: folders, connections, counters, settings, stop signals.
 
 use rw_tool::{
-    Folder, Open, Opened, ReceiveCounters, RefusalStop, SegmentFile, Segments, SendCounters,
+    Folder, OpenSource, Opened, ReceiveCounters, RefusalStop, SegmentFile, Segments, SendCounters,
     SettingsFault, StopSignal, TcpConnect, ToolFault, UntilAborted, Watch, read_settings,
     run_log_dir, segment_files,
 };
@@ -47,7 +47,7 @@ pub fn of_folders<R: Files<File = File> + AllocGlobal + Copy>() {
 }
 
 /// The calls of what the engines are given.
-pub fn of_given<O: Open, S: Segments, W: Watch, N: Net<Stream = TcpStream> + Clock + Copy>() {
+pub fn of_given<O: OpenSource, S: Segments, W: Watch, N: Net<Stream = TcpStream> + Clock + Copy>() {
     let _ = (O::open, Opened::<O>::place, S::advance);
     let _ = (
         W::stop_request,

@@ -2,9 +2,9 @@
 //! its body, its plan and its reports, with the option and without it.
 
 use crate::rows::holds;
-use rw_inspect::{Report, fault_lines, find_entries, inspect, json_of, table_of};
+use rw_inspect::{LogFindings, fault_lines, find_entries, inspect, json_of, table_of};
 use rw_log_commands::{run_body_with, run_plan_with};
-use rw_log_read::{Named, Unread};
+use rw_log_read::{Named, UnreadLog};
 use rw_settings::read_settings;
 use rw_text::{ToolFault, read_digits};
 use rw_types::Room;
@@ -116,7 +116,7 @@ fn alone(alloc: Global, text: &[u8]) -> Result<Vec<Named<&[u8]>>, AllocError> {
 }
 
 /// Returns the report of a segment.
-fn report_of(alloc: Global, digits: &str, may_compress: bool) -> Result<Report, Unread> {
+fn report_of(alloc: Global, digits: &str, may_compress: bool) -> Result<LogFindings, UnreadLog> {
     let segment = bytes_of(alloc, digits);
     inspect(alloc, alone(alloc, &segment)?, may_compress)
 }

@@ -2,9 +2,9 @@
 
 use crate::rows::{holds, none_is_wrong};
 use rw_follow::Queue;
-use rw_inspect::{Report, find_entries, inspect, json_of, table_of};
+use rw_inspect::{LogFindings, find_entries, inspect, json_of, table_of};
 use rw_log_commands::plan_log;
-use rw_log_read::{Named, Unread};
+use rw_log_read::{Named, UnreadLog};
 use rw_relabel::Choice;
 use rw_test_parts::raw_labels;
 use rw_text::ToolFault;
@@ -61,7 +61,7 @@ fn both<'a>(
 }
 
 /// Returns the report of two segments.
-fn report_of(alloc: Global, first: &[u8], second: &[u8]) -> Result<Report, Unread> {
+fn report_of(alloc: Global, first: &[u8], second: &[u8]) -> Result<LogFindings, UnreadLog> {
     inspect(alloc, both(alloc, first, second)?, false)
 }
 
@@ -106,7 +106,7 @@ const DAMAGED: &str = "\
 ";
 
 /// Returns the reports of both segments, and of the first with its last byte changed.
-fn texts(alloc: Global) -> Result<(Vec<u8>, Vec<u8>, Vec<u8>), Unread> {
+fn texts(alloc: Global) -> Result<(Vec<u8>, Vec<u8>, Vec<u8>), UnreadLog> {
     let mut first = segment_of(alloc, &FIRST)?;
     let second = segment_of(alloc, &SECOND)?;
     let report = report_of(alloc, &first, &second)?;
@@ -189,7 +189,7 @@ const FOUND: &str = "4 \"1 series 3 {\"9\"=\"a\"}
 ";
 
 /// Returns what is found at the positions, how many do not exist, and whether the log is damaged.
-fn found_in(alloc: Global) -> Result<(Vec<u8>, u64, bool), Unread> {
+fn found_in(alloc: Global) -> Result<(Vec<u8>, u64, bool), UnreadLog> {
     let first = segment_of(alloc, &FIRST)?;
     let second = segment_of(alloc, &SECOND)?;
     let segments = both(alloc, &first, &second)?;
@@ -239,12 +239,12 @@ fn alone(alloc: Global, text: &[u8]) -> Result<Vec<Named<&[u8]>>, AllocError> {
 }
 
 /// Returns the report of a segment.
-fn report_of_one(alloc: Global, text: &[u8]) -> Result<Report, Unread> {
+fn report_of_one(alloc: Global, text: &[u8]) -> Result<LogFindings, UnreadLog> {
     inspect(alloc, alone(alloc, text)?, false)
 }
 
 /// Returns the first type of `BY_TYPE` whose number is wrong in a report.
-fn wrong_type(report: &Report) -> Option<&'static str> {
+fn wrong_type(report: &LogFindings) -> Option<&'static str> {
     for (at, (name, count)) in BY_TYPE.iter().enumerate() {
         match report.skipped.get(at) {
             Some(found) if found.kind.name() == *name && found.count == *count => {}

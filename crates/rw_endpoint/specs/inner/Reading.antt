@@ -1,18 +1,18 @@
--- Inner definitions beside those of Reading.antt: only invariants, private functions and
+-- Inner definitions beside those of RequestReading.antt: only invariants, private functions and
 -- proofs use them.
 use Rattle.std.specs.Prelude.{◌≡◌, ℕ, ◌<◌, ◌≤◌, List, [], length, drop, Option, None, Some}
 use Rattle.std.specs.Io.KnownBytes.{Consumes, IsAtEnd}
 use Rattle.httparse.specs.Grammar.{RequestHead, print_request}
 use Rattle.rw_endpoint.specs.Judgement.{finding_of}
-use Rattle.rw_endpoint.specs.declared.head.Reading.{Reading}
-use Rattle.rw_endpoint.specs.declared.head.Reading.TheVariants as Seen
+use Rattle.rw_endpoint.specs.declared.head.RequestReading.{RequestReading}
+use Rattle.rw_endpoint.specs.declared.head.RequestReading.TheVariants as Seen
 use Rattle.rw_endpoint.specs.declared.input.Front.{Front}
 use Rattle.rw_endpoint.specs.declared.input.Front.TheVariants.{Head, Never, End}
 use Rattle.rw_endpoint.specs.Reading.{BeginsWithHead, NeverHasHead, IsPartOfHead}
 use Rattle.rw_endpoint.specs.declared.intake.Intake.{Intake}
 
 -- what is found in the bytes that have come
-abbrev pub Judges : List ℕ → Intake → List ℕ → Reading → Type 0
+abbrev pub Judges : List ℕ → Intake → List ℕ → RequestReading → Type 0
 Judges path intake input (Seen.Head finding len) =
     (head : RequestHead) × BeginsWithHead input head (drop len input) × (len ≡ length (print_request head))
     × (finding ≡ finding_of path intake head)

@@ -19,7 +19,7 @@ use Rattle.rw_kept_log.specs.Records.{IsRecordAt, IsRecordAfter, FollowsFault}
 use Rattle.rw_kept_log.proofs.RecordAtLemmas.{nothing_follows}
 use Rattle.rw_kept_log.specs.Reopening.{HasRecordAfter, IsDamage, IsSegmentCut, IsEnd}
 use Rattle.rw_kept_log.specs.inner.Reopening.{EndsLog, IsFaultAt, IsFaultBefore, IsFaultIn, IsFoundOf, IsLast, IsReadBefore, IsReadTo, IsRefusal, IsTornOf, IsWholeSoFar}
-use Rattle.rw_kept_log.specs.declared.error.Damage.{Damage}
+use Rattle.rw_kept_log.specs.declared.error.KeptLogDamage.{KeptLogDamage}
 use Rattle.rw_kept_log.specs.declared.last_segment.LastSegment.{LastSegment}
 use Rattle.rw_kept_log.specs.declared.log_reading.ReadEnd.{ReadEnd}
 
@@ -97,7 +97,7 @@ count_of : (ss done : Segments) (text : List ℕ) → ss ≡ done ++ text ∷ []
 count_of ss done text all = ap length all ∙ length-append done (text ∷ [])
 
 -- the last one is not whole
-fault_in : (ss : Segments) (now : List Entry) (l : LastSegment) (d : Damage) → IsReadTo ss now l → l.fault ≡ Some d → IsFaultIn ss d
+fault_in : (ss : Segments) (now : List Entry) (l : LastSegment) (d : KeptLogDamage) → IsReadTo ss now l → l.fault ≡ Some d → IsFaultIn ss d
 fault_in ss now l d h is =
     let at : IsFaultAt h.text (length h.done) (Some d) = subst (IsFaultAt h.text (length h.done)) is h.found.fault_is in
     record {
@@ -105,7 +105,7 @@ fault_in ss now l d h is =
       has = subst (λ (t : List ℕ). HasFault t d.fault d.place.offset) (sym (here ss h.done h.text d.place.segment h.all at.0)) at.1;
     }
 
-last_before : (ss : Segments) (now : List Entry) (l : LastSegment) (found : Option Damage) → l.fault ≡ found → IsReadTo ss now l → IsReadBefore ss now found
+last_before : (ss : Segments) (now : List Entry) (l : LastSegment) (found : Option KeptLogDamage) → l.fault ≡ found → IsReadTo ss now l → IsReadBefore ss now found
 last_before ss now l None is h = whole_before ss now l h is
 last_before ss now l (Some d) is h = fault_in ss now l d h is
 
@@ -113,11 +113,11 @@ last_before ss now l (Some d) is h = fault_in ss now l d h is
 pub before_next : (ss : Segments) (now : List Entry) (l : LastSegment) → IsReadTo ss now l → IsReadBefore ss now l.fault
 before_next ss now l h = last_before ss now l l.fault refl h
 
-pub broken_before : (ss : Segments) (d : Damage) → IsFaultBefore ss d → IsFaultIn ss d
+pub broken_before : (ss : Segments) (d : KeptLogDamage) → IsFaultBefore ss d → IsFaultIn ss d
 broken_before ss d h = record { within = omega (arith, h.within); has = h.has }
 
 -- a next segment comes after one that is not whole
-pub stays_broken : (ss : Segments) (text : List ℕ) (d : Damage) → IsFaultIn ss d → IsFaultBefore (ss ++ text ∷ []) d
+pub stays_broken : (ss : Segments) (text : List ℕ) (d : KeptLogDamage) → IsFaultIn ss d → IsFaultBefore (ss ++ text ∷ []) d
 stays_broken ss text d h = record {
   within = omega (arith, h.within, length-append ss (text ∷ []));
   has = subst (λ (t : List ℕ). HasFault t d.fault d.place.offset) (sym (get_or_append_left ss (text ∷ []) [] d.place.segment h.within)) h.has;
@@ -149,8 +149,8 @@ ends_cut ss now high l end most h cut torn follows greatest =
     record {
       taken = h.taken;
       end_is = record {
-        cut = subst (λ (t : List ℕ). IsSegmentCut t end.whole) (sym last) (subst (λ (r : Result ℕ Damage). IfOk r (IsSegmentCut h.text)) cut h.found.cut);
-        torn = torn ∙ subst (λ (r : Result ℕ Damage). IsTornOf h.text r l.torn.items) cut h.found.torn_is ∙ ap (drop end.whole) (sym last);
+        cut = subst (λ (t : List ℕ). IsSegmentCut t end.whole) (sym last) (subst (λ (r : Result ℕ KeptLogDamage). IfOk r (IsSegmentCut h.text)) cut h.found.cut);
+        torn = torn ∙ subst (λ (r : Result ℕ KeptLogDamage). IsTornOf h.text r l.torn.items) cut h.found.torn_is ∙ ap (drop end.whole) (sym last);
         follows = subst (λ (t : List ℕ). FollowsFault t end.follows) (sym last) (subst (FollowsFault h.text) (sym follows) h.found.follows);
         greatest = greatest ∙ most ∙ ap (greatest_after 0) h.taken;
       };
@@ -158,9 +158,9 @@ ends_cut ss now high l end most h cut torn follows greatest =
     }
 
 -- the last segment is damaged
-pub last_damaged : (ss : Segments) (now : List Entry) (l : LastSegment) (d : Damage) → IsReadTo ss now l → l.cut ≡ Err d → IsDamage ss d
+pub last_damaged : (ss : Segments) (now : List Entry) (l : LastSegment) (d : KeptLogDamage) → IsReadTo ss now l → l.cut ≡ Err d → IsDamage ss d
 last_damaged ss now l d h cut =
-    let refusal : IsRefusal h.text (length h.done) d = subst (λ (r : Result ℕ Damage). IfErr r (IsRefusal h.text (length h.done))) cut h.found.refusal in
+    let refusal : IsRefusal h.text (length h.done) d = subst (λ (r : Result ℕ KeptLogDamage). IfErr r (IsRefusal h.text (length h.done))) cut h.found.refusal in
     let is : get_or ss d.place.segment [] ≡ h.text = here ss h.done h.text d.place.segment h.all refusal.0 in
     record {
       within = omega (arith, refusal.0, count_of ss h.done h.text h.all);
@@ -169,11 +169,11 @@ last_damaged ss now l d h cut =
     }
 
 -- an earlier segment is damaged
-pub broken_damaged : (ss : Segments) (d : Damage) → IsFaultBefore ss d → IsDamage ss d
+pub broken_damaged : (ss : Segments) (d : KeptLogDamage) → IsFaultBefore ss d → IsDamage ss d
 broken_damaged ss d h = record { within = omega (arith, h.within); has = h.has; goes_on = λ is. absurd (omega (arith, is, h.within)) }
 
 -- a whole record follows the fault of the last segment
-pub record_follows : (ss : Segments) (now : List Entry) (l : LastSegment) (d : Damage) (at : ℕ) → IsReadTo ss now l → l.fault ≡ Some d → l.follows ≡ Some at → HasRecordAfter ss d at
+pub record_follows : (ss : Segments) (now : List Entry) (l : LastSegment) (d : KeptLogDamage) (at : ℕ) → IsReadTo ss now l → l.fault ≡ Some d → l.follows ≡ Some at → HasRecordAfter ss d at
 record_follows ss now l d at h is follows =
     let fault_is : IsFaultAt h.text (length h.done) (Some d) = subst (IsFaultAt h.text (length h.done)) is h.found.fault_is in
     let found : IsRecordAfter h.text d.place.offset (Some at) = subst (IsRecordAfter h.text d.place.offset) follows (h.found.follows d.fault d.place.offset fault_is.1) in

@@ -11,7 +11,7 @@ use Rattle.rw_wal_format.specs.Pieces.{fault, page_size}
 use Rattle.rw_wal_format.specs.Segments.{segment}
 use Rattle.rw_kept_log.specs.Reading.{HasFault, ended}
 use Rattle.rw_kept_log.specs.Records.{FollowsFault}
-use Rattle.rw_kept_log.specs.declared.error.Damage.{Damage}
+use Rattle.rw_kept_log.specs.declared.error.KeptLogDamage.{KeptLogDamage}
 use Rattle.rw_kept_log.specs.declared.last_segment.LastSegment.{LastSegment}
 use Rattle.rw_kept_log.specs.declared.log_reading.Found.{Found}
 use Rattle.rw_kept_log.specs.declared.log_reading.Found.TheVariants.{Nothing, Last, Broken}
@@ -20,17 +20,17 @@ use Rattle.rw_kept_log.specs.Reopening.{IsEnd, IsSegmentCut}
 
 -- a segment of this number is said to be damaged only if it has that fault, and goes on after the
 -- page in which reading stops
-abbrev pub IsRefusal : List ℕ → ℕ → Damage → Type 0
+abbrev pub IsRefusal : List ℕ → ℕ → KeptLogDamage → Type 0
 IsRefusal text n d =
     (d.place.segment ≡ n) × HasFault text d.fault d.place.offset × (end_of_page page_size d.place.offset < length text)
 
 -- the fault of a segment of this number, if it has one
-abbrev pub IsFaultAt : List ℕ → ℕ → Option Damage → Type 0
+abbrev pub IsFaultAt : List ℕ → ℕ → Option KeptLogDamage → Type 0
 IsFaultAt text n None = fault (ended text) ≡ None
 IsFaultAt text n (Some d) = (d.place.segment ≡ n) × HasFault text d.fault d.place.offset
 
 -- the bytes after the place at which a segment is cut
-abbrev pub IsTornOf : List ℕ → Result ℕ Damage → List ℕ → Type 0
+abbrev pub IsTornOf : List ℕ → Result ℕ KeptLogDamage → List ℕ → Type 0
 IsTornOf text (Ok at) torn = torn ≡ drop at text
 IsTornOf text (Err d) torn = Unit {0}
 
@@ -62,12 +62,12 @@ pub record IsReadTo (ss : Segments) (now : List Entry) (l : LastSegment) : Type 
   pub taken : now ≡ entries_of page_size ss
 
 -- a segment has this fault
-pub record IsFaultIn (ss : Segments) (d : Damage) : Type 0 where
+pub record IsFaultIn (ss : Segments) (d : KeptLogDamage) : Type 0 where
   pub within : d.place.segment < length ss
   pub has : HasFault (get_or ss d.place.segment []) d.fault d.place.offset
 
 -- a segment before the last one has this fault
-pub record IsFaultBefore (ss : Segments) (d : Damage) : Type 0 where
+pub record IsFaultBefore (ss : Segments) (d : KeptLogDamage) : Type 0 where
   pub within : d.place.segment + 1 < length ss
   pub has : HasFault (get_or ss d.place.segment []) d.fault d.place.offset
 
@@ -78,7 +78,7 @@ IsFound ss now (Last l) = IsReadTo ss now l
 IsFound ss now (Broken d) = IsFaultBefore ss d
 
 -- the segments before a next one are whole, or one of them has this fault
-abbrev pub IsReadBefore : Segments → List Entry → Option Damage → Type 0
+abbrev pub IsReadBefore : Segments → List Entry → Option KeptLogDamage → Type 0
 IsReadBefore ss now None = IsWholeSoFar ss now
 IsReadBefore ss now (Some d) = IsFaultIn ss d
 

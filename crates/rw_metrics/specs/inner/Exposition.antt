@@ -1,15 +1,8 @@
 -- Inner definitions beside those of Exposition.antt: only invariants, private functions and
 -- proofs use them.
-use Rattle.std.specs.Prelude.{ℕ, List, ◌++◌, codes, decimal, length}
+use Rattle.std.specs.Prelude.{ℕ, List}
 use Rattle.std.specs.Borrow.{Bor}
 use Rattle.rw_metrics.specs.Exposition.{Metric, Family}
-
--- the reply that carries a page, with the type of its contents
-abbrev pub reply : (kind body : List ℕ) → List ℕ
-reply kind body =
-    codes "HTTP/1.1 200 OK\r\nContent-Type: " ++ kind
-    ++ codes "\r\nConnection: close\r\nContent-Length: " ++ decimal (length body)
-    ++ codes "\r\n\r\n" ++ body
 
 abbrev pub metric_of : Bor (List ℕ) × Bor (List ℕ) × Bor (List ℕ) → Metric
 metric_of m = (m.0.now, m.1.now, m.2.now)

@@ -7,7 +7,7 @@ use lib.ListN.{get_elem?}
 use Rattle.atomic_table.specs.Table.{State, Step, Me}
 use Rattle.rw_types.specs.Beginnings.{Begins}
 use Rattle.rw_recv_head.specs.declared.question.Question.{Question}
-use Rattle.rw_recv_head.specs.declared.questions.Known.{Known}
+use Rattle.rw_recv_head.specs.declared.questions.PassState.{PassState}
 use Rattle.rw_recv_head.specs.declared.questions.View.{View}
 use Rattle.rw_recv_head.specs.Seats.{own}
 
@@ -17,15 +17,15 @@ pub record Sight : Type 0 where
   pub asked : List Question
 
 -- nothing was asked, and there are no seats
-abbrev pub nothing_known : Known
+abbrev pub nothing_known : PassState
 nothing_known = record { asked = []; given = 0; back = [] }
 
 -- the pass under the lock
-abbrev pub keeper : Known → View
+abbrev pub keeper : PassState → View
 keeper known = record { knows = true; known = known; sits = false; number = 0; seen = [] }
 
 -- the same, while it speaks for a seat
-abbrev pub host : Known → ℕ → List Question → View
+abbrev pub host : PassState → ℕ → List Question → View
 host known number seen = record { knows = true; known = known; sits = true; number = number; seen = seen }
 
 -- the pass of a seat
@@ -42,7 +42,7 @@ with_seat v w = record { knows = v.knows; known = v.known; sits = w.sits; number
 
 -- a seat that has such a number and has seen these questions is one that was given and is not back:
 -- it has seen a prefix of all, with all of its own
-pub record IsSeat (known : Known) (number : ℕ) (seen : List Question) : Type 0 where
+pub record IsSeat (known : PassState) (number : ℕ) (seen : List Question) : Type 0 where
   pub given : number < known.given
   pub away : list_any (eqb number) known.back ≡ false
   pub begins : Begins seen known.asked
@@ -50,14 +50,14 @@ pub record IsSeat (known : Known) (number : ℕ) (seen : List Question) : Type 0
 
 -- what the rule says of one pass: the one that knows all is in one place, and one that speaks for a
 -- seat is in that of its number
-pub record Fits (place : ℕ) (known : Known) (at : ℕ → ℕ) (k : ℕ) (v : View) : Type 0 where
+pub record Fits (place : ℕ) (known : PassState) (at : ℕ → ℕ) (k : ℕ) (v : View) : Type 0 where
   pub keeps : v.knows ≡ true → (k ≡ place) × (v.known ≡ known)
   pub sits : v.sits ≡ true → (k ≡ at v.number) × IsSeat known v.number v.seen
 
 -- at most one pass knows all, and no two speak for seats with one number
 pub record AreKept (s : State Question View) : Type 0 where
   pub place : ℕ
-  pub known : Known
+  pub known : PassState
   pub at : ℕ → ℕ
   pub fits : (k : ℕ) (v : View) → get_elem? s.views k ≡ some v → Fits place known at k v
 

@@ -5,13 +5,13 @@ use Rattle.rw_head.specs.Head.{State}
 use Rattle.rw_head.specs.Store.{total}
 use Rattle.rw_head.specs.Growth.{EachRises}
 use Rattle.rw_recv_head.specs.declared.question.Question.{Question}
-use Rattle.rw_recv_head.specs.declared.questions.Known.{Known}
+use Rattle.rw_recv_head.specs.declared.questions.PassState.{PassState}
 use Rattle.rw_recv_head.specs.Seats.{store_after, bodies_of, most}
 
 -- what is under the lock
 pub record Held : Type 0 where
   pub head : State
-  pub questions : Known
+  pub questions : PassState
 
 -- What the lock keeps: the head has taken what it takes of these questions, each of which is of a
 -- seat that was given; the timestamps of each of its lists rise; and the ledger has `all` parts,

@@ -2,7 +2,7 @@ use Rattle.std.proofs.Common.{◌≡◌, ℕ, List, [], ◌++◌, take, drop, tr
 use Rattle.std.specs.Io.KnownBytes.{prepend_known}
 use Rattle.rw_endpoint.specs.inner.Reading.{Judges}
 use Rattle.rw_endpoint.specs.declared.finding.Finding.{Finding}
-use Rattle.rw_endpoint.specs.declared.head.Reading.TheVariants.{Head}
+use Rattle.rw_endpoint.specs.declared.head.RequestReading.TheVariants.{Head}
 use Rattle.rw_endpoint.specs.Serving.{Replies}
 use Rattle.rw_endpoint.specs.inner.Steps.{HasServed}
 use Rattle.rw_endpoint.proofs.KnownLemmas.{keeps_known, appends_known, prepend_split, prepend_known_is}

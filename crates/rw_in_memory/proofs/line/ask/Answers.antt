@@ -15,6 +15,6 @@ returns g c = λ host body valid is.
     let written = ap (λ (r : Reserved). Some r.bytes) new in
     let whole = ap (λ (r : Reserved). r.has_failed) new in
     let room : 86 ≤ c.in-Ok.writer.room = omega (arith, ap (λ (r : Reserved). r.room) new) in
-    asked_once (λ a. a.seat) (λ a. a.status) g.L.Naming.opening g.L.Endpoint.limit body (record c.args.asker.now { status = None }) c.serve.new.answer refl [] (Some c.serve.new.writer.bytes) c.serve.result
+    asked_once (λ a. a.seat) (λ a. a.status) g.L.HeadNaming.opening g.L.Endpoint.limit body (record c.args.asker.now { status = None }) c.serve.new.answer refl [] (Some c.serve.new.writer.bytes) c.serve.result
     (λ le. c.serve.ensures.alone text [] body refl written refl whole room (read_so host g.L.Endpoint.path body text g.L.Endpoint.limit valid sound is few _ _ path limit le))
     (λ lt. c.serve.ensures.refused text [] 413 refl written refl whole room (omega arith) (refused_so host g.L.Endpoint.path body text g.L.Endpoint.limit valid sound is few _ _ path limit lt))

@@ -20,7 +20,7 @@ gather-head-requires g c =
     ∙ ap length c.in_ok-parts.ensures.seats
     ∙ length-map (map finished_of c.into_kept.result.items) seat_of
     ∙ ap (λ (js : List (StoppedShard SeatLine)). length (map finished_of js)) whole
-    ∙ workers_count (IsSeatLine g.L.Naming.opening g.L.Endpoint.path g.L.Endpoint.limit) c.args.shipper stop.result stop.ensures.stopped c.requires.first
+    ∙ workers_count (IsSeatLine g.L.HeadNaming.opening g.L.Endpoint.path g.L.Endpoint.limit) c.args.shipper stop.result stop.ensures.stopped c.requires.first
     ∙ c.requires.seats
     ∙ ap (λ (o : Opening). o.seats) (sym (c.into_shared.ensures ∙ c.in-Some.ensures))
 
@@ -38,9 +38,9 @@ returns g c =
         outcome_is = refl;
         parts_are = c.in_ok-parts.ensures.parts ∙ ap (λ (js : List (StoppedShard SeatLine)). stop.result.dropped ∷ map part_of js) whole;
         filter_count = refl;
-        each = each_of (λ (f : Finished SeatLine). IsSeatLine g.L.Naming.opening g.L.Endpoint.path g.L.Endpoint.limit f.transport) (workers_of stop.result)
-            (subst (λ (js : List (StoppedShard SeatLine)). All (λ (f : Finished SeatLine). IsSeatLine g.L.Naming.opening g.L.Endpoint.path g.L.Endpoint.limit f.transport) (map finished_of js)) whole c.in_ok-parts.ensures.lines);
-        gathered = subst (λ ss. HasGathered g.L.Naming.opening ss c.gather-head.result.store) (c.in_ok-parts.ensures.seats ∙ ap (λ (js : List (StoppedShard SeatLine)). map seat_of (map finished_of js)) whole) c.gather-head.ensures.gathered.0;
+        each = each_of (λ (f : Finished SeatLine). IsSeatLine g.L.HeadNaming.opening g.L.Endpoint.path g.L.Endpoint.limit f.transport) (workers_of stop.result)
+            (subst (λ (js : List (StoppedShard SeatLine)). All (λ (f : Finished SeatLine). IsSeatLine g.L.HeadNaming.opening g.L.Endpoint.path g.L.Endpoint.limit f.transport) (map finished_of js)) whole c.in_ok-parts.ensures.lines);
+        gathered = subst (λ ss. HasGathered g.L.HeadNaming.opening ss c.gather-head.result.store) (c.in_ok-parts.ensures.seats ∙ ap (λ (js : List (StoppedShard SeatLine)). map seat_of (map finished_of js)) whole) c.gather-head.ensures.gathered.0;
       },
       refl,
     )

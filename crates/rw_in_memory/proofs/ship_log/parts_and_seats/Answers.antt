@@ -32,8 +32,8 @@ loop-shard-preserved g c =
       parts = c.push_reserved-in-loop-shard.ensures.items ∙ ap (λ l. l ++ given.result.0 ∷ []) i.parts ∙ ap (λ p. c.args.dropped ∷ (map part_of more ++ p ∷ [])) given.ensures.part ∙ ap (λ l. c.args.dropped ∷ l) (sym (map-append part_of more (j ∷ [])));
       seats = c.push_reserved-in-loop-shard-2.ensures.items ∙ ap (λ l. l ++ given.result.1 ∷ []) i.seats ∙ ap (λ s. map seat_of (map finished_of more) ++ s ∷ []) given.ensures.seat
           ∙ sym (ap (map seat_of) (map-append finished_of more (j ∷ [])) ∙ map-append seat_of (map finished_of more) (finished_of j ∷ []));
-      lines = subst (All (λ (x : Finished SeatLine). IsSeatLine g.L.Naming.opening g.L.Endpoint.path g.L.Endpoint.limit x.transport)) (sym (map-append finished_of more (j ∷ [])))
-          (All-push (λ (x : Finished SeatLine). IsSeatLine g.L.Naming.opening g.L.Endpoint.path g.L.Endpoint.limit x.transport) (map finished_of more) (finished_of j) i.lines given.ensures.line);
+      lines = subst (All (λ (x : Finished SeatLine). IsSeatLine g.L.HeadNaming.opening g.L.Endpoint.path g.L.Endpoint.limit x.transport)) (sym (map-append finished_of more (j ∷ [])))
+          (All-push (λ (x : Finished SeatLine). IsSeatLine g.L.HeadNaming.opening g.L.Endpoint.path g.L.Endpoint.limit x.transport) (map finished_of more) (finished_of j) i.lines given.ensures.line);
       left = i.left ∙ ap (λ l. more ++ l) step.0 ∙ sym (append_assoc more (j ∷ []) _);
       counted = omega (arith, i.counted, step.1, ap length step.0);
     }
@@ -57,4 +57,4 @@ returns-clause-lines g c =
     let i = c.loop-shard.invariant in
     let none = nil_from_length _ (sym i.counted ∙ c.in-None.ensures.steps.0) in
     let whole = i.left ∙ ap (λ l. c.loop-shard.yielded ++ l) none ∙ append-nil c.loop-shard.yielded in
-    subst (λ js. All (λ (x : Finished SeatLine). IsSeatLine g.L.Naming.opening g.L.Endpoint.path g.L.Endpoint.limit x.transport) (map finished_of js)) (sym whole) i.lines
+    subst (λ js. All (λ (x : Finished SeatLine). IsSeatLine g.L.HeadNaming.opening g.L.Endpoint.path g.L.Endpoint.limit x.transport) (map finished_of js)) (sym whole) i.lines

@@ -13,7 +13,7 @@ invariant-loop-shard g l = record {
   seat_room : length l.seats.items + into_iter_len l.shard-iterator ≤ vec_capacity l.seats;
   parts : l.parts.items ≡ l.fn.dropped ∷ map part_of l.yielded;
   seats : l.seats.items ≡ map seat_of (map finished_of l.yielded);
-  lines : All (λ (f : Finished SeatLine). IsSeatLine g.L.Naming.opening g.L.Endpoint.path g.L.Endpoint.limit f.transport) (map finished_of l.yielded);
+  lines : All (λ (f : Finished SeatLine). IsSeatLine g.L.HeadNaming.opening g.L.Endpoint.path g.L.Endpoint.limit f.transport) (map finished_of l.yielded);
   left : l.fn.shards.items ≡ l.yielded ++ into_iter_items l.shard-iterator;
   counted : into_iter_len l.shard-iterator ≡ length (into_iter_items l.shard-iterator);
 }

@@ -12,7 +12,7 @@ feed_all-fed-requires-clause-read g c = λ lifetimes live. read_begun c.in_ok-sh
 pub returns : goal.returns
 returns g c =
     let was = c.in_ok-shipper in
-    let opening = g.L.Naming.opening in
+    let opening = g.L.HeadNaming.opening in
     let path = g.L.Endpoint.path in
     let limit = g.L.Endpoint.limit in
     let now = c.feed_all-fed.new.shipper in

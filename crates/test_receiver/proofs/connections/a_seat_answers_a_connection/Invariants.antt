@@ -4,8 +4,8 @@ use Rattle.test_receiver.proofs.connections.a_seat_answers_a_connection.Given as
 abbrev pub ghosts-answered-L-Ledger : goal.ghosts-answered-L-Ledger
 ghosts-answered-L-Ledger g a = record { name = a.blank.name; parts = a.blank.parts }
 
-abbrev pub ghosts-answered-L-Naming : goal.ghosts-answered-L-Naming
-ghosts-answered-L-Naming g a = record { opening = a.head; table = a.blank.table }
+abbrev pub ghosts-answered-L-HeadNaming : goal.ghosts-answered-L-HeadNaming
+ghosts-answered-L-HeadNaming g a = record { opening = a.head; table = a.blank.table }
 
 abbrev pub ghosts-answered-L-Holding : goal.ghosts-answered-L-Holding
 ghosts-answered-L-Holding g a = record { first = Some a.head }

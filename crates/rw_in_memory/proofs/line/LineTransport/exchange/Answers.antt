@@ -9,5 +9,5 @@ invariant_of-self g c = λ made.
     let path = g.L.Endpoint.path in
     let seen = c.self.inside.seen in
     let grown = c.note.ensures in
-    subst (λ xs. IsSeatOf path g.L.Endpoint.limit g.L.Naming.opening xs c.ask-status.new.asker.seat) (sym grown)
-    (line-next g.L.Naming.opening path g.L.Endpoint.limit seen c.self.inside.asker.seat c.ask-status.new.asker.seat c.args.request.now c.answer_of-answer.result c.ask-status.result c.self.invariant c.ask-status.ensures c.answer_of-answer.ensures (subst (AreMade path) grown made))
+    subst (λ xs. IsSeatOf path g.L.Endpoint.limit g.L.HeadNaming.opening xs c.ask-status.new.asker.seat) (sym grown)
+    (line-next g.L.HeadNaming.opening path g.L.Endpoint.limit seen c.self.inside.asker.seat c.ask-status.new.asker.seat c.args.request.now c.answer_of-answer.result c.ask-status.result c.self.invariant c.ask-status.ensures c.answer_of-answer.ensures (subst (AreMade path) grown made))

@@ -1,7 +1,7 @@
 use Rattle.std.proofs.Common.{◌≡◌, ℕ, ◌∙◌, ◌<◌, Some, slice_get, rules, arith, List, [], ◌∷◌, ◌++◌, length, length-append, append_assoc, append-nil, subst, sym, ap}
 use Rattle.std.proofs.lemmas.List.{nil_from_length}
 use Rattle.std.proofs.lemmas.List.Sums.{sum_by_push}
-use Rattle.rw_recv_head.specs.declared.questions.Known.{Known}
+use Rattle.rw_recv_head.specs.declared.questions.PassState.{PassState}
 use Rattle.rw_recv_head.specs.declared.question.Question.{Question}
 use Rattle.rw_recv_head.specs.Seats.{bodies_of, store_after, Seated, HasAdmitted, Opening}
 use Rattle.rw_recv_head.specs.inner.Questions.{Sight, IsSeat}
@@ -31,14 +31,14 @@ loop-seat-preserved g c =
     let seat = c.in-Some.seat in record {
       parts = omega (arith, i.parts, m.parts, s.parts, length-append more (c.in-Some.seat ∷ []));
       amount = omega (arith, i.amount, m.amount, s.amount, sum_by_push (λ (t : Seated). t.stored) more c.in-Some.seat);
-      asked = ap (λ (k : Known). k.asked) t.questions ∙ i.asked;
-      given = ap (λ (k : Known). k.given) t.questions ∙ i.given;
+      asked = ap (λ (k : PassState). k.asked) t.questions ∙ i.asked;
+      given = ap (λ (k : PassState). k.given) t.questions ∙ i.given;
       left = i.left ∙ ap (λ l. more ++ l) step.0 ∙ sym (append_assoc more (c.in-Some.seat ∷ []) _);
       counted = omega (arith, i.counted, step.1, ap length step.0);
       back =
           let known = c.loop-seat.questions in
           let is = t.questions ∙ ap (λ (x : Sight). record known { back = x.number ∷ known.back }) s.seen in
-          subst (λ (k : Known). AreBack k (more ++ seat ∷ [])) (sym is)
+          subst (λ (k : PassState). AreBack k (more ++ seat ∷ [])) (sym is)
           (one_more_back known more seat i.back (subst (λ (x : Sight). IsSeat known x.number x.asked) s.seen t.is_seat));
     }
 

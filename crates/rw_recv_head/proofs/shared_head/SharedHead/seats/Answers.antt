@@ -1,7 +1,7 @@
 use Rattle.std.proofs.Common.{◌≡◌, ℕ, ◌+◌, ◌∙◌, [], Some, slice_get, rules, subst, sym, ap}
 use Rattle.rw_recv_head.specs.Seats.{Seated}
 use Rattle.rw_recv_head.specs.inner.Questions.{Sight}
-use Rattle.rw_recv_head.specs.declared.questions.Known.{Known}
+use Rattle.rw_recv_head.specs.declared.questions.PassState.{PassState}
 use Rattle.rw_recv_head.proofs.GatheringLemmas.{numbered_more}
 use Rattle.rw_recv_head.proofs.shared_head.SharedHead.seats.Goals as goal
 
@@ -13,10 +13,10 @@ loop-k-preserved g c =
       room = search rules;
       parts = search rules;
       amount = search rules;
-      questions = gave.questions ∙ ap (λ (k : Known). record k { given = k.given + 1 }) i.questions;
+      questions = gave.questions ∙ ap (λ (k : PassState). record k { given = k.given + 1 }) i.questions;
       numbered =
           let is = c.new.ensures ∙ ap (λ (x : Sight). record { number = x.number; stored = 0; asked = x.asked }) gave.seen
-          ∙ ap (λ (k : Known). record { number = c.loop-k.k; stored = 0; asked = k.asked }) i.questions in
+          ∙ ap (λ (k : PassState). record { number = c.loop-k.k; stored = 0; asked = k.asked }) i.questions in
           subst (λ l. (k : ℕ) (s : Seated) → slice_get l k ≡ Some s → s ≡ record { number = k; stored = 0; asked = [] }) (sym c.push_reserved.ensures.items)
           (numbered_more c.loop-k.seats.items c.new.result c.loop-k.k (sym c.loop-k.seats.ok.0 ∙ i.len) is i.numbered);
       below = search rules;

@@ -1,8 +1,8 @@
 //! What a request asks for.
 
 ghost use Rattle.std.specs.Prelude.{◌≡◌, codes};
-ghost use Rattle.rw_metrics.specs.inner.Asking.{Asks, AsksForHtml, AsksForPage};
-ghost use Rattle.rw_metrics.specs.declared.asked.Asked.TheVariants as Asked;
+ghost use Rattle.rw_metrics_server.specs.Asking.{Asks, AsksForHtml, AsksForPage};
+ghost use Rattle.rw_metrics_server.specs.declared.asked.Asked.TheVariants as Asked;
 
 use httparse::Status;
 use httparse::spans::{EMPTY_HEADER_SPAN, parse_request};

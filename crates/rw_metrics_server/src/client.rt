@@ -1,8 +1,8 @@
 //! A client of the pages.
 
 use crate::asked::{Asked, wanted};
-use crate::page_source::PageSource;
 use crate::reply::write_reply;
+use rw_metrics::PageSource;
 use rw_socket::{Deadline, Timely};
 use rw_types::Std;
 use std::alloc::{AllocGlobal, Global};

@@ -1,11 +1,10 @@
 //! The replies to requests for pages.
 
 ghost use Rattle.std.specs.Prelude.{◌≡◌, IfOk};
-ghost use Rattle.rw_metrics.specs.inner.Exposition.{reply};
+ghost use Rattle.rw_metrics_server.specs.Reply.{reply};
 
 use crate::asked::Asked;
-use crate::page_source::PageSource;
-use crate::rows::push_text;
+use rw_metrics::PageSource;
 use rw_text::push_number;
 use rw_types::{Sink, write_all};
 use std::alloc::{AllocError, AllocGlobal, Global};
@@ -39,11 +38,11 @@ pub(crate) fn reply_of(alloc: Global, kind: &str, page: &[u8]) -> Result<Vec<u8>
     ensures { IfOk result (λ text. text.items ≡ reply kind.now page.now) }
 {
     let mut out = Vec::new(alloc);
-    push_text(&mut out, "HTTP/1.1 200 OK\r\nContent-Type: ")?;
-    push_text(&mut out, kind)?;
-    push_text(&mut out, "\r\nConnection: close\r\nContent-Length: ")?;
+    out.extend_from_slice("HTTP/1.1 200 OK\r\nContent-Type: ".as_bytes())?;
+    out.extend_from_slice(kind.as_bytes())?;
+    out.extend_from_slice("\r\nConnection: close\r\nContent-Length: ".as_bytes())?;
     push_number(&mut out, page.len() as u64)?;
-    push_text(&mut out, "\r\n\r\n")?;
+    out.extend_from_slice("\r\n\r\n".as_bytes())?;
     out.extend_from_slice(page)?;
     Ok(out)
 }

@@ -4,8 +4,7 @@ ghost use Rattle.std.specs.Prelude.{◌≤◌};
 ghost use Rattle.std.specs.VecDeque.{deque_len};
 
 use crate::client::Client;
-use crate::counters::Counters;
-use crate::page_source::PageSource;
+use rw_metrics::{Counters, PageSource};
 use rw_socket::{accept, limit_accepts};
 use std::alloc::{AllocGlobal, Global};
 use std::collections::VecDeque;
@@ -58,6 +57,7 @@ fn serve_each<C: Clock + Files + AllocGlobal + Copy>(
 /// Accepts a client, if one comes within a tick, and looks at all that wait.
 fn serve_round<C: Clock + Files + AllocGlobal + Copy>(
     alloc: Global,
+    host: C,
     listener: &TcpListener,
     clients: &mut VecDeque<Client<C>>,
     source: &PageSource<C>,
@@ -67,12 +67,12 @@ fn serve_round<C: Clock + Files + AllocGlobal + Copy>(
 {
     match accept(listener) {
         Ok(Some(stream)) => {
-            if let Some(client) = Client::new(source.rt, alloc, stream) {
+            if let Some(client) = Client::new(host, alloc, stream) {
                 admit(clients, client);
             }
         }
         Ok(None) => {}
-        Err(_) => thread::sleep(&source.rt, Duration::from_millis(NAP_MS)),
+        Err(_) => thread::sleep(&host, Duration::from_millis(NAP_MS)),
     }
     serve_each(alloc, clients, source);
 }
@@ -89,14 +89,10 @@ pub fn serve_metrics<C: Clock + Files + AllocGlobal + Copy>(
     counters: Counters,
     version: String,
 ) {
-    let source = PageSource {
-        rt: host,
-        counters,
-        version,
-    };
+    let source = PageSource::new(host, counters, version);
     let _ = limit_accepts(listener, Duration::from_millis(TICK_MS));
     let mut clients = VecDeque::new(alloc);
     for _ in 0..u64::MAX {
-        serve_round(alloc, listener, &mut clients, &source);
+        serve_round(alloc, host, listener, &mut clients, &source);
     }
 }
