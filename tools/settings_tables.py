@@ -20,6 +20,7 @@ KINDS = {
     "Names": ("`legacy`", "`legacy` or `utf8`"),
     "Switch": ("`false`", "`true` or `false`"),
     "Action": ("required", "`keep` or `drop`"),
+    "Fields": ("none", "a table of names and values"),
     "Labels": ("required", "a list of strings, at least one"),
 }
 KEY = re.compile(r'((?:^/// .*\n)+)^pub\(crate\) const (\w+): Key =\s+Key\(\s*"(\w+)",\s*Kind::(\w+)(?:\(([\d_, ]+)\))?,?\s*\);', re.M)

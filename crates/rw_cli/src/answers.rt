@@ -51,6 +51,18 @@ pub(crate) fn span_ms(text: &str) -> Option<u64> {
     Some(count as u64 * unit_ms)
 }
 
+/// Returns the milliseconds of a time: a number of seconds, as `30s`, or a span as `span_ms` reads
+/// it. `None` if the text is no such time, or its number is 0.
+pub(crate) fn time_ms(text: &str) -> Option<u64> {
+    let Some(seconds) = text.strip_suffix("s") else {
+        return span_ms(text);
+    };
+    match seconds.parse::<u32>() {
+        Ok(count) if count > 0 => Some(count as u64 * 1_000),
+        _ => None,
+    }
+}
+
 /// Returns the folder with a log that an option gives.
 pub(crate) fn dir_of<'a>(options: &ArgMatches<'a>) -> Option<LogDir<'a>> {
     let path = options.get_str("dir")?;

@@ -105,7 +105,7 @@ dropped, with --fail-on-skip if records were skipped that may hold samples, with
 --fail-on-empty if DIR has no segment, with --fail-on-gap if a segment is missing
 between two; 2 for bad options or settings; 3 out of memory; 4 if a file, the
 look-up of HOST or standard output failed, if a segment is missing with --follow
-or --checkpoint, after a line 'hard', or with --stop-on-refusal.";
+or --checkpoint, after a line 'hard', or with --stop-on-refusal or --give-up.";
 
 pub(crate) const RECEIVE: &str = "\
 Example:

@@ -9,7 +9,7 @@ mod receiver_url;
 mod send;
 mod table;
 
-use answers::{dir_of, is_url, number_of, settings_of, span_ms};
+use answers::{dir_of, is_url, number_of, settings_of, span_ms, time_ms};
 use clap::ArgMatches;
 pub use commands::{VERSION, command_line};
 use receive::receive_task;
@@ -112,6 +112,8 @@ pub struct Sending<'a> {
     /// Whether it stops if the receiver refuses the first batch that it answers as it would refuse
     /// all others.
     pub stops_on_refusal: bool,
+    /// After how many milliseconds of the same failure it stops, if it does.
+    pub give_up_ms: Option<u64>,
     /// The most bytes of a batch's body, or `None` for no limit.
     pub max_batch_bytes: Option<u64>,
     /// Whether bodies are sent as Snappy blocks, whatever the settings say.
@@ -127,8 +129,15 @@ pub struct Receiving<'a> {
     pub idle_ms: Bounded<10, 3_600_000>,
     /// How many milliseconds a request may take, and a reply; one more for each byte of a request.
     pub request_ms: Bounded<10, 3_600_000>,
+    /// How many milliseconds a request may take, however many bytes of it have come; none for no
+    /// such limit.
+    pub max_request_ms: Option<u64>,
+    /// How many bytes of unfinished requests may be in memory; none for no limit.
+    pub max_inflight_bytes: Option<u64>,
     /// Whether bodies with `Content-Encoding: snappy` are taken, whatever the settings say.
     pub takes_snappy: bool,
+    /// Whether of a request that is refused as a whole the samples are taken that can be.
+    pub takes_parts: bool,
     /// How many samples may be held; none for no limit.
     pub max_samples: Option<u64>,
     /// How many series they may be of; none for no limit.
@@ -137,6 +146,8 @@ pub struct Receiving<'a> {
     pub dir: Option<&'a str>,
     /// Whether what is held is not printed at the end.
     pub is_quiet: bool,
+    /// Whether values are printed as decimals.
+    pub has_decimals: bool,
     /// For how many milliseconds samples stay in memory; none for all of them.
     pub memory_ms: Option<u64>,
     /// Whether it stops once a write to that folder has failed.
@@ -166,6 +177,8 @@ pub enum Task<'a> {
         hex: bool,
         pages: Bounded<1, 4096>,
         dir: Option<&'a str>,
+        /// Whether values may be decimals.
+        has_decimals: bool,
         /// Whether the fault of a line is explained.
         is_explained: bool,
     },
@@ -239,13 +252,19 @@ pub fn bad_address<'a>(words: &ArgMatches<'a>) -> Option<(&'static str, &'a str)
     bad_option(options)
 }
 
-/// Returns the value of `--memory` that is not a valid span of time, if the arguments have one.
-pub fn bad_span<'a>(words: &ArgMatches<'a>) -> Option<&'a str> {
+/// Returns the option and the value that is not a valid span of time, if the arguments have one.
+pub fn bad_span<'a>(words: &ArgMatches<'a>) -> Option<(&'static str, &'a str)> {
     let (_, options) = words.subcommand()?;
-    let text = options.get_str("memory")?;
-    match span_ms(text) {
+    if let Some(text) = options.get_str("memory") {
+        return match span_ms(text) {
+            Some(_) => None,
+            None => Some(("memory", text)),
+        };
+    }
+    let text = options.get_str("give-up")?;
+    match time_ms(text) {
         Some(_) => None,
-        None => Some(text),
+        None => Some(("give-up", text)),
     }
 }
 
@@ -284,6 +303,7 @@ fn log_task<'a>(options: &ArgMatches<'a>, is_explained: bool) -> Option<Task<'a>
         hex: options.get_flag("hex"),
         pages: number_of(options, "pages")?,
         dir: options.get_str("dir"),
+        has_decimals: options.get_flag("decimal"),
         is_explained,
     })
 }

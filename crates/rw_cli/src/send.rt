@@ -1,6 +1,6 @@
 //! The arguments of the command `send`.
 
-use crate::answers::{dir_of, number_of, receiver_of, reporting_of};
+use crate::answers::{dir_of, number_of, receiver_of, reporting_of, time_ms};
 use crate::{Following, ReadExtent, Sending, SettingsFile, Task};
 use clap::ArgMatches;
 
@@ -31,6 +31,10 @@ pub(crate) fn send_task<'a>(
     let Some(reporting) = reporting_of(options) else {
         return None;
     };
+    let give_up_ms = match options.get_str("give-up") {
+        Some(time) => Some(time_ms(time)?),
+        None => None,
+    };
     Some(Task::Send {
         settings,
         sending: Sending {
@@ -43,6 +47,7 @@ pub(crate) fn send_task<'a>(
             fails_on_gap: options.get_flag("fail-on-gap"),
             fails_on_skip: options.get_flag("fail-on-skip"),
             stops_on_refusal: options.get_flag("stop-on-refusal"),
+            give_up_ms,
             max_batch_bytes: options.get_one::<u64>("max-batch-bytes"),
             sends_snappy: options.get_flag("snappy"),
         },

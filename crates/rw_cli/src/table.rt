@@ -101,6 +101,13 @@ const WAL_COMPRESSION: Opt = Opt {
     help: "Read records that are compressed by Snappy, as\nPrometheus writes them by default",
 };
 
+const DECIMAL: Opt = Opt {
+    name: "decimal",
+    takes: Takes::Nothing,
+    bonds: &[],
+    help: "Read values as decimals, too, as 0.25 or 1.5e-7",
+};
+
 const PROGRESS: Opt = Opt {
     name: "progress",
     takes: Takes::Nothing,
@@ -151,6 +158,7 @@ static LOG: Words = Words {
             bonds: &[],
             help: "Write numbered segment files into this folder",
         },
+        DECIMAL,
         EXPLAIN_INPUT,
     ],
 };
@@ -333,6 +341,12 @@ static SEND: Words = Words {
             help: "Stop with status 4 if the receiver answers 400, 401,\n403, 404, 405 or 415 before it takes a batch",
         },
         Opt {
+            name: "give-up",
+            takes: Takes::Text("TIME"),
+            bonds: &[],
+            help: "Stop with status 4 if the receiver answers a batch\nwith the same 5xx and text for TIME, as 10m or 1h",
+        },
+        Opt {
             name: "max-batch-bytes",
             takes: Takes::Number(1, 1_099_511_627_776),
             bonds: &[],
@@ -401,10 +415,28 @@ static RECEIVE: Words = Words {
             help: "Close a connection whose request takes longer than\nN milliseconds plus 1 for each byte, 10 to\n3600000",
         },
         Opt {
+            name: "max-request-ms",
+            takes: Takes::Number(10, 86_400_000),
+            bonds: &[],
+            help: "Close it after N milliseconds however many bytes\nhave come, 10 to 86400000; 3600000 with --until-eof",
+        },
+        Opt {
+            name: "max-inflight-bytes",
+            takes: Takes::Number(65_536, 1_099_511_627_776),
+            bonds: &[],
+            help: "Have at most N bytes of unfinished requests in\nmemory: close those that began first, 65536 to\n1099511627776; 268435456 with --until-eof",
+        },
+        Opt {
             name: "snappy",
             takes: Takes::Nothing,
             bonds: &[],
             help: "Take bodies with Content-Encoding: snappy, too, as\nPrometheus sends them",
+        },
+        Opt {
+            name: "partial",
+            takes: Takes::Nothing,
+            bonds: &[],
+            help: "Of a request with samples that cannot be taken,\ntake the others; it is answered with 400",
         },
         Opt {
             name: "max-samples",
@@ -429,6 +461,12 @@ static RECEIVE: Words = Words {
             takes: Takes::Nothing,
             bonds: &[Bond::Needs("dir")],
             help: "With --dir: do not print at the end what is held",
+        },
+        Opt {
+            name: "decimal",
+            takes: Takes::Nothing,
+            bonds: &[Bond::Excludes("quiet")],
+            help: "Print values as decimals, as 0.25 or 1.5e-7",
         },
         Opt {
             name: "memory",

@@ -5,6 +5,7 @@ pub mod ForgottenLemmas
 pub mod KeyLemmas
 pub mod NameLemmas
 pub mod NotedLemmas
+pub mod PartialLemmas
 pub mod PartLemmas
 pub mod PlaceLemmas
 pub mod PlacedLemmas

@@ -45,7 +45,7 @@ unless-more l p q s next (Some v) e = absurd cc
 unless-more l p q s next None e = ap (accepted l s) (accept-parts (Some (list_of s l)) p q) ∙ accepted-more l (points q) s next (accept (Some (list_of s l)) (points p)) e
 
 -- what is taken in two parts is taken at once
-taken-more : (limits : LabelLimits) (l : Labels) (p q : List Sample) (s next : Store) → taken limits s (record { labels = l; samples = p }) ≡ Ok next
+pub taken-more : (limits : LabelLimits) (l : Labels) (p q : List Sample) (s next : Store) → taken limits s (record { labels = l; samples = p }) ≡ Ok next
     → taken limits s (record { labels = l; samples = p ++ q }) ≡ taken limits next (record { labels = l; samples = q })
 taken-more limits l p q s next e = unless-more l p q s next (refusal limits l) e
 
@@ -58,7 +58,7 @@ unless-bad l p q s (Some w) v e = e
 unless-bad l p q s None v e = ap (accepted l s) (accept-parts (Some (list_of s l)) p q) ∙ accepted-bad l (points q) s (accept (Some (list_of s l)) (points p)) v e
 
 -- and what is refused stays refused, whatever follows
-taken-bad : (limits : LabelLimits) (l : Labels) (p q : List Sample) (s : Store) (v : Verdict) → taken limits s (record { labels = l; samples = p }) ≡ Err v → taken limits s (record { labels = l; samples = p ++ q }) ≡ Err v
+pub taken-bad : (limits : LabelLimits) (l : Labels) (p q : List Sample) (s : Store) (v : Verdict) → taken limits s (record { labels = l; samples = p }) ≡ Err v → taken limits s (record { labels = l; samples = p ++ q }) ≡ Err v
 taken-bad limits l p q s v e = unless-bad l p q s (refusal limits l) v e
 
 -- ---- a series of which a part was staged, and the rest is still to be read

@@ -1,5 +1,5 @@
 -- A table after a series was staged: in the list of its label set, or in a new one.
-use Rattle.std.proofs.Common.{◌≡◌, ℕ, ◌+◌, ◌<◌, ◌≤◌, ◌^◌, Result, Ok, List, [], length, get_or, Bool, true, false, nat_eq, eqb-true, Some, None, refl, sym, ◌∙◌, ap, subst, arith}
+use Rattle.std.proofs.Common.{◌≡◌, ℕ, ◌+◌, ◌<◌, ◌≤◌, ◌^◌, Result, Ok, List, [], length, get_or, set, OnErr, Err, Bool, true, false, nat_eq, eqb-true, Some, None, refl, sym, ◌∙◌, ap, subst, arith}
 use Rattle.std.proofs.lemmas.List.{length-map}
 use Rattle.std.specs.BTreeMap.{get}
 use Rattle.rw_types.specs.Labels.{Labels}
@@ -10,9 +10,9 @@ use Rattle.rw_head.specs.Store.{Store, list_of, with_list}
 use Rattle.rw_head.specs.declared.verdict.Verdict.{Verdict}
 use Rattle.rw_head.specs.Verdicts.{accepted}
 use Rattle.rw_head.specs.Lists.{Lists, no_lists, has_samples}
-use Rattle.rw_head.specs.inner.Lists.{IsStagedAt, IsAdded, ListGives, StoreGives, IsSound, kept_store, staged_store}
+use Rattle.rw_head.specs.inner.Lists.{IsStagedAt, IsAdded, ListGives, StoreGives, IsSound, HasPlaces, kept_store, staged_store}
 use Rattle.rw_head.proofs.PlaceLemmas.{Index, IsSound-added, staged_at, staged_nowhere, staged-set, kept-set, kept-added, staged-added}
-use Rattle.rw_head.proofs.shared.StagingLemmas.{IsSound-staged, StoreGives-list}
+use Rattle.rw_head.proofs.shared.StagingLemmas.{IsSound-staged, StoreGives-list, staged-same}
 
 -- It holds what it held, and these points of a label set were staged over what was staged.
 pub record Holds (before index : Index) (lists news : List Lists) (touched : List ℕ) (fresh : List Labels) (count staged : ℕ) (r : Result (Unit {0}) Verdict) (l : Labels) (points : List Point) (s : Store) : Type 0 where
@@ -52,6 +52,15 @@ held_in {before} {index} {new} {lists} {news} {touched} {noted} {fresh} {named} 
       kept = ap (kept_store new.entries) add.list ∙ kept-added lists index new l x now.places absent none add.place ∙ ap (λ (t : Index). kept_store t.entries lists) same;
       gives = ap (accepted l s) (ap (λ (xs : List Point). accept (Some xs) points) empty ∙ gives) ∙ ap Ok (sym after);
     }
+
+-- Nothing was staged in the list of a label set, if it was refused.
+pub held_same : {before index : Index} {lists news : List Lists} {n : ℕ} {s : Store} (r : Result (Unit {0}) Verdict) (l : Labels) → index ≡ before → HasPlaces before lists
+    → staged_store before.entries lists ≡ s → get labels_cmp before l ≡ Some n → news ≡ set lists n (get_or news n no_lists)
+    → OnErr r ((get_or news n no_lists).staged ≡ (get_or lists n no_lists).staged) → OnErr r (staged_store index.entries news ≡ s)
+held_same (Ok u) l same places view at list h = tt
+held_same {before} {index} {lists} {news} {n} {s} (Err v) l same places view at list h =
+    ap (λ (t : Index). staged_store t.entries news) same ∙ ap (staged_store before.entries) list ∙ staged-set before lists l n (get_or news n no_lists) places at
+    ∙ ap (λ (xs : List Point). with_list l xs (staged_store before.entries lists)) (h ∙ sym (staged_at before lists l n at)) ∙ staged-same before lists l ∙ view
 
 -- a number that is not zero
 pub is_some : (n : ℕ) → 0 < n → false ≡ nat_eq n 0

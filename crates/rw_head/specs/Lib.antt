@@ -7,6 +7,7 @@ pub mod Growth
 pub mod Head
 pub mod Lists
 pub mod Order
+pub mod Partial
 pub mod Placed
 pub mod Staged
 pub mod Store

@@ -6,6 +6,7 @@ pub mod Growth
 pub mod Keys
 pub mod Lists
 pub mod Names
+pub mod Partial
 pub mod Placed
 pub mod Staged
 pub mod Texts

@@ -1,13 +1,16 @@
 //! Laws of the store of a head. Each function has an empty body: its contract is the law.
 
-ghost use Rattle.std.specs.Prelude.{◌≡◌, pos, List, [], ◌++◌, true, None, Some, if◌then◌else◌};
+ghost use Rattle.std.specs.Prelude.{◌≡◌, pos, List, [], ◌++◌, true, None, Some, Ok, if◌then◌else◌};
 ghost use Rattle.std.specs.FinMap.{empty};
 ghost use Rattle.rw_types.specs.Labels.{Labels};
 ghost use Rattle.rw_types.specs.LabelOrder.{labels_eq};
 ghost use Rattle.rw_head.specs.Forgetting.{example_gone, example_left, with_gone};
 ghost use Rattle.rw_head.specs.Lists.{IsEarlier};
 ghost use Rattle.rw_head.specs.Order.{Point, is_later, accept_one};
+ghost use Rattle.rw_head.specs.Partial.{takeable, store_by_samples};
+ghost use Rattle.rw_head.specs.Verdicts.{LabelLimits, taken_all};
 ghost use Rattle.rw_types.specs.Rising.{Rises};
+ghost use Rattle.rw_write_request.specs.Message.{WriteRequest};
 ghost use Rattle.rw_head.specs.Store.{Store, list_of, with_list, HasNoEmptyList};
 
 /// Law: a store is a list of samples for each label set. A change concerns one label set alone, and
@@ -33,6 +36,21 @@ pub fn what_can_be_judged()
     ensures { (gone held : List Point) (s : Point) → Rises IsEarlier (gone ++ held)
         → is_later s.0 gone ≡ true
         → accept_one (gone ++ held) s ≡ with_gone gone (accept_one held s) }
+{}
+
+/// Law: what a head can take of a message it takes whole, and then it holds what a head holds that
+/// was asked for the samples one by one. It is the message itself exactly if the head takes that
+/// whole.
+pub fn what_can_be_taken_is_taken()
+    ensures taken { (limits : LabelLimits) (store : Store) (m : WriteRequest)
+        → HasNoEmptyList store → taken_all limits (Ok store) (takeable limits store m)
+        ≡ Ok (store_by_samples limits store m) }
+    ensures whole { (limits : LabelLimits) (store next : Store) (m : WriteRequest)
+        → HasNoEmptyList store → taken_all limits (Ok store) m ≡ Ok next
+        → takeable limits store m ≡ m }
+    ensures only { (limits : LabelLimits) (store : Store) (m : WriteRequest)
+        → HasNoEmptyList store → takeable limits store m ≡ m
+        → taken_all limits (Ok store) m ≡ Ok (store_by_samples limits store m) }
 {}
 
 /// Law: of three samples at 10, 20 and 30 the first two are gone. One at 40 is appended, that at 30

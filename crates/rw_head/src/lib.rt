@@ -18,6 +18,7 @@ mod limits;
 mod memory;
 mod memory_bound;
 mod name;
+mod partial;
 mod place;
 mod placed_head;
 mod places;
@@ -35,7 +36,7 @@ pub use in_memory::InMemory;
 pub use label_sets::LabelSets;
 pub use laws::{
     stores_are_lists, stores_hold_no_empty_list, three_samples_of_which_two_are_gone,
-    what_can_be_judged,
+    what_can_be_judged, what_can_be_taken_is_taken,
 };
 pub use limits::Limits;
 pub use memory::{AllSamples, Memory, RecentSamples};

@@ -1,6 +1,6 @@
 //! The samples of one series.
 
-ghost use Rattle.std.specs.Prelude.{◌≡◌, ◌≢◌, ◌⊎◌, ◌+◌, ◌^◌, ◌<◌, ◌≤◌, [], true, false, None, Some, Err, IfOk, IfErr, OnOk, IsTrue, length, map};
+ghost use Rattle.std.specs.Prelude.{◌≡◌, ◌≢◌, ◌⊎◌, ◌+◌, ◌^◌, ◌<◌, ◌≤◌, [], true, false, None, Some, Err, IfOk, IfErr, OnOk, OnErr, IsTrue, length, map};
 ghost use Rattle.rw_head.specs.Order.{points, is_later, accept_one, accept};
 ghost use Rattle.rw_types.specs.Beginnings.{Begins};
 ghost use Rattle.rw_head.specs.Lists.{no_lists, has_samples, more_of};
@@ -92,6 +92,7 @@ impl SampleList {
         ensures few { length self.new.staged ≤ length self.old.staged + 1 }
         ensures memory { result ≡ Err NoMemory
             → (is_later t self.old.staged ≡ true) ⊎ (is_later t self.old.gone ≡ false) }
+        ensures same { OnErr result (self.new.staged ≡ self.old.staged) }
     {
         if !self.gone.is_later(t) {
             self.asked = true;
@@ -107,7 +108,8 @@ impl SampleList {
         Err(Verdict::OutOfOrder)
     }
 
-    /// Stages samples, one after the other, up to the first that is refused.
+    /// Stages samples, one after the other, up to the first that is refused. If that is the only
+    /// one, nothing changes.
     pub(crate) fn stage_all(&mut self, samples: &[(Word, i64)]) -> Result<(), Verdict>
         requires { length self.old.staged + length samples.now ≤ 2 ^ 60 }
         ensures gone { self.new.gone ≡ self.old.gone }
@@ -116,6 +118,8 @@ impl SampleList {
             (accept (Some self.old.staged) (points samples.now)) self.new.staged }
         ensures grown { length self.old.staged ≤ length self.new.staged }
         ensures few { length self.new.staged ≤ length self.old.staged + length samples.now }
+        ensures same { length samples.now ≤ 1
+            → OnErr result (self.new.staged ≡ self.old.staged) }
     {
         for sample in samples {
             self.stage(sample.1, sample.0)?;

@@ -1,6 +1,6 @@
 //! The lists of all label sets, and what a message would make of them.
 
-ghost use Rattle.std.specs.Prelude.{◌≡◌, ◌≢◌, ◌↔◌, ◌+◌, ◌-◌, ◌^◌, ◌<◌, ◌≤◌, [], ℕ, length, true, false, None, Some, IsTrue, IfOk, IfSome, map, slice_index_or, slice_set, vec_len, vec_capacity};
+ghost use Rattle.std.specs.Prelude.{◌≡◌, ◌≢◌, ◌↔◌, ◌+◌, ◌-◌, ◌^◌, ◌<◌, ◌≤◌, [], ℕ, length, true, false, None, Some, IsTrue, IfOk, OnErr, IfSome, map, slice_index_or, slice_set, vec_len, vec_capacity};
 ghost use Rattle.rw_types.specs.Beginnings.{Begins};
 ghost use Rattle.rw_types.specs.Labels.{text_label};
 ghost use Rattle.std.specs.BTreeMap.{get};
@@ -111,6 +111,9 @@ fn stage_at(
         ≤ length (slice_index_or lists.new.items place no_lists).staged }
     ensures few { length (slice_index_or lists.new.items place no_lists).staged
         ≤ length (slice_index_or lists.old.items place no_lists).staged + length samples.now }
+    ensures same { length samples.now ≤ 1
+        → OnErr result ((slice_index_or lists.new.items place no_lists).staged
+        ≡ (slice_index_or lists.old.items place no_lists).staged) }
 {
     lists[place].stage_all(samples)
 }
@@ -156,6 +159,9 @@ fn stage_held(
         (accept (Some (slice_index_or lists.old.items place no_lists).staged)
         (points samples.now)) (slice_index_or lists.new.items place no_lists).staged }
     ensures few { count.new ≤ count.old + length samples.now }
+    ensures same { length samples.now ≤ 1
+        → OnErr result ((slice_index_or lists.new.items place no_lists).staged
+        ≡ (slice_index_or lists.old.items place no_lists).staged) }
 {
     let before = staged_count(lists, place);
     let outcome = stage_at(lists, place, samples);
@@ -285,6 +291,8 @@ impl Table {
         ensures staged { StoreGives result
             (accepted name self.old.staged
             (accept (Some (list_of self.old.staged name)) (points samples.now))) self.new.staged }
+        ensures same { length samples.now ≤ 1
+            → OnErr result (self.new.staged ≡ self.old.staged) }
         ensures placed { self.new.placed ≡ self.old.placed }
         ensures forgets { self.new.forgets ≡ self.old.forgets }
     {
@@ -311,7 +319,7 @@ impl Table {
     }
 
     /// Stages a series: its labels are judged, and then its samples, one after the other, up to the
-    /// first that is refused.
+    /// first that is refused. If that is the only one, nothing changes.
     pub(crate) fn stage(
         &mut self,
         bounds: &LabelBounds,
@@ -322,6 +330,8 @@ impl Table {
         ensures kept { self.new.kept ≡ self.old.kept }
         ensures staged { StoreGives result (taken bounds.now self.old.staged
             (record { labels = labels_of texts.entry; samples = samples.now })) self.new.staged }
+        ensures same { length samples.now ≤ 1
+            → OnErr result (self.new.staged ≡ self.old.staged) }
         ensures placed { self.new.placed ≡ self.old.placed }
         ensures forgets { self.new.forgets ≡ self.old.forgets }
     {

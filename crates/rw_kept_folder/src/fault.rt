@@ -29,6 +29,8 @@ pub enum FaultCause {
     NoPermission,
     DiskFull,
     ReadOnly,
+    /// The process, or the machine, has as many open files as it may.
+    TooManyFiles,
     /// A file that was to be created exists.
     Exists,
     /// The last segment is no longer in its place: it was removed or renamed, or its folder was.
@@ -45,6 +47,12 @@ pub struct FailedCall {
     pub cause: FaultCause,
 }
 
+/// Returns whether no file can be opened, since as many are open as the process (EMFILE) or the
+/// machine (ENFILE) may have.
+fn is_file_limit(error: &io::Error) -> bool {
+    matches!(error.raw_os_error(), Some(23 | 24))
+}
+
 /// Returns the cause that an error of the operating system names.
 pub(crate) fn cause_of(error: &io::Error) -> FaultCause {
     match error.kind() {
@@ -55,6 +63,7 @@ pub(crate) fn cause_of(error: &io::Error) -> FaultCause {
         ErrorKind::StorageFull | ErrorKind::QuotaExceeded => FaultCause::DiskFull,
         ErrorKind::ReadOnlyFilesystem => FaultCause::ReadOnly,
         ErrorKind::AlreadyExists => FaultCause::Exists,
+        _ if is_file_limit(error) => FaultCause::TooManyFiles,
         _ => FaultCause::Other,
     }
 }
@@ -85,6 +94,7 @@ impl fmt::Display for FaultCause {
             FaultCause::NoPermission => "permission denied",
             FaultCause::DiskFull => "no space left on the device",
             FaultCause::ReadOnly => "the file system is read-only",
+            FaultCause::TooManyFiles => "too many files are open",
             FaultCause::Exists => "the file exists",
             FaultCause::Removed => "the file was removed or renamed",
             FaultCause::Other => "the device failed",

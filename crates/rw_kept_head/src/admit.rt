@@ -4,6 +4,8 @@ use crate::kept_head::KeptHead;
 use rw_head::{Admission, Capacity, Head, InMemory, Memory};
 use rw_kept_log::Journal;
 use rw_recv_head::{Admit, Show};
+use rw_write_request::Message;
+use std::alloc::AllocError;
 
 impl<J: Journal, M: Memory> Admit for KeptHead<J, M> {
     ghost use Rattle.rw_kept_head.specs.Answered.{IsKeptAnswer};
@@ -14,6 +16,10 @@ impl<J: Journal, M: Memory> Admit for KeptHead<J, M> {
 
     fn admit(&mut self, body: &[u8], capacity: &Capacity) -> Admission {
         KeptHead::admit(self, body, capacity)
+    }
+
+    fn takeable(&mut self, message: Message) -> Result<Message, AllocError> {
+        KeptHead::takeable(self, message)
     }
 
     fn forget(&mut self, before: i64) -> InMemory {

@@ -1,6 +1,6 @@
 //! A head whose log is in a journal.
 
-ghost use Rattle.std.specs.Prelude.{◌≡◌, ◌≢◌, ◌<◌, ◌≤◌, ◌⊎◌, None, Some, true};
+ghost use Rattle.std.specs.Prelude.{◌≡◌, ◌≢◌, ◌<◌, ◌≤◌, ◌⊎◌, None, Some, true, IfOk};
 ghost use Rattle.rw_types.specs.Beginnings.{Begins};
 ghost use Rattle.rw_types.specs.Labels.{Labels};
 ghost use Rattle.rw_kept_log.specs.Journal.{LeavesOnly};
@@ -10,6 +10,7 @@ ghost use Rattle.rw_head.specs.declared.capacity.Admission.TheVariants.{Full};
 ghost use Rattle.rw_head.specs.Capacity.{exceeds, status_of_admission, unlimited, StaysWithin};
 ghost use Rattle.rw_head.specs.Growth.{EachRises, HasStoredBody};
 ghost use Rattle.rw_head.specs.Head.{answer, IsStatus, SpellsMessage};
+ghost use Rattle.rw_head.specs.Partial.{takeable};
 ghost use Rattle.rw_head.specs.Store.{list_of, total};
 ghost use Rattle.rw_kept_head.specs.Kept.{ended_with, KeepsStore, IsLastWithin, IsLeft, StaysDefinedOnce};
 
@@ -17,7 +18,8 @@ use crate::admit_kept::admit_kept;
 use crate::log_writer::LogWriter;
 use rw_head::{Admission, AllSamples, Capacity, Head, InMemory, Limits, Memory};
 use rw_kept_log::{Journal, JournalError};
-use std::alloc::Global;
+use rw_write_request::Message;
+use std::alloc::{AllocError, Global};
 use std::marker::Model;
 use std::mem;
 
@@ -119,6 +121,15 @@ impl<J: Journal, M: Memory> KeptHead<J, M> {
         self.head = head;
         self.log.conforms();
         admission
+    }
+
+    /// Returns what the head can take of a message, as `Head::takeable` does. Nothing is written.
+    pub fn takeable(&mut self, message: Message) -> Result<Message, AllocError>
+        ensures same { self.new ≡ self.old }
+        ensures takeable { IfOk result (λ m. m
+            ≡ takeable self.old.head.limits self.old.head.store message) }
+    {
+        self.head.takeable(message)
     }
 
     /// Lets samples go from memory that are earlier than `before`, in milliseconds since the Unix

@@ -35,7 +35,7 @@ skipped_page s = family_text (family SKIPPED) (texts TYPES) (by_type s) []
 -- the attempts, and those that failed, by cause
 abbrev pub attempts_page : SendNumbers → List ℕ
 attempts_page n =
-    metrics_text (map metric ATTEMPTS) (shown.Count n.attempts ∷ [])
+    metrics_text (map metric ATTEMPTS) (shown.Count n.unsure ∷ shown.Count n.attempts ∷ [])
     ++ family_text (family FAILED) (texts CAUSES) (by_cause n.failures) n.failures.statuses.items
 
 abbrev pub send_page : SendNumbers → List ℕ

@@ -1,5 +1,6 @@
 //! What a receiver said of a batch that it did not take.
 
+use crate::body::reply_body;
 use std::alloc::{AllocError, Global};
 use std::sync::Mutex;
 
@@ -36,6 +37,13 @@ fn line_of(alloc: Global, bytes: &[u8]) -> Result<String, AllocError> {
         line.push(printable(*byte))?;
     }
     String::from_str(alloc, line.as_str().trim())
+}
+
+/// Returns the first 200 bytes of the body of a reply, as one line of printable characters. `reply`
+/// is what was read of it, from its head on.
+pub fn reply_text(alloc: Global, reply: &[u8]) -> Result<String, AllocError> {
+    let body = reply_body(reply);
+    line_of(alloc, &body[..body.len().min(KEPT)])
 }
 
 impl HeardText {

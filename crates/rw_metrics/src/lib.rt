@@ -35,6 +35,7 @@ mod stalls;
 
 pub use cause::Cause;
 pub use counters::Counters;
+pub use heard_text::reply_text;
 pub use lines::{drops_line, receive_line, send_line, skipped_line};
 pub use page_source::PageSource;
 pub use progress::{Screen, show_progress, write_end};

@@ -106,6 +106,11 @@ impl ReceiveCounters {
         samples
     }
 
+    /// Counts samples that were refused for this reason, of a body of which others were taken.
+    pub fn refuse_samples(&self, reason: RefusalReason, samples: u64) {
+        self.refusals.count(reason, samples);
+    }
+
     /// Counts a request that was answered without asking the head.
     pub fn answer_unasked(&self, status: u16) {
         self.statuses.count(status);

@@ -129,6 +129,8 @@ pub struct SendCounters {
     skipped: SkippedCounters,
     shards: AtomicU64,
     attempts: AtomicU64,
+    /// Samples of refused batches that the receiver may hold.
+    unsure: AtomicU64,
     failures: FailureCounters,
     heard: HeardText,
     /// Whether it is looked at what a request carries.
@@ -170,6 +172,7 @@ impl SendCounters {
             skipped: SkippedCounters::default(),
             shards: AtomicU64::new(0),
             attempts: AtomicU64::new(0),
+            unsure: AtomicU64::new(0),
             failures,
             heard: HeardText::new(),
             has_readers,
@@ -311,6 +314,17 @@ impl SendCounters {
         self.fail(Cause::Status(status));
     }
 
+    /// Counts the samples of a request that is refused, although the receiver may hold them: an
+    /// earlier attempt had no answer.
+    pub fn doubt(&self, request: &[u8]) {
+        add(&self.unsure, cargo_of(request).samples);
+    }
+
+    /// Returns how many samples of refused batches the receiver may hold.
+    pub fn unsure(&self) -> u64 {
+        read(&self.unsure)
+    }
+
     /// Keeps the first bytes of the body of a reply that did not take its batch. `reply` is what
     /// was read of it, from its head on.
     pub fn keep_reply(&self, status: u16, reply: &[u8]) {
@@ -372,6 +386,7 @@ impl SendCounters {
             skipped: self.skipped.read(),
             shards: read(&self.shards),
             attempts: read(&self.attempts),
+            unsure: read(&self.unsure),
             failures,
         })
     }

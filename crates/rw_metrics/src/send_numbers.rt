@@ -203,5 +203,8 @@ pub struct SendNumbers {
     pub shards: u64,
     /// Attempts to send a batch.
     pub attempts: u64,
+    /// Samples of refused batches that the receiver may hold, since an earlier attempt had no
+    /// answer.
+    pub unsure: u64,
     pub failures: Failures,
 }

@@ -34,8 +34,10 @@ const PROGRESS: [Metric; 16] = metrics! {
     "rwship_send_shards" "gauge" "Running shards."
 };
 
-/// The attempts.
-const ATTEMPTS: [Metric; 1] = metrics! {
+/// The attempts, and the samples of which they leave it open whether the receiver holds them.
+const ATTEMPTS: [Metric; 2] = metrics! {
+    "rwship_send_samples_unsure_total" "counter"
+        "Dropped samples that the receiver may hold: it answered 400, and had not answered an earlier attempt."
     "rwship_send_attempts_total" "counter" "Attempts to send a batch."
 };
 
@@ -117,7 +119,8 @@ fn push_attempts(out: &mut Vec<u8>, n: &SendNumbers) -> Result<(), AllocError>
     ensures { OnOk result (out.new.items ≡ out.old.items ++ attempts_page n.now) }
 {
     let failures = &n.failures;
-    push_metrics(out, &ATTEMPTS, &[Shown::Count(n.attempts)])?;
+    let counts = [Shown::Count(n.unsure), Shown::Count(n.attempts)];
+    push_metrics(out, &ATTEMPTS, &counts)?;
     push_family(
         out,
         &FAILED,

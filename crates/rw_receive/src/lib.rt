@@ -2,6 +2,7 @@
 //! is printed.
 #![tactic(auto)]
 
+mod bodies;
 mod connection;
 mod counting_seat;
 mod forgetting;
@@ -11,14 +12,18 @@ mod next_connection;
 mod pace;
 mod receive;
 mod refusal_reason;
+mod refused_part;
 mod request_trace;
 mod seat_pool;
 mod seat_request;
 mod server_context;
 mod service;
+mod take_options;
 mod timed_stream;
 mod until;
 
+pub use bodies::BodyBounds;
 pub use forgetting::now_ms;
 pub use receive::{Received, Service, run_receive, serve_and_print, serve_connections};
+pub use take_options::TakeOptions;
 pub use until::ServeUntil;

@@ -1,6 +1,6 @@
 //! How much time a request or a reply may take.
 
-ghost use Rattle.std.specs.Prelude.{◌+◌, ◌≤◌, ◌↔◌, IsTrue};
+ghost use Rattle.std.specs.Prelude.{◌+◌, ◌≤◌, ◌↔◌, IsTrue, IfSome};
 
 use std::time::{Clock, Instant};
 
@@ -15,6 +15,17 @@ pub(crate) fn is_in_time(base_ms: u64, len: u64, passed_ms: u64) -> bool
     ensures { IsTrue result ↔ (passed_ms ≤ base_ms + len) }
 {
     passed_ms <= base_ms.saturating_add(len)
+}
+
+/// Returns whether no more milliseconds have passed than a request may take at most, however many
+/// bytes of it have come.
+pub(crate) fn is_within_most(most_ms: Option<u64>, passed_ms: u64) -> bool
+    ensures { IsTrue result ↔ IfSome most_ms (λ most. passed_ms ≤ most) }
+{
+    match most_ms {
+        Some(most) => passed_ms <= most,
+        None => true,
+    }
 }
 
 /// When a request or a reply began, and how many bytes of it have come since.
@@ -48,11 +59,14 @@ impl<C: Clock + Copy> Pace<C> {
         u64::try_from(passed.as_millis()).ok()
     }
 
-    /// Returns whether it is in time: it has `base_ms` milliseconds, and one more for each byte. It
-    /// is not in time if the clock cannot be read.
-    pub(crate) fn is_within(&self, base_ms: u64) -> bool {
+    /// Returns whether it is in time: it has `base_ms` milliseconds, and one more for each byte,
+    /// but not more than `most_ms`, if there is such a limit. It is not in time if the clock cannot
+    /// be read.
+    pub(crate) fn is_within(&self, base_ms: u64, most_ms: Option<u64>) -> bool {
         match self.passed_ms() {
-            Some(passed_ms) => is_in_time(base_ms, self.len, passed_ms),
+            Some(passed_ms) => {
+                is_within_most(most_ms, passed_ms) && is_in_time(base_ms, self.len, passed_ms)
+            }
             None => false,
         }
     }

@@ -7,10 +7,12 @@ ghost use Rattle.rw_receive.specs.Receiving.{AppendsPart, HasServed, WritesHeld,
 ghost use Rattle.rw_report_text.specs.StateText.{store_text};
 ghost use Rattle.rw_text.specs.declared.tool_fault.ToolFault.TheVariants.{OutOfMemory, Device};
 
+use crate::bodies::{BodyBounds, SharedRoom};
 use crate::held::print_held;
 use crate::seat_request::SeatRequest;
 use crate::server_context::ServerContext;
 use crate::service::serve_head;
+use crate::take_options::TakeOptions;
 use crate::until::ServeUntil;
 use rw_head::{Capacity, Head, Limits};
 use rw_metrics::ReceiveCounters;
@@ -35,9 +37,13 @@ pub struct Service<'a> {
     pub idle_ms: Bounded<10, 3_600_000>,
     /// How many milliseconds a request may take, and a reply; one more for each byte of a request.
     pub request_ms: Bounded<10, 3_600_000>,
+    /// The bounds of requests that are not answered yet.
+    pub bodies: BodyBounds,
     /// How much the head may hold. A request that would add more is answered with 503, and changes
     /// nothing.
     pub capacity: Capacity,
+    /// What is taken of requests that would otherwise be refused.
+    pub takes: TakeOptions,
     /// For how many milliseconds samples stay in memory, by their timestamps, if the head may
     /// forget (`Head<RecentSamples>`); none for all of them. No clause says anything about it.
     pub memory_ms: Option<u64>,
@@ -73,7 +79,9 @@ pub struct Received<H> {
 ///
 /// A connection from which no byte comes for `idle_ms` milliseconds is closed, and so is one whose
 /// request is not complete after `request_ms` milliseconds and one more for each byte of it:
-/// nothing of that request is taken. If all seats are taken and a client waits for one, a
+/// nothing of that request is taken. Nor has a request more time than `bodies` says, and if those
+/// that are not answered yet have more bytes than it says, the ones that began first are closed. If
+/// all seats are taken and a client waits for one, a
 /// connection is closed that has been silent for a second, or whose request is more than a second
 /// late at 1,000 bytes a second. A connection is closed on its writing side first; what the client
 /// still writes is read and discarded until the client closes its own side, for a second at most,
@@ -95,12 +103,16 @@ pub fn serve_connections<R: Threads + Wait + Clock + Sync, H: Admit + Drop + Sen
     let most = service.most.get();
     let blank = Blank::with_capacity(alloc, most + 1, service.capacity)?;
     let seat_request = SeatRequest::new();
+    let room = SharedRoom::new(alloc, service.bodies.max_bytes);
     let context = ServerContext {
         alloc,
         limits,
         until: service.until,
         idle_ms: service.idle_ms,
         request_ms: service.request_ms,
+        bodies: service.bodies,
+        room: &room,
+        takes: service.takes,
         memory_ms: service.memory_ms,
         seat_request: &seat_request,
         counters: service.counters,
@@ -147,7 +159,9 @@ pub fn serve_and_print<R: Threads + Wait + Clock + Sync, H: Show + Drop + Send, 
         most: service.most,
         idle_ms: service.idle_ms,
         request_ms: service.request_ms,
+        bodies: service.bodies,
         capacity: service.capacity,
+        takes: service.takes,
         memory_ms: service.memory_ms,
         counters: service.counters,
     };
@@ -187,7 +201,9 @@ pub fn run_receive<R: Threads + Wait + Clock + Sync, W: Sink>(
         most: service.most,
         idle_ms: service.idle_ms,
         request_ms: service.request_ms,
+        bodies: service.bodies,
         capacity: service.capacity,
+        takes: service.takes,
         memory_ms: service.memory_ms,
         counters: service.counters,
     };

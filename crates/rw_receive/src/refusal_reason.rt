@@ -12,6 +12,25 @@ use rw_types::{LabelFault, LabelSet};
 use rw_write_request::{WireFault, check_message, label_count, message_part, read_labels};
 use std::alloc::Global;
 
+/// Returns why a head with these limits refuses these labels: `Ok(None)` if it does not.
+pub(crate) fn fault_of_texts(
+    limits: &Limits,
+    labels: Vec<(String, String)>,
+) -> Result<Option<RefusalReason>, WireFault> {
+    Ok(match LabelSet::of_texts(limits.names, labels) {
+        Ok(labels) => {
+            let max_labels = limits.max_labels.get() as usize;
+            if labels.is_over(max_labels, limits.max_label_bytes.get() as usize) {
+                Some(RefusalReason::Limits)
+            } else {
+                None
+            }
+        }
+        Err(LabelFault::OutOfMemory) => return Err(WireFault::OutOfMemory),
+        Err(_) => Some(RefusalReason::Labels),
+    })
+}
+
 /// Returns why a head with these limits refuses a series whatever it holds: `Ok(None)` if it does
 /// not.
 fn fault_of_labels(
@@ -23,18 +42,7 @@ fn fault_of_labels(
     if label_count(series) > max_labels {
         return Ok(Some(RefusalReason::Limits));
     }
-    let labels = read_labels(alloc, series)?;
-    Ok(match LabelSet::of_texts(limits.names, labels) {
-        Ok(labels) => {
-            if labels.is_over(max_labels, limits.max_label_bytes.get() as usize) {
-                Some(RefusalReason::Limits)
-            } else {
-                None
-            }
-        }
-        Err(LabelFault::OutOfMemory) => return Err(WireFault::OutOfMemory),
-        Err(_) => Some(RefusalReason::Labels),
-    })
+    fault_of_texts(limits, read_labels(alloc, series)?)
 }
 
 /// Returns why a head with these limits refuses a message whatever it holds, and the order of

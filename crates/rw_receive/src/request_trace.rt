@@ -1,6 +1,7 @@
 //! What is known of the request of a connection that is being answered, for the counters. It is
 //! best effort: no clause says anything about it.
 
+use crate::refused_part::RefusedPart;
 use rw_metrics::{ReceiveCounters, RefusalReason, RefusedRequest};
 use std::alloc::Global;
 use std::cell::Cell;
@@ -102,6 +103,24 @@ impl<'s> RequestTrace<'s> {
         self.is_answered.set(true);
         let samples = self.counters.refuse_body(reason, body);
         self.give_example(status, reason, samples);
+    }
+
+    /// Takes that the head was asked, and has taken a part of a body. These are the samples of it
+    /// that were refused, if memory sufficed to count them.
+    pub(crate) fn note_part(&self, status: u16, refused: Option<RefusedPart>) {
+        self.is_answered.set(true);
+        let Some(refused) = refused else {
+            self.give_example(status, None, 0);
+            return;
+        };
+        let mut most = (RefusalReason::Order, 0u64);
+        for (reason, samples) in refused.by_reason() {
+            self.counters.refuse_samples(reason, samples);
+            if samples > most.1 {
+                most = (reason, samples);
+            }
+        }
+        self.give_example(status, Some(most.0), refused.total());
     }
 
     /// Takes bytes that were written. If a reply begins with them that the head was not asked for,

@@ -1,9 +1,11 @@
 //! One connection, served to its end.
 
+use crate::bodies::{BodyBounds, SharedRoom};
 use crate::counting_seat::CountingSeat;
 use crate::graceful_close::close_gracefully;
 use crate::request_trace::RequestTrace;
 use crate::seat_request::SeatRequest;
+use crate::take_options::TakeOptions;
 use crate::timed_stream::{Stage, TimedStream};
 use crate::until::ServeUntil;
 use rw_endpoint::serve;
@@ -30,6 +32,12 @@ pub struct ServerContext<'a> {
     pub idle_ms: Bounded<10, 3_600_000>,
     /// How many milliseconds a request may take, and a reply; one more for each byte of a request.
     pub request_ms: Bounded<10, 3_600_000>,
+    /// The bounds of unfinished bodies.
+    pub bodies: BodyBounds,
+    /// How much of them is in memory. No clause says anything about it.
+    pub room: &'a SharedRoom,
+    /// What is taken of requests that would otherwise be refused.
+    pub takes: TakeOptions,
     /// For how many milliseconds samples stay in memory, if the head may forget; none for all.
     pub memory_ms: Option<u64>,
     /// Made while a client waits for a seat. No clause says anything about it.
@@ -84,6 +92,7 @@ fn serve_to_end<L: Holding<H>, H: Admit, R: Wait + Clock>(
         &mut asking,
         context.limits,
     );
+    timed.release();
     if !timed.is_cut() {
         close_gracefully(rt, &stream);
     }

@@ -7,14 +7,23 @@ use crate::pace::{GRACE_MS, Pace};
 use crate::request_trace::RequestTrace;
 use crate::server_context::ServerContext;
 use rw_follow::StopRequest;
+use rw_in_flight::Intake;
 use rw_types::Bounded;
 use std::cell::Cell;
 use std::io::{self, ErrorKind, Read, Write};
 use std::net::TcpStream;
+use std::sync::Wait;
+use std::thread;
 use std::time::{Clock, Duration};
 
 /// How many milliseconds a read or a write waits before the stop signal is looked at.
 pub(crate) const TICK_MS: u64 = 200;
+
+/// How many milliseconds it sleeps between two looks for room for bytes that were read.
+const LOOK_MS: u64 = 5;
+
+/// How many such looks are made at most: for an hour.
+const MOST_LOOKS: u64 = 720_000;
 
 /// A wait that is divided into ticks.
 #[derive(Clone, Copy, Debug, Drop)]
@@ -54,6 +63,8 @@ pub(crate) struct Stage<C> {
     is_cut: bool,
     /// The pace of the current request, or else of the last replies.
     pace: Pace<C>,
+    /// The number of the current request among the unfinished bodies, if it is counted there.
+    number: Option<u64>,
 }
 
 impl<C: Clock + Copy> Stage<C> {
@@ -63,6 +74,7 @@ impl<C: Clock + Copy> Stage<C> {
             is_inside: false,
             is_cut: false,
             pace: Pace::new(clock),
+            number: None,
         }
     }
 }
@@ -72,7 +84,9 @@ impl<C: Clock + Copy> Stage<C> {
 /// its time (`Pace`). Once a stop is requested, so does a read outside a request, and once an end
 /// at once is requested, each read and write. While another client waits for a seat, so does a read
 /// or a write of a few connections that are silent or late. A request begins with a byte that is
-/// read, and ends with the bytes that are written. No clause says anything about the bytes.
+/// read, and ends with the bytes that are written. What is read of one is returned once there is
+/// room for it (`SharedRoom`), and a read of one that makes room fails, too. No clause says
+/// anything about the bytes.
 #[derive(Clone, Copy, Drop)]
 pub(crate) struct TimedStream<'s, C> {
     stream: &'s TcpStream,
@@ -91,7 +105,7 @@ fn is_passing(error: &io::Error) -> bool {
     )
 }
 
-impl<'s, C: Clock + Copy> TimedStream<'s, C> {
+impl<'s, C: Wait + Clock + Copy> TimedStream<'s, C> {
     /// Returns a connection outside a request.
     pub(crate) fn new(
         stream: &'s TcpStream,
@@ -132,16 +146,22 @@ impl<'s, C: Clock + Copy> TimedStream<'s, C> {
     /// waits for a seat.
     fn is_late(&self) -> bool {
         let pace = self.stage.get().pace;
-        if !pace.is_within(self.context.request_ms.get()) {
+        if !pace.is_within(self.context.request_ms.get(), self.context.bodies.max_ms) {
             return true;
         }
-        !pace.is_within(GRACE_MS) && self.context.seat_request.meet()
+        !pace.is_within(GRACE_MS, None) && self.context.seat_request.meet()
+    }
+
+    /// Returns whether the request is late, or is to be closed so that there is room for others.
+    fn is_given_up(&self) -> bool {
+        let number = self.stage.get().number;
+        self.is_late() || self.context.room.is_closed(&self.clock, number)
     }
 
     /// Returns whether a read that has waited for these ticks is to be given up.
     fn is_cut_after(&self, ticks: u64) -> bool {
         if self.stage.get().is_inside {
-            return self.is_late();
+            return self.is_given_up();
         }
         ticks.saturating_mul(self.patience.tick_ms) >= GRACE_MS && self.context.seat_request.meet()
     }
@@ -160,24 +180,49 @@ impl<'s, C: Clock + Copy> TimedStream<'s, C> {
         if !stage.is_inside {
             stage.is_inside = true;
             stage.pace = Pace::new(self.clock);
+            stage.number = self.context.room.begin(&self.clock);
             self.trace.begin(bytes);
         }
         stage.pace.add(bytes.len());
         self.stage.set(stage);
     }
 
+    /// Waits until there is room for more bytes of the request, or it is given up.
+    fn wait_for_room(&self, more: usize) -> io::Result<()> {
+        for _ in 0..MOST_LOOKS {
+            let number = self.stage.get().number;
+            match self.context.room.grow(&self.clock, number, more as u64) {
+                Intake::Taken => return Ok(()),
+                Intake::Closed => break,
+                Intake::Waits => {}
+            }
+            if self.is_over() || self.is_late() {
+                break;
+            }
+            thread::sleep(&self.clock, Duration::from_millis(LOOK_MS));
+        }
+        Err(self.cut())
+    }
+
     /// Ends the request, if there is one: its reply begins.
     fn begin_reply(&self) {
         let mut stage = self.stage.get();
         if stage.is_inside {
+            self.release();
             stage.is_inside = false;
             stage.pace = Pace::new(self.clock);
+            stage.number = None;
             self.stage.set(stage);
         }
     }
+
+    /// Counts the bytes of the request no longer, if there is one.
+    pub(crate) fn release(&self) {
+        self.context.room.end(&self.clock, self.stage.get().number);
+    }
 }
 
-impl<C: Clock + Copy> Read for TimedStream<'_, C> {
+impl<C: Wait + Clock + Copy> Read for TimedStream<'_, C> {
     fn read(&mut self, buf: &mut [u8]) -> io::Result<usize> {
         let mut stream = self.stream;
         for ticks in 0..self.patience.ticks {
@@ -192,6 +237,7 @@ impl<C: Clock + Copy> Read for TimedStream<'_, C> {
                 Err(e) => return Err(e),
                 Ok(n) => {
                     self.take_read(buf.get(..n).unwrap_or(&[]));
+                    self.wait_for_room(n)?;
                     return Ok(n);
                 }
             }
@@ -200,7 +246,7 @@ impl<C: Clock + Copy> Read for TimedStream<'_, C> {
     }
 }
 
-impl<C: Clock + Copy> Write for TimedStream<'_, C> {
+impl<C: Wait + Clock + Copy> Write for TimedStream<'_, C> {
     fn write(&mut self, buf: &[u8]) -> io::Result<usize> {
         let mut stream = self.stream;
         self.begin_reply();

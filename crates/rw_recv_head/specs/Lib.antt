@@ -5,9 +5,11 @@ pub use Rattle.rw_head.specs.Growth
 pub use Rattle.rw_head.specs.Head
 pub use Rattle.rw_head.specs.Lists
 pub use Rattle.rw_head.specs.Order
+pub use Rattle.rw_head.specs.Partial
 pub use Rattle.rw_head.specs.Staged
 pub use Rattle.rw_head.specs.Store
 pub use Rattle.rw_head.specs.Verdicts
+pub mod Partly
 pub mod Seats
 pub mod Questions
 pub mod inner

@@ -1,13 +1,16 @@
 //! What may be under the lock: a head, or something that has one.
 
-ghost use Rattle.std.specs.Prelude.{◌≡◌, ◌≢◌, ℕ, ◌≤◌, List, length, true};
+ghost use Rattle.std.specs.Prelude.{◌≡◌, ◌≢◌, ℕ, ◌≤◌, List, length, true, IfOk};
 ghost use Rattle.rw_head.specs.declared.capacity.Admission.TheVariants.{Full};
 ghost use Rattle.rw_head.specs.Capacity.{exceeds, status_of_admission, unlimited, StaysWithin};
 ghost use Rattle.rw_head.specs.Growth.{EachRises, HasStoredBody};
 ghost use Rattle.rw_head.specs.Head.{State, answer, IsStatus, SpellsMessage};
+ghost use Rattle.rw_head.specs.Partial.{takeable};
 ghost use Rattle.rw_head.specs.Store.{total, label_sets};
 
 use rw_head::{Admission, Capacity, Head, InMemory, Memory};
+use rw_write_request::Message;
+use std::alloc::AllocError;
 
 /// A head, or something that has one and answers bodies as it does. What it does with the samples
 /// besides, such as writing them to disk before it answers, its own contracts say.
@@ -41,6 +44,12 @@ pub trait Admit {
         ensures limited { result ≡ Full → capacity.now ≢ unlimited }
         ensures admits { admits self.old body.now (status_of_admission result) self.new };
 
+    /// Returns what the head can take of a message, as `Head::takeable` does.
+    fn takeable(&mut self, message: Message) -> Result<Message, AllocError>
+        ensures same { self.new ≡ self.old }
+        ensures takeable { IfOk result (λ m. m
+            ≡ takeable (state self.old).limits (state self.old).store message) };
+
     /// Lets samples go from memory that are earlier than `before`, in milliseconds since the Unix
     /// epoch, as `Head::forget` does, if the head may forget. Returns what is left in memory.
     fn forget(&mut self, before: i64) -> InMemory
@@ -70,6 +79,10 @@ impl<M: Memory> Admit for Head<M> {
 
     fn admit(&mut self, body: &[u8], capacity: &Capacity) -> Admission {
         Head::admit(self, body, capacity)
+    }
+
+    fn takeable(&mut self, message: Message) -> Result<Message, AllocError> {
+        Head::takeable(self, message)
     }
 
     fn forget(&mut self, before: i64) -> InMemory {

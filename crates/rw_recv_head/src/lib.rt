@@ -9,6 +9,7 @@ mod blank;
 mod laws;
 mod locked;
 mod naming;
+mod part_answer;
 mod question;
 mod questions;
 mod seat;
@@ -24,5 +25,5 @@ pub use rw_head::{
     InMemory, LabelSets, Limits, Memory, RecentSamples, StagedHead, Verdict, stores_are_lists,
     stores_hold_no_empty_list,
 };
-pub use seat::{Seat, SeatAnswer};
+pub use seat::{AskedPartly, Seat, SeatAnswer};
 pub use shared_head::SharedHead;

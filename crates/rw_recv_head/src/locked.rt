@@ -1,19 +1,25 @@
 //! The value under the lock.
 
-ghost use Rattle.std.specs.Prelude.{◌≡◌, ◌≢◌, ℕ, ◌+◌, ◌<◌, ◌≤◌, [], Some, length, slice_get};
+ghost use Rattle.std.specs.Prelude.{◌≡◌, ◌≢◌, ℕ, ◌+◌, ◌<◌, ◌≤◌, [], ◌∷◌, ◌++◌, Some, Ok, IfOk, length, slice_get};
 ghost use Rattle.rw_head.specs.declared.capacity.Admission.TheVariants.{Full};
 ghost use Rattle.rw_head.specs.Capacity.{status_of_admission, unlimited, StaysWithin};
 ghost use Rattle.rw_head.specs.Head.{answer, IsStatus};
 ghost use Rattle.rw_head.specs.Store.{total, label_sets};
 ghost use Rattle.rw_head.specs.Growth.{EachRises};
+ghost use Rattle.rw_head.specs.Partial.{takeable};
+ghost use Rattle.rw_recv_head.specs.Partly.{HasAskedPartly, TakesRest};
+ghost use Rattle.rw_write_request.specs.Read.{read};
 ghost use Rattle.rw_recv_head.specs.Seats.{most, bodies_of, store_after, HasAdmitted, HasAsked, FindsFull};
 ghost use Rattle.rw_recv_head.specs.declared.question.Question.{Question};
 
 use crate::admit::Admit;
 use crate::naming::Holding;
+use crate::part_answer::PartAnswer;
 use crate::questions::Questions;
 use crate::seat::Seat;
 use rw_head::{Admission, Capacity, InMemory};
+use rw_write_request::{Message, WireFault, decode, encode, reads_spellings};
+use std::alloc::{AllocError, Global};
 use std::marker::Model;
 use std::sync::ledger::{Share, Total};
 
@@ -109,6 +115,11 @@ impl<L: Holding<H>, H: Admit> Locked<L, H> {
         ensures statuses { IsStatus (status_of_admission result) }
         ensures asked { HasAsked L.opening seat.old body.now (status_of_admission result) seat.new }
         ensures seen { seat.new.asked ≡ self.new.questions.asked }
+        ensures noted { self.new.questions.asked ≡ self.old.questions.asked ++ record {
+          seat = seat.old.number;
+          body = body.now;
+          status = status_of_admission result;
+        } ∷ [] }
         ensures full { result ≡ Full
             → FindsFull L.table.capacity L.opening seat.new.asked body.now }
         ensures limited { result ≡ Full → L.table.capacity ≢ unlimited }
@@ -120,6 +131,74 @@ impl<L: Holding<H>, H: Admit> Locked<L, H> {
         let after = self.holder.total();
         seat.take(all, &mut self.rest, after - before);
         admission
+    }
+
+    /// Returns the canonical spelling of what the head can take of a message.
+    fn spell_takeable(&mut self, alloc: Global, message: Message) -> Result<Vec<u8>, AllocError>
+        ensures same { self.new ≡ self.old }
+        ensures spells { IfOk result (λ v. read v.items ≡ Ok (takeable L.opening.limits
+            (store_after L.opening (bodies_of self.old.questions.asked)) message)) }
+    {
+        reads_spellings();
+        let part = self.holder.takeable(message)?;
+        let text = encode(alloc, &part)?;
+        Ok(text)
+    }
+
+    /// Asks for what the head can take of a body that this seat was refused last.
+    fn answer_rest(
+        &mut self,
+        all: &Total<L>,
+        alloc: Global,
+        seat: &mut Seat<L>,
+        body: &[u8],
+    ) -> PartAnswer
+        requires fits { all.now.amount ≤ most }
+        requires seen { seat.old.asked ≡ self.old.questions.asked }
+        ensures rest { TakesRest L.opening seat.old body.now result.status seat.new }
+        ensures seen { seat.new.asked ≡ self.new.questions.asked }
+        ensures statuses { IsStatus result.status }
+    {
+        reads_spellings();
+        let message = match decode(alloc, body) {
+            Ok(message) => message,
+            Err(fault) if fault == WireFault::OutOfMemory => return PartAnswer::of(503),
+            Err(_) => return PartAnswer::of(400),
+        };
+        let Ok(text) = self.spell_takeable(alloc, message) else {
+            return PartAnswer::of(503);
+        };
+        let admission = self.answer(all, seat, &text);
+        PartAnswer::to(admission, text)
+    }
+
+    /// Asks the head as `answer` does, and if it refuses the body, for what it can take of it.
+    pub(crate) fn answer_partly(
+        &mut self,
+        all: &Total<L>,
+        alloc: Global,
+        seat: &mut Seat<L>,
+        body: &[u8],
+    ) -> PartAnswer
+        requires fits { all.now.amount ≤ most }
+        ensures asked { HasAskedPartly L.opening seat.old body.now result.status seat.new }
+        ensures seen { seat.new.asked ≡ self.new.questions.asked }
+        ensures statuses { IsStatus result.status }
+    {
+        let admission = self.answer(all, seat, body);
+        let status = admission.status();
+        if status != 400 {
+            return PartAnswer::whole(admission);
+        }
+        self.answer_rest(all, alloc, seat, body)
+    }
+
+    /// Law: what is under the lock was asked these questions, one after the other. The call does
+    /// nothing.
+    pub(crate) fn conforms(&self)
+        ensures { (last : H) × HasAdmitted H.admits L.first self.now.questions.asked last }
+    {
+        let _ = &self.holder;
     }
 
     /// Lets samples go from memory, as `Admit::forget` does.

@@ -5,12 +5,14 @@ ghost use Rattle.rw_head.specs.Capacity.{unlimited, StaysWithin};
 ghost use Rattle.rw_head.specs.Head.{IsStatus};
 ghost use Rattle.rw_head.specs.Store.{total, label_sets};
 ghost use Rattle.rw_recv_head.specs.inner.Questions.{IsSeat};
+ghost use Rattle.rw_recv_head.specs.Partly.{HasAskedPartly};
 ghost use Rattle.rw_recv_head.specs.Seats.{most, bodies_of, store_after, HasAdmitted, HasAsked, FindsFull};
 
 use crate::admit::Admit;
 use crate::naming::{HeadNaming, Holding};
 use crate::questions::{Questions, Seen};
 use crate::shared_head::SharedHead;
+use std::alloc::Global;
 use std::marker::Model;
 use std::sync::Wait;
 use std::sync::ledger::{Share, Total};
@@ -26,6 +28,15 @@ pub struct SeatAnswer {
     pub label_sets: usize,
     /// How many samples the head holds from then on.
     pub samples: u64,
+}
+
+/// How a request was answered of which was taken what can be taken.
+#[derive(Debug, Drop)]
+pub struct AskedPartly {
+    /// The answer, and what the head holds then.
+    pub asked: SeatAnswer,
+    /// The body that was taken in place of the request's, which was refused as a whole.
+    pub taken: Option<Vec<u8>>,
 }
 
 /// A handle by which one thread asks a shared head. Contracts see its number, how many samples its
@@ -145,5 +156,25 @@ impl<L: HeadNaming> Seat<L> {
         ensures admitted { (last : H) × HasAdmitted H.admits L.first self.new.asked last }
     {
         shared.ask(rt, self, body)
+    }
+
+    /// Answers a request as `ask` does, and if the head refuses its body as a whole, takes what it
+    /// can of it, under the same lock: the samples that the head takes one after the other, each
+    /// judged after the ones before it. Then the answer is 400, or 503 if memory ran out for that
+    /// or the head had no room for it, and nothing was taken. So 204 means that all was taken.
+    pub fn ask_partly<R: Wait, H: Admit>(
+        &mut self,
+        rt: &R,
+        alloc: Global,
+        shared: &SharedHead<L, H>,
+        body: &[u8],
+    ) -> AskedPartly
+    where
+        L: Holding<H>,
+        ensures statuses { IsStatus result.asked.status }
+        ensures asked { HasAskedPartly L.opening self.old body.now result.asked.status self.new }
+        ensures admitted { (last : H) × HasAdmitted H.admits L.first self.new.asked last }
+    {
+        shared.ask_partly(rt, alloc, self, body)
     }
 }

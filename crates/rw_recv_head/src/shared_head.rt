@@ -5,13 +5,15 @@ ghost use Rattle.rw_head.specs.Capacity.{unlimited, StaysWithin};
 ghost use Rattle.rw_head.specs.Head.{IsStatus};
 ghost use Rattle.rw_head.specs.Store.{total, label_sets};
 ghost use Rattle.rw_head.specs.Growth.{EachRises};
+ghost use Rattle.rw_recv_head.specs.Partly.{HasAskedPartly};
 ghost use Rattle.rw_recv_head.specs.Seats.{bodies_of, store_after, Seated, HasAdmitted, HasAsked, HasGathered, FindsFull};
 
 use crate::admit::Admit;
 use crate::blank::Blank;
 use crate::locked::Locked;
 use crate::naming::Holding;
-use crate::seat::{Seat, SeatAnswer};
+use crate::part_answer::PartAnswer;
+use crate::seat::{AskedPartly, Seat, SeatAnswer};
 use rw_head::{Head, InMemory};
 use std::alloc::{AllocError, Global};
 use std::marker::Model;
@@ -105,6 +107,35 @@ impl<L: Holding<H>, H: Admit> SharedHead<L, H> {
             label_sets: locked.label_sets(),
             samples: locked.samples(),
         }
+    }
+
+    /// Returns the answer to a body from a seat, of which is taken what can be taken, under the
+    /// lock.
+    pub(crate) fn ask_partly<R: Wait>(
+        &self,
+        rt: &R,
+        alloc: Global,
+        seat: &mut Seat<L>,
+        body: &[u8],
+    ) -> AskedPartly
+        ensures statuses { IsStatus result.asked.status }
+        ensures asked { HasAskedPartly L.opening seat.old body.now result.asked.status seat.new }
+        ensures admitted { (last : H) × HasAdmitted H.admits L.first seat.new.asked last }
+    {
+        let mut locked = self.locked.lock(rt);
+        let PartAnswer {
+            status,
+            is_full,
+            taken,
+        } = locked.answer_partly(&self.all, alloc, seat, body);
+        locked.conforms();
+        let asked = SeatAnswer {
+            status,
+            is_full,
+            label_sets: locked.label_sets(),
+            samples: locked.samples(),
+        };
+        AskedPartly { asked, taken }
     }
 
     /// Lets samples go from memory that are earlier than `before`, in milliseconds since the Unix

@@ -7,7 +7,7 @@ use Rattle.rw_shard_core.specs.SentRequest.{request_head, snappy_request_head}
 use Rattle.rw_roundtrip.proofs.Heads.{head_of, sent_head}
 
 -- the fields between the host and the length
-abbrev middle : Bool → List ℕ
+abbrev pub middle : Bool → List ℕ
 middle true = codes "User-Agent: rwship/1.0\r\nContent-Type: application/x-protobuf\r\nContent-Encoding: snappy\r\nX-Prometheus-Remote-Write-Version: 0.1.0\r\nConnection: close\r\nContent-Length: "
 middle false = codes "User-Agent: rwship/1.0\r\nContent-Type: application/x-protobuf\r\nX-Prometheus-Remote-Write-Version: 0.1.0\r\nConnection: close\r\nContent-Length: "
 
@@ -29,7 +29,7 @@ row_length : (p path a e h host m digits : List ℕ) →
     ≡ (length p + length a + length h + length m + 4 * length e) + (length path + (length host + length digits))
 row_length p path a e h host m digits = simp length-append (omega arith)
 
-request_length : (snappy : Bool) (host path digits : List ℕ) → length (sent_head snappy host path digits) ≤ 193 + (length path + (length host + length digits))
+pub request_length : (snappy : Bool) (host path digits : List ℕ) → length (sent_head snappy host path digits) ≤ 193 + (length path + (length host + length digits))
 unfolding request_head snappy_request_head
 request_length true host path digits =
     let e = row_length (codes "POST ") path (codes " HTTP/1.1") crlf_bytes (codes "Host: ") host (middle true) digits in omega (arith, e)

@@ -2,6 +2,8 @@ pub mod Heads
 pub mod ByteLemmas
 pub mod HeadLemmas
 pub mod FieldLemmas
+pub mod AddedHeads
+pub mod AddedFields
 pub mod ReplyLemmas
 pub mod ExchangeLemmas
 pub mod shared

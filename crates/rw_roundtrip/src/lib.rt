@@ -2,8 +2,10 @@
 //! the two in memory.
 #![tactic(auto)]
 
+mod field_laws;
 mod in_memory;
 mod laws;
 
+pub use field_laws::{requests_with_fields_are_read, snappy_requests_with_fields_are_read};
 pub use in_memory::exchange;
 pub use laws::{replies_are_read, requests_are_read, snappy_requests_are_read};

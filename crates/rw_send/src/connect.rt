@@ -2,14 +2,18 @@
 
 ghost use Rattle.std.specs.Prelude.{◌≡◌, ◌*◌, [], IfOk};
 
+use rw_fields::ExtraFields;
 use rw_metrics::SendCounters;
 use rw_sender::Connect;
 use rw_shard_core::Target;
-use rw_tcp::{AskedPause, RefusalStop, SharedRoute, Sleep, TcpTransport, copy_target};
+use rw_tcp::{
+    Access, AskedPause, GiveUp, RefusalStop, SharedRoute, Sleep, TcpTransport, copy_target,
+};
 use rw_types::Bounded;
-use std::alloc::{AllocError, Global};
+use std::alloc::{AllocError, AllocGlobal, Global};
 use std::marker::Model;
 use std::net::{Net, SocketAddr, TcpStream};
+use std::rt::Files;
 use std::sync::Arc;
 use std::time::Clock;
 
@@ -25,6 +29,9 @@ pub struct TcpConnect<N> {
     snappy_target: Option<Target>,
     shared_route: Option<Arc<SharedRoute, Global>>,
     refusal_stop: Option<Arc<RefusalStop, Global>>,
+    give_up: Option<Arc<GiveUp, Global>>,
+    /// The fields that are added to requests, and where they come from.
+    fields: Option<(ExtraFields, Arc<Access, Global>)>,
     /// The longest pause that a receiver is granted, in milliseconds.
     asked_ms: u64,
 }
@@ -63,12 +70,14 @@ impl<N> TcpConnect<N> {
             snappy_target: None,
             shared_route: None,
             refusal_stop: None,
+            give_up: None,
+            fields: None,
             asked_ms: 0,
         }
     }
 }
 
-impl<N: Net<Stream = TcpStream> + Clock + Copy> TcpConnect<N> {
+impl<N: Net<Stream = TcpStream> + Clock + Files + AllocGlobal + Copy> TcpConnect<N> {
     /// Returns the source, whose transports from here on send the bodies of requests to this target
     /// as Snappy blocks.
     pub fn with_snappy(self, target: &Target) -> Result<TcpConnect<N>, AllocError>
@@ -100,6 +109,26 @@ impl<N: Net<Stream = TcpStream> + Clock + Copy> TcpConnect<N> {
         connect
     }
 
+    /// Returns the source, whose transports from here on have the run given up if the same failure
+    /// is answered for too long.
+    pub fn with_give_up(self, give_up: Arc<GiveUp, Global>) -> TcpConnect<N>
+        ensures { result ≡ self }
+    {
+        let mut connect = self;
+        connect.give_up = Some(give_up);
+        connect
+    }
+
+    /// Returns the source, whose transports from here on add these fields to each request. After a
+    /// 401 they are read again from `access`.
+    pub fn with_fields(self, fields: ExtraFields, access: Arc<Access, Global>) -> TcpConnect<N>
+        ensures { result ≡ self }
+    {
+        let mut connect = self;
+        connect.fields = Some((fields, access));
+        connect
+    }
+
     /// Returns the source, whose pauses from here on are as long as the receiver asks for by
     /// `Retry-After`, but not for longer than `most_ms` milliseconds.
     pub fn with_asked_pause(self, most_ms: u64) -> TcpConnect<N>
@@ -124,6 +153,21 @@ impl<N: Net<Stream = TcpStream> + Clock + Copy> TcpConnect<N> {
         Ok(transport)
     }
 
+    /// Returns this transport, whose requests have the fields that are added, and which hears when
+    /// the run gives up.
+    fn extending(&self, transport: TcpTransport<N>) -> Result<TcpTransport<N>, AllocError>
+        ensures { IfOk result (λ t. t ≡ transport) }
+    {
+        let mut transport = transport;
+        if let Some(give_up) = &self.give_up {
+            transport = transport.with_give_up(Arc::try_clone(give_up)?);
+        }
+        if let Some((fields, access)) = &self.fields {
+            transport = transport.with_fields(fields.copy()?, Arc::try_clone(access)?);
+        }
+        Ok(transport)
+    }
+
     /// Returns a transport to the addresses, with the timeout.
     fn to_receiver(&self) -> Result<TcpTransport<N>, AllocError>
         ensures receiver { IfOk result (λ transport. transport.receiver ≡ self.now) }
@@ -139,6 +183,7 @@ impl<N: Net<Stream = TcpStream> + Clock + Copy> TcpConnect<N> {
             counters,
         );
         let transport = self.sharing(transport)?;
+        let transport = self.extending(transport)?;
         match &self.snappy_target {
             None => Ok(transport),
             Some(target) => transport.with_snappy(target),
@@ -146,7 +191,10 @@ impl<N: Net<Stream = TcpStream> + Clock + Copy> TcpConnect<N> {
     }
 }
 
-impl<N: Net<Stream = TcpStream> + Clock + Copy + Send + 'static> Connect for TcpConnect<N> {
+impl<N> Connect for TcpConnect<N>
+where
+    N: Net<Stream = TcpStream> + Clock + Files + AllocGlobal + Copy + Send + 'static,
+{
     type T = TcpTransport<N>;
 
     type P = Sleep<N>;

@@ -21,7 +21,7 @@ pub use feed_error::FeedError;
 pub use follow::run_follow;
 pub use follow_fault::{FollowFault, RunFault};
 pub use options::SendOptions;
-pub use rw_tcp::RefusalStop;
+pub use rw_tcp::{Access, AccessError, GiveUp, RefusalStop};
 pub use rw_worker::StopFlag;
 pub use send::run_send;
 pub use sharding::{Sharding, resharded, retuned};

@@ -1,5 +1,5 @@
 -- The keys of a table, one after the other.
-use Rattle.std.proofs.Common.{◌≡◌, ℕ, ◌≤◌, ℤ, pos, negsuc, List, [], ◌∷◌, Bool, true, false, ◌&&◌, nat_le, cond, Option, Some, None, Ok, Err, refl, ap, String, Global, string_bytes, arith}
+use Rattle.std.proofs.Common.{◌≡◌, ℕ, ◌≤◌, ℤ, pos, negsuc, List, [], ◌∷◌, map, Bool, true, false, ◌&&◌, nat_le, cond, Option, Some, None, Ok, Err, refl, ap, String, Global, string_bytes, arith}
 use Rattle.std.specs.List.{list_any}
 use Rattle.std.specs.Map.{keys_of}
 use Rattle.std.specs.Str.{bytes_eq}
@@ -7,9 +7,11 @@ use Rattle.std.proofs.lemmas.Bool.Decides.{nat_tests}
 use Rattle.toml.specs.Data.{Data, as_integer}
 use Rattle.toml.specs.View.{members_view}
 use Rattle.toml.specs.declared.value.Value.{Value}
-use Rattle.rw_settings.specs.Keys.{Row, number_for, has_only}
+use Rattle.rw_settings.specs.Keys.{Row, snappy, headers, bearer_token_file, number_for, has_only}
 use Rattle.rw_settings.specs.inner.Keys.{has_range}
-use Rattle.rw_settings.specs.Values.{number_if, number_at, found_or}
+use Rattle.rw_settings.specs.SentFields.{member_names}
+use Rattle.rw_settings.specs.SettingsText.{lines_of}
+use Rattle.rw_settings.specs.Values.{switch_values, number_if, number_at, found_or}
 use Rattle.rw_settings.specs.declared.keys.Kind.{Kind}
 use Rattle.rw_settings.specs.declared.fault.SettingsFault.TheVariants.{OutOfRange}
 
@@ -22,6 +24,19 @@ all_known rows (key ∷ keys) = list_any (λ row. bytes_eq (string_bytes key) ro
 pub has_only-entries : (rows : List Row) (es : List (String Global × Value)) → has_only rows (members_view es) ≡ all_known rows (keys_of es)
 has_only-entries rows [] = refl
 has_only-entries rows (e ∷ es) = ap (λ b. list_any (λ row. bytes_eq (string_bytes e.0) row.0) rows && b) (has_only-entries rows es)
+
+-- the line of a switch, whatever keys come after it
+pub switch_lines : (on : Bool) → lines_of (snappy ∷ []) (switch_values on) ≡ lines_of (snappy ∷ headers ∷ bearer_token_file ∷ []) (switch_values on)
+switch_lines true = refl
+switch_lines false = refl
+
+-- the keys of a map
+abbrev pub key_texts : List (String Global) → List (List ℕ)
+key_texts keys = map string_bytes keys
+
+pub member_names-entries : (es : List (String Global × Value)) → member_names (members_view es) ≡ key_texts (keys_of es)
+member_names-entries [] = refl
+member_names-entries (e ∷ es) = ap (λ (names : List (List ℕ)). string_bytes e.0 ∷ names) (member_names-entries es)
 
 -- ---- what a table sets
 

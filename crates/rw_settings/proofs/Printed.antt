@@ -6,7 +6,7 @@ use Rattle.toml.proofs.ReadLines.{AllPrinted}
 use Rattle.rw_relabel.specs.Rules.{RuleConfig}
 use Rattle.rw_shard_core.specs.declared.config.ConfigFields.{ConfigFields}
 use Rattle.rw_head.specs.declared.limits.Limits.{Limits}
-use Rattle.rw_settings.specs.Keys.{Row, snappy}
+use Rattle.rw_settings.specs.Keys.{Row, snappy, headers, bearer_token_file}
 use Rattle.rw_settings.specs.Values.{switch_values}
 use Rattle.rw_settings.specs.declared.settings.Settings.{Settings}
 use Rattle.rw_settings.proofs.Written.{text_items, pairs_of, send_expressions, receive_expressions, log_expressions, rule_expressions}
@@ -19,15 +19,19 @@ IsScalar = (◌≡◌ {A = List (List ℕ)} [] []) × (0 ≤ 80) × (true ≡ tr
 scalar : IsScalar
 scalar = (refl, omega arith, refl)
 
-switch_printed : (row : Row) (on : Bool) → AllPrinted (pairs_of (row ∷ []) (switch_values on))
-switch_printed row true = (scalar, tt)
-switch_printed row false = tt
+none_printed : (rows : List Row) → AllPrinted (pairs_of rows [])
+none_printed [] = tt
+none_printed (row ∷ rows) = tt
+
+switch_printed : (row : Row) (rows : List Row) (on : Bool) → AllPrinted (pairs_of (row ∷ rows) (switch_values on))
+switch_printed row rows true = (scalar, none_printed rows)
+switch_printed row rows false = tt
 
 send_printed : (send : ConfigFields) → AllPrinted (send_expressions send)
-send_printed send = (omega arith, (scalar, (scalar, (scalar, (scalar, (scalar, (scalar, (scalar, (scalar, (scalar, (scalar, (scalar, switch_printed snappy send.snappy))))))))))))
+send_printed send = (omega arith, (scalar, (scalar, (scalar, (scalar, (scalar, (scalar, (scalar, (scalar, (scalar, (scalar, (scalar, switch_printed snappy (headers ∷ bearer_token_file ∷ []) send.snappy))))))))))))
 
 receive_printed : (limits : Limits) → AllPrinted (receive_expressions limits)
-receive_printed limits = (omega arith, (scalar, (scalar, (scalar, (scalar, (scalar, (scalar, switch_printed snappy limits.snappy)))))))
+receive_printed limits = (omega arith, (scalar, (scalar, (scalar, (scalar, (scalar, (scalar, switch_printed snappy [] limits.snappy)))))))
 
 log_printed : (on : Bool) → AllPrinted (log_expressions on)
 log_printed true = (omega arith, (scalar, tt))

@@ -9,6 +9,7 @@ use Rattle.rw_types.specs.Requests.{is_host_name, is_request_path}
 use Rattle.rw_types.specs.declared.names.Names.{Names}
 use Rattle.rw_types.specs.declared.names.Names.TheVariants.{Legacy}
 use Rattle.rw_settings.specs.Faults.{least}
+use Rattle.rw_settings.specs.SentFields.{headers_fault}
 use Rattle.rw_settings.specs.Values.{number_at, switch_at, text_setting, any_text, names_at, action_fault, source_fault, found_or}
 use Rattle.rw_settings.specs.declared.fault.SettingsFault.{SettingsFault}
 use Rattle.rw_settings.specs.declared.fault.SettingsFault.TheVariants.{UnknownKey}
@@ -61,9 +62,17 @@ names = (codes "names", Kind.Names)
 abbrev pub snappy : Row
 snappy = (codes "snappy", Kind.Switch)
 
+abbrev pub headers : Row
+headers = (codes "headers", Kind.Fields)
+
+abbrev pub bearer_token_file : Row
+bearer_token_file = (codes "bearer_token_file", Kind.Text)
+
+-- the last two are never printed
 abbrev pub send_keys : List Row
 send_keys =
-    host ∷ path ∷ shards ∷ min_shards ∷ max_shards ∷ capacity ∷ batch ∷ min_backoff_ms ∷ max_backoff_ms ∷ timeout_ms ∷ names ∷ snappy ∷ []
+    host ∷ path ∷ shards ∷ min_shards ∷ max_shards ∷ capacity ∷ batch ∷ min_backoff_ms ∷ max_backoff_ms ∷ timeout_ms ∷ names ∷ snappy
+    ∷ headers ∷ bearer_token_file ∷ []
 
 abbrev pub max_body_bytes : Row
 max_body_bytes = (codes "max_body_bytes", Kind.Number 1 67108864 16777216)
@@ -130,6 +139,7 @@ fault_for Kind.Switch value = result_err (switch_at value)
 fault_for Kind.Action value = action_fault value
 fault_for Kind.Labels value = source_fault value
 fault_for Kind.Text value = result_err (text_setting any_text value)
+fault_for Kind.Fields value = headers_fault value
 fault_for Kind.Part value = None
 
 abbrev pub key_fault : Members → Row → Option SettingsFault

@@ -1,4 +1,5 @@
 pub mod Faults
+pub mod SentFields
 pub mod Keys
 pub mod LogTable
 pub mod Notes

@@ -24,6 +24,8 @@ pub(crate) enum Kind {
     Labels,
     /// Any text.
     Text,
+    /// A table of fields of requests: names and values.
+    Fields,
     /// A table, or a list of tables, which has keys of its own.
     Part,
 }
@@ -72,7 +74,14 @@ pub(crate) const SEND_NAMES: Key = Key("names", Kind::Names);
 /// [`--snappy`](OPERATING.md#how-requests-are-sent) sets it.
 pub(crate) const SEND_SNAPPY: Key = Key("snappy", Kind::Switch);
 
-static SEND: [Key; 12] = [
+/// [Fields](OPERATING.md#fields-that-a-receiver-asks-for) that are added to each request, as
+/// `X-Scope-OrgID`. Nothing prints them.
+pub(crate) const HEADERS: Key = Key("headers", Kind::Fields);
+
+/// A file whose text is sent as `Authorization: Bearer TEXT` (default none).
+pub(crate) const BEARER_TOKEN_FILE: Key = Key("bearer_token_file", Kind::Text);
+
+static SEND: [Key; 14] = [
     HOST,
     SEND_PATH,
     SHARDS,
@@ -85,6 +94,8 @@ static SEND: [Key; 12] = [
     TIMEOUT_MS,
     SEND_NAMES,
     SEND_SNAPPY,
+    HEADERS,
+    BEARER_TOKEN_FILE,
 ];
 
 /// The path of the endpoint. Another one is answered with 404.

@@ -10,6 +10,7 @@ ghost use Rattle.rw_settings.specs.declared.fault.SettingsFault.TheVariants.{Unk
 
 use crate::fault::SettingsFault;
 use crate::keys::{Key, Kind};
+use crate::sent_fields::{field_fault, why_refused};
 use crate::table_faults::{fault_at, is_known};
 use crate::values::value_at;
 use std::alloc::{AllocError, Global};
@@ -95,6 +96,21 @@ fn refused(alloc: Global, value: &Value) -> Result<String, AllocError> {
     }
 }
 
+/// Returns what is wrong with fields that are added to requests, without their values.
+fn wrong_fields(alloc: Global, value: &Value) -> Result<String, AllocError> {
+    let Some(table) = value.as_table() else {
+        let found = value.type_str();
+        return format!(in alloc; "has type {found}");
+    };
+    for name in table.keys() {
+        if let Some(fault) = field_fault(table, name.as_str()) {
+            let why = why_refused(name.as_str(), fault);
+            return format!(in alloc; "has {name:?}, {why}");
+        }
+    }
+    String::from_str(alloc, "has a wrong field")
+}
+
 /// Returns what is wrong with a value at a key of this kind, which may be missing.
 fn wrong(
     alloc: Global,
@@ -104,6 +120,7 @@ fn wrong(
 ) -> Result<String, AllocError> {
     match (value, fault) {
         (None, _) => String::from_str(alloc, "is missing"),
+        (Some(value), _) if matches!(kind, Kind::Fields) => wrong_fields(alloc, value),
         (Some(value), SettingsFault::WrongType) => wrong_type(alloc, value, kind),
         (Some(value), _) => refused(alloc, value),
     }
@@ -124,6 +141,7 @@ fn push_takes(alloc: Global, text: &mut String, kind: &Kind) -> Result<(), Alloc
         Kind::Action => "'keep' or 'drop'",
         Kind::Labels => "a list of strings, at least one",
         Kind::Text => "a string",
+        Kind::Fields => "a table of names and values, each a string of RFC 9110's grammar",
         Kind::Part => "a table",
     })
 }

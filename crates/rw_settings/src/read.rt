@@ -26,7 +26,7 @@ use std::alloc::{AllocError, Global};
 use toml::Table;
 
 /// Returns the document of a text.
-fn document_in(alloc: Global, text: &str) -> Result<Table, SettingsFault>
+pub(crate) fn document_in(alloc: Global, text: &str) -> Result<Table, SettingsFault>
     ensures ok { IfOk result (λ t. parse_document text.now ≡ Some (table_view t)) }
     ensures err { IfErr result
         (λ f. (f ≡ OutOfMemory) ⊎ ((f ≡ NotToml) × (parse_document text.now ≡ None))) }

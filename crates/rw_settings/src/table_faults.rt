@@ -12,6 +12,7 @@ ghost use Rattle.rw_settings.specs.Values.{number_if, switch_if, are_texts, labe
 
 use crate::fault::{SettingsFault, lesser};
 use crate::keys::{Key, Kind};
+use crate::sent_fields::fields_fault;
 use crate::values::{number_if, value_at};
 use rw_types::{HostName, RequestPath};
 use toml::{Table, Value};
@@ -97,7 +98,9 @@ fn text_fault(kind: &Kind, text: &str) -> Option<SettingsFault>
         ),
         Kind::Action => unless(text == "keep" || text == "drop", SettingsFault::BadRule),
         Kind::Text | Kind::Part => None,
-        Kind::Number(..) | Kind::Switch | Kind::Labels => Some(SettingsFault::WrongType),
+        Kind::Number(..) | Kind::Switch | Kind::Labels | Kind::Fields => {
+            Some(SettingsFault::WrongType)
+        }
     }
 }
 
@@ -139,6 +142,7 @@ fn value_fault(kind: &Kind, value: &Value) -> Option<SettingsFault>
         Kind::Number(low, high, _) => number_fault(value, *low, *high),
         Kind::Switch => switch_fault(value),
         Kind::Labels => list_fault(value),
+        Kind::Fields => fields_fault(value),
         Kind::Part => None,
         _ => match value.as_str() {
             None => Some(SettingsFault::WrongType),

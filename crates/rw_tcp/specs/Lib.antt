@@ -2,3 +2,6 @@ pub mod Hearing
 pub mod Receivers
 pub mod Packing
 pub mod Receptions
+pub mod Added
+pub mod Repeats
+pub mod Doubts

@@ -4,9 +4,11 @@ ghost use Rattle.std.specs.Prelude.{◌≡◌, ◌+◌, ◌⊎◌, [], true, fal
 ghost use Rattle.std.specs.Io.KnownBytes.{Appends, IsAtEnd};
 ghost use Rattle.rw_retry.specs.Judgements.{judgement_of};
 ghost use Rattle.rw_types.specs.Memory.{ReadsOnto};
+ghost use Rattle.rw_fields.specs.Fields.{with_fields};
 ghost use Rattle.rw_tcp.specs.Hearing.{Hears};
 
 use http::StatusCode;
+use rw_fields::ExtraFields;
 use rw_retry::{Judgement, judge};
 use rw_shard_core::{MAX_HEAD_BYTES, ReplyRead, read_reply};
 use rw_types::{ReadFault, Sink, Source, write_all};
@@ -182,6 +184,49 @@ pub(crate) fn hear_answer<R: Source, W: Sink>(
         },
         ReplyRead::Partial => Err(no_status(NoReply::Ended, sent)),
         ReplyRead::Bad => Err(no_status(NoReply::Bad, sent)),
+    }
+}
+
+/// Does what `hear_answer` does, for a request to which these fields are added.
+pub(crate) fn hear_answer_to<R: Source, W: Sink>(
+    alloc: Global,
+    reader: &mut R,
+    writer: &mut W,
+    fields: &ExtraFields,
+    request: &[u8],
+) -> Result<Heard, NoReply>
+    ensures reply { IfOk result
+        (λ h. Hears (R.remaining reader.old) (R.remaining reader.new) (ReplyRead.Status h)) }
+    ensures written { IfOk result (λ h. judgement_of h ≡ Judgement.Done
+        → Appends (W.contents writer.old) (W.contents writer.new)
+        (with_fields fields.now request.now)) }
+    ensures device { result ≡ Err NoReply.Device
+        → (R.has_failed reader.new ≡ true) ⊎ (W.has_failed writer.new ≡ true) }
+{
+    let bytes = fields.add_to(request)?;
+    hear_answer(alloc, reader, writer, bytes.as_slice())
+}
+
+/// Writes a request with these fields after its request line, and reads until the status of its
+/// reply has come, as `ask` does.
+pub fn ask_with_fields<R: Source, W: Sink>(
+    alloc: Global,
+    reader: &mut R,
+    writer: &mut W,
+    fields: &ExtraFields,
+    request: &[u8],
+) -> Result<Reply, NoReply>
+    ensures reply { IfOk result
+        (λ r. Hears (R.remaining reader.old) (R.remaining reader.new) (ReplyRead.Status r.status)) }
+    ensures written { IfOk result (λ r. judgement_of r.status ≡ Judgement.Done
+        → Appends (W.contents writer.old) (W.contents writer.new)
+        (with_fields fields.now request.now)) }
+    ensures device { result ≡ Err NoReply.Device
+        → (R.has_failed reader.new ≡ true) ⊎ (W.has_failed writer.new ≡ true) }
+{
+    match hear_answer_to(alloc, reader, writer, fields, request) {
+        Ok(heard) => Ok(heard.into_reply()),
+        Err(fault) => Err(fault),
     }
 }
 

@@ -4,11 +4,15 @@ ghost use Rattle.std.specs.Prelude.{◌≡◌, ◌<◌, ◌*◌, [], Ok, IfOk, I
 ghost use Rattle.rw_shard_core.specs.declared.replies.ReplyRead.TheVariants as read;
 ghost use Rattle.rw_retry.specs.declared.judgement.Judgement.TheVariants as judgement;
 
+use crate::access::Access;
 use crate::asked_pause::AskedPause;
+use crate::doubt::{is_unsure, may_be_taken};
 use crate::packed::{Packer, copy_target};
 use crate::refusal::RefusalStop;
-use crate::reply::{Heard, NoReply, hear_answer};
+use crate::repeats::{FailureWatch, GiveUp};
+use crate::reply::{Heard, NoReply, hear_answer, hear_answer_to};
 use crate::route::{Route, SharedRoute};
+use rw_fields::ExtraFields;
 use rw_history::History;
 use rw_metrics::{Cause, SendCounters};
 use rw_retry::{Judgement, judge};
@@ -16,9 +20,10 @@ use rw_shard_core::Target;
 use rw_socket::{Deadline, Timely};
 use rw_types::{Bounded, Sink, Source, Std};
 use rw_worker::{Exchanged, Lost, Reply, Transport};
-use std::alloc::{AllocError, Global};
+use std::alloc::{AllocError, AllocGlobal, Global};
 use std::marker::Model;
 use std::net::{Net, SocketAddr, TcpStream};
+use std::rt::Files;
 use std::sync::Arc;
 use std::time::{Clock, Duration};
 
@@ -42,6 +47,12 @@ pub struct TcpTransport<N> {
     packer: Option<Packer>,
     refusal_stop: Option<Arc<RefusalStop, Global>>,
     asked_pause: Option<Arc<AskedPause, Global>>,
+    /// The fields that are added to requests, and where they come from.
+    fields: Option<ExtraFields>,
+    access: Option<Arc<Access, Global>>,
+    /// Whether the receiver may have taken the batch that is sent.
+    may_be_taken: bool,
+    failures: Option<FailureWatch>,
     seen: History<Exchanged>,
 }
 
@@ -57,7 +68,7 @@ impl<N> Model for TcpTransport<N> {
     } };
 }
 
-impl<N: Net<Stream = TcpStream> + Clock + Copy> TcpTransport<N> {
+impl<N: Net<Stream = TcpStream> + Clock + Files + AllocGlobal + Copy> TcpTransport<N> {
     /// Returns a transport to these addresses of one receiver, which are tried in turn. The timeout
     /// is in milliseconds, for a whole attempt: the connects, all writes and all reads together.
     /// `counters` count each attempt, and why it failed.
@@ -81,6 +92,10 @@ impl<N: Net<Stream = TcpStream> + Clock + Copy> TcpTransport<N> {
             packer: None,
             refusal_stop: None,
             asked_pause: None,
+            fields: None,
+            access: None,
+            may_be_taken: false,
+            failures: None,
             seen: History::new(),
         }
     }
@@ -126,6 +141,28 @@ impl<N: Net<Stream = TcpStream> + Clock + Copy> TcpTransport<N> {
         transport
     }
 
+    /// Returns the transport, which from here on adds these fields to each request. After a 401 it
+    /// reads them again, if `access` has a token file, and sends the request once more if they have
+    /// changed.
+    pub fn with_fields(self, fields: ExtraFields, access: Arc<Access, Global>) -> TcpTransport<N>
+        ensures { result ≡ self }
+    {
+        let mut transport = self;
+        transport.fields = Some(fields);
+        transport.access = Some(access);
+        transport
+    }
+
+    /// Returns the transport, which from here on has the run given up if the same failure is
+    /// answered for too long.
+    pub fn with_give_up(self, give_up: Arc<GiveUp, Global>) -> TcpTransport<N>
+        ensures { result ≡ self }
+    {
+        let mut transport = self;
+        transport.failures = Some(FailureWatch::new(transport.alloc, give_up));
+        transport
+    }
+
     /// Returns a connection to the first address that answers, and the place of this address. Those
     /// that were not tried yet share the time that is left.
     fn connect(&self, deadline: &Deadline<N>) -> Option<(TcpStream, usize)>
@@ -143,14 +180,15 @@ impl<N: Net<Stream = TcpStream> + Clock + Copy> TcpTransport<N> {
         None
     }
 
-    /// Writes these bytes to a connection of their own, and returns what is answered.
+    /// Writes these bytes, with the fields that are added, to a connection of their own. Returns
+    /// what is answered.
     fn ask(&mut self, deadline: Deadline<N>, bytes: &[u8]) -> Result<Heard, Cause>
         ensures { self.new.seen ≡ self.old.seen }
     {
         let Some((stream, at)) = self.connect(&deadline) else {
             return Err(Cause::Connect);
         };
-        let heard = exchange_through(self.alloc, &stream, deadline, bytes)?;
+        let heard = exchange_through(self.alloc, &stream, deadline, &self.fields, bytes)?;
         self.route.put_first(at);
         if let Some(asked) = &self.asked_pause {
             asked.hear(heard.text());
@@ -158,8 +196,63 @@ impl<N: Net<Stream = TcpStream> + Clock + Copy> TcpTransport<N> {
         Ok(heard)
     }
 
+    /// Sends a request over its own connection, packed by this packer if there is one.
+    fn ask_packed(
+        &mut self,
+        packer: &mut Option<Packer>,
+        deadline: Deadline<N>,
+        request: &[u8],
+    ) -> Result<Heard, Cause>
+        ensures { self.new.seen ≡ self.old.seen }
+    {
+        match packer {
+            None => self.ask(deadline, request),
+            Some(packer) => match packer.pack(request) {
+                Ok(()) => self.ask(deadline, packer.bytes()),
+                Err(_) => Err(Cause::Memory),
+            },
+        }
+    }
+
+    /// Reads the token again, and returns whether the fields have changed.
+    fn renew_fields(&mut self) -> bool
+        ensures { self.new.seen ≡ self.old.seen }
+    {
+        let (Some(access), Some(fields)) = (&self.access, &self.fields) else {
+            return false;
+        };
+        if !access.has_token_file() {
+            return false;
+        }
+        let Ok(renewed) = access.fields(&self.net) else {
+            return false;
+        };
+        if renewed.is_same(fields) {
+            return false;
+        }
+        self.fields = Some(renewed);
+        true
+    }
+
+    /// Takes what came of an attempt to send a request: whether the receiver may have taken it, and
+    /// whether it answers the same failure for too long.
+    fn note_answer(&mut self, request: &[u8], answer: &Result<Heard, Cause>)
+        ensures { self.new.seen ≡ self.old.seen }
+    {
+        let heard = match answer {
+            Ok(heard) => Some((heard.status().as_u16(), heard.text())),
+            Err(_) => None,
+        };
+        self.may_be_taken = is_doubtful(&self.counters, self.may_be_taken, request, answer);
+        let mut failures = self.failures.take();
+        if let Some(watch) = &mut failures {
+            watch.hear(&self.net, heard);
+        }
+        self.failures = failures;
+    }
+
     /// Sends a request over its own connection, packed by this packer if there is one, and counts
-    /// the attempt and its outcome.
+    /// the attempt and its outcome. After a 401 it is sent once more if the token has changed.
     fn attempt(&mut self, packer: &mut Option<Packer>, request: &[u8]) -> Result<Reply, Lost>
         ensures { self.new.seen ≡ self.old.seen }
     {
@@ -169,13 +262,11 @@ impl<N: Net<Stream = TcpStream> + Clock + Copy> TcpTransport<N> {
             asked.clear();
         }
         let deadline = Deadline::new(self.net, self.timeout);
-        let answer = match packer {
-            None => self.ask(deadline, request),
-            Some(packer) => match packer.pack(request) {
-                Ok(()) => self.ask(deadline, packer.bytes()),
-                Err(_) => Err(Cause::Memory),
-            },
-        };
+        let mut answer = self.ask_packed(packer, deadline, request);
+        if is_unauthorized(&answer) && self.renew_fields() {
+            answer = self.ask_packed(packer, deadline, request);
+        }
+        self.note_answer(request, &answer);
         counted(&self.counters, &deadline, request, answer)
     }
 
@@ -190,6 +281,36 @@ impl<N: Net<Stream = TcpStream> + Clock + Copy> TcpTransport<N> {
         self.route.note(&self.net, self.alloc, has_failed);
         if let (Some(stop), Ok(reply)) = (&self.refusal_stop, answer) {
             stop.hear(reply.status);
+        }
+    }
+}
+
+/// Returns whether the receiver wants to know who sends.
+fn is_unauthorized(answer: &Result<Heard, Cause>) -> bool {
+    match answer {
+        Ok(heard) => heard.status().as_u16() == 401,
+        Err(_) => false,
+    }
+}
+
+/// Returns whether the receiver may have taken the batch that is sent, after this attempt. A batch
+/// that is refused and may have been taken before is counted.
+fn is_doubtful(
+    counters: &SendCounters,
+    before: bool,
+    request: &[u8],
+    answer: &Result<Heard, Cause>,
+) -> bool {
+    match answer {
+        Err(Cause::Connect | Cause::Memory) => before,
+        Err(_) => may_be_taken(before, None),
+        Ok(heard) => {
+            let status = heard.status();
+            let number = status.as_u16();
+            if is_unsure(before, number) {
+                counters.doubt(request);
+            }
+            judge(status) == Judgement::Again && may_be_taken(before, Some(number))
         }
     }
 }
@@ -217,14 +338,16 @@ fn exchange_through<C: Clock + Copy>(
     alloc: Global,
     stream: &TcpStream,
     deadline: Deadline<C>,
+    fields: &Option<ExtraFields>,
     request: &[u8],
 ) -> Result<Heard, Cause> {
-    match hear_answer(
-        alloc,
-        &mut Std::new(Timely::new(stream, deadline)),
-        &mut Std::new(Timely::new(stream, deadline)),
-        request,
-    ) {
+    let mut reader = Std::new(Timely::new(stream, deadline));
+    let mut writer = Std::new(Timely::new(stream, deadline));
+    let heard = match fields {
+        None => hear_answer(alloc, &mut reader, &mut writer, request),
+        Some(fields) => hear_answer_to(alloc, &mut reader, &mut writer, fields, request),
+    };
+    match heard {
         Ok(heard) => Ok(heard),
         Err(fault) => Err(cause_of(fault)),
     }
@@ -269,7 +392,8 @@ fn counted<C: Clock>(
     }
 }
 
-impl<N: Net<Stream = TcpStream> + Clock + Copy> Transport for TcpTransport<N> {
+impl<N: Net<Stream = TcpStream> + Clock + Files + AllocGlobal + Copy> Transport
+    for TcpTransport<N> {
     ghost use Rattle.std.specs.Prelude.{⊤};
 
     ghost is_for = { λ _ _ _. ⊤ };

@@ -34,6 +34,16 @@ pub fn explain_drops(rt: &HostRuntime, drops: &Drops) {
     }
 }
 
+/// Prints how many of the refused samples the receiver may hold, if there are some.
+pub fn explain_unsure(rt: &HostRuntime, counters: &SendCounters) {
+    let count = counters.unsure();
+    if count > 0 {
+        let _ = eprintln!(rt;
+            "  unsure: {count} of the samples refused with status 400 may be held by the receiver, which did not answer an earlier attempt; next: docs/OPERATING.md, 'Repeats'"
+        );
+    }
+}
+
 /// Prints what the receiver last said of a batch that it did not take, if it said anything.
 pub fn explain_reply(rt: &HostRuntime, counters: &SendCounters) {
     if let Ok(Some((status, text))) = counters.last_reply(rt.alloc()) {

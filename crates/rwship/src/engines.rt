@@ -3,6 +3,7 @@
 use crate::explanations::InputRun;
 use crate::input::{Form, Input};
 use crate::inspect_command::LogCommand;
+use crate::output::{Output, open_output};
 use crate::program_end::{report_settings_fault, report_unread_input};
 use crate::settings::{dir_with, settings_in};
 use rw_cli::{LogDir, SettingsFile};
@@ -10,16 +11,27 @@ use rw_log_commands::{run_body_with, run_log, run_log_dir, run_plan_with};
 use rw_replay::run_replay;
 use rw_settings::Settings;
 use rw_text::ToolFault;
-use rw_types::{Bounded, Std};
+use rw_types::Bounded;
 use std::process::ExitCode;
-use std::rt::Stdout;
 
 /// A command over standard input.
 #[derive(Drop)]
 struct InputCommand<'a> {
     rt: &'a HostRuntime,
     input: Input,
-    output: Std<Stdout>,
+    output: Output,
+}
+
+/// Reports how a command ended that wrote to a folder or, without one, to standard output. Returns
+/// the exit status.
+fn report_end(
+    rt: &HostRuntime,
+    input: &Input,
+    dir: Option<&str>,
+    output: &mut Output,
+    outcome: Result<(), ToolFault>,
+) -> ExitCode {
+    InputRun::new(rt, input, dir).report(output, outcome)
 }
 
 impl<'a> InputCommand<'a> {
@@ -34,16 +46,10 @@ impl<'a> InputCommand<'a> {
             Ok(input) => Ok(InputCommand {
                 rt,
                 input,
-                output: Std::new(rt.stdout()),
+                output: open_output(rt),
             }),
             Err(fault) => Err(report_unread_input(rt, fault)),
         }
-    }
-
-    /// Reports how a command ended that wrote to a folder or, without one, to standard output.
-    /// Returns the exit status.
-    fn end(&self, dir: Option<&str>, outcome: Result<(), ToolFault>) -> ExitCode {
-        InputRun::new(self.rt, &self.input, dir).report(outcome)
     }
 
     /// Writes the body of a segment.
@@ -56,7 +62,8 @@ impl<'a> InputCommand<'a> {
             hex,
             may_compress,
         );
-        self.end(None, outcome)
+        drop(reader);
+        report_end(self.rt, &self.input, None, &mut self.output, outcome)
     }
 
     /// Writes a segment of log text, or the segments into a folder.
@@ -68,7 +75,8 @@ impl<'a> InputCommand<'a> {
             Some(dir) => run_log_dir(rt, alloc, &mut reader, dir, pages),
             None => run_log(alloc, &mut reader, &mut self.output, hex, pages),
         };
-        self.end(dir, outcome)
+        drop(reader);
+        report_end(rt, &self.input, dir, &mut self.output, outcome)
     }
 
     /// Prints the plan of a segment.
@@ -82,14 +90,16 @@ impl<'a> InputCommand<'a> {
             hex,
             may_compress,
         );
-        self.end(None, outcome)
+        drop(reader);
+        report_end(self.rt, &self.input, None, &mut self.output, outcome)
     }
 
     /// Plays a script and prints the state at its end.
     fn replay(&mut self, settings: Settings) -> ExitCode {
         let mut reader = self.input.reader(self.rt);
         let outcome = run_replay(self.rt.alloc(), &mut reader, &mut self.output, settings);
-        self.end(None, outcome)
+        drop(reader);
+        report_end(self.rt, &self.input, None, &mut self.output, outcome)
     }
 }
 
@@ -102,16 +112,17 @@ pub fn body(rt: &HostRuntime, hex: bool, may_compress: bool, is_explained: bool)
     }
 }
 
-/// Writes the log that standard input describes. If `--explain` was given, prints what is wrong
-/// with a bad line, or with a folder or an output that cannot be written.
+/// Writes the log that standard input describes, maybe with decimals. If `--explain` was given,
+/// prints what is wrong with a bad line, or with a folder or an output that cannot be written.
 pub fn log(
     rt: &HostRuntime,
     hex: bool,
     pages: Bounded<1, 4096>,
     dir: Option<&str>,
+    has_decimals: bool,
     is_explained: bool,
 ) -> ExitCode {
-    match InputCommand::open(rt, Form::LogText, is_explained) {
+    match InputCommand::open(rt, Form::LogText { has_decimals }, is_explained) {
         Ok(mut command) => command.log(hex, pages, dir),
         Err(status) => status,
     }

@@ -2,7 +2,8 @@
 
 use crate::input::{Form, Input, Reader};
 use crate::inspect_command::{inspect_segment, print_damage};
-use crate::program_end::{print_device_error, print_output_error, report_result};
+use crate::output::{Output, print_output_error};
+use crate::program_end::{print_device_error, report_result};
 use rw_replay::{log_line_note, numbered_line, script_line_note, shown_line};
 use rw_text::ToolFault;
 use std::alloc::AllocError;
@@ -42,7 +43,7 @@ impl<'a> InputRun<'a> {
         let alloc = self.rt.alloc();
         match self.input.form {
             Form::Segment { .. } | Form::Digits { .. } => Ok(NO_DIGITS),
-            Form::LogText => Ok(log_line_note(alloc, line)?.unwrap_or("")),
+            Form::LogText { .. } => Ok(log_line_note(alloc, line)?.unwrap_or("")),
             Form::Script => Ok(script_line_note(alloc, line)?.unwrap_or(MIXED)),
         }
     }
@@ -66,7 +67,7 @@ impl<'a> InputRun<'a> {
                     self.print_segment_damage(&segment, may_compress)
                 }
                 Form::Segment { may_compress } => self.print_segment_damage(text, may_compress),
-                Form::LogText | Form::Script => Ok(()),
+                Form::LogText { .. } | Form::Script => Ok(()),
             },
             ToolFault::Line(number) => {
                 if let Some(line) = numbered_line(text, number) {
@@ -79,10 +80,10 @@ impl<'a> InputRun<'a> {
     }
 
     /// Says that the folder, or without one standard output, could not be written.
-    fn print_unwritten(&self) {
+    fn print_unwritten(&self, output: &mut Output) {
         let rt = self.rt;
         let Some(dir) = self.dir else {
-            print_output_error(rt);
+            print_output_error(rt, output);
             return;
         };
         match fs::read_dir(rt, dir) {
@@ -110,14 +111,14 @@ impl<'a> InputRun<'a> {
 
     /// Ends as `report_result` does. If the input was held, prints what is wrong: then a device
     /// that failed is not the input.
-    pub fn report(&self, outcome: Result<(), ToolFault>) -> ExitCode {
+    pub fn report(&self, output: &mut Output, outcome: Result<(), ToolFault>) -> ExitCode {
         let fault = match outcome {
             Ok(()) => return report_result(self.rt, Ok(())),
             Err(fault) => fault,
         };
         let status = report_result(self.rt, Err(fault));
         match (&self.input.text, fault) {
-            (Some(_), ToolFault::Device) => self.print_unwritten(),
+            (Some(_), ToolFault::Device) => self.print_unwritten(output),
             (Some(_), ToolFault::SegmentFull) => self.print_segment_full(),
             (Some(text), _) => {
                 let _ = self.print_input_fault(text, fault);

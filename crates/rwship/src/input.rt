@@ -1,5 +1,6 @@
 //! Standard input, as the commands read it.
 
+use rw_decimal::exact_text;
 use rw_text::ToolFault;
 use rw_types::{Failed, Source, Std, read_to_end};
 use std::rt::Stdin;
@@ -11,7 +12,8 @@ pub enum Form {
     Segment { may_compress: bool },
     /// The same in hexadecimal digits.
     Digits { may_compress: bool },
-    LogText,
+    /// Log text, whose values may be decimals if `has_decimals` says so.
+    LogText { has_decimals: bool },
     Script,
 }
 
@@ -30,29 +32,46 @@ impl Form {
 #[derive(Drop)]
 pub struct Input {
     pub form: Form,
-    /// `None` if it is read as it comes.
+    /// The text, if a fault in it is to be shown.
     pub text: Option<Vec<u8>>,
+    /// The same without decimals, if it may have them.
+    exact: Option<Vec<u8>>,
+}
+
+/// Reads standard input to its end.
+fn read_input(rt: &HostRuntime) -> Result<Vec<u8>, ToolFault> {
+    let mut text = Vec::new(rt.alloc());
+    read_to_end(rt.alloc(), &mut Std::new(rt.stdin()), &mut text)?;
+    Ok(text)
 }
 
 impl Input {
-    /// Reads standard input whole if `is_held` says so, and otherwise nothing of it yet.
-    pub fn open(rt: &HostRuntime, form: Form, is_held: bool) -> Result<Input, ToolFault> {
-        if !is_held {
-            return Ok(Input { form, text: None });
+    /// Reads standard input whole if `is_shown` says that a fault in it is to be shown, or if it
+    /// may have decimals, and otherwise nothing of it yet.
+    pub fn open(rt: &HostRuntime, form: Form, is_shown: bool) -> Result<Input, ToolFault> {
+        let has_decimals = matches!(form, Form::LogText { has_decimals: true });
+        if !is_shown && !has_decimals {
+            return Ok(Input {
+                form,
+                text: None,
+                exact: None,
+            });
         }
-        let mut text = Vec::new(rt.alloc());
-        read_to_end(rt.alloc(), &mut Std::new(rt.stdin()), &mut text)?;
-        Ok(Input {
-            form,
-            text: Some(text),
-        })
+        let text = read_input(rt)?;
+        let exact = if has_decimals {
+            Some(exact_text(rt.alloc(), &text)?)
+        } else {
+            None
+        };
+        let text = if is_shown { Some(text) } else { None };
+        Ok(Input { form, text, exact })
     }
 
     /// Returns a reader of it from its first byte on.
     pub fn reader(&self, rt: &HostRuntime) -> Reader<'_> {
-        match &self.text {
-            Some(text) => Reader::Held(text.as_slice()),
-            None => Reader::Live(Std::new(rt.stdin())),
+        match (&self.exact, &self.text) {
+            (Some(text), _) | (None, Some(text)) => Reader::Held(text.as_slice()),
+            (None, None) => Reader::Live(Std::new(rt.stdin())),
         }
     }
 }

@@ -2,9 +2,10 @@
 //! `inspect` at given positions.
 
 use crate::input::Reader;
-use crate::log_fault::{LogReadFault, has_output_failed, print_lines, report_run_fault};
+use crate::log_fault::{LogReadFault, print_lines, report_run_fault};
 use crate::log_files::{files_of, names_of, note_checkpoint, note_empty};
-use crate::program_end::{report_missing, report_output_fault, report_unread_input};
+use crate::output::{Output, has_output_failed, open_output, report_output_fault};
+use crate::program_end::{report_missing, report_unread_input};
 use rw_cli::LogDir;
 use rw_follow::Queue;
 use rw_inspect::{LogFindings, fault_lines, find_entries, inspect, json_of, table_of};
@@ -16,7 +17,6 @@ use rw_text::ToolFault;
 use rw_types::{Std, write_all};
 use std::alloc::AllocError;
 use std::process::ExitCode;
-use std::rt::Stdout;
 
 /// The files of a log, each with its name, and their names once more.
 struct LogFiles {
@@ -25,7 +25,7 @@ struct LogFiles {
 }
 
 /// Writes a text to standard output.
-fn print_text(output: &mut Std<Stdout>, text: &[u8]) -> Result<(), ToolFault> {
+fn print_text(output: &mut Output, text: &[u8]) -> Result<(), ToolFault> {
     Ok(write_all(output, text)?)
 }
 
@@ -34,7 +34,7 @@ fn print_skipped(
     rt: &HostRuntime,
     report: &LogFindings,
     json: bool,
-    output: &mut Std<Stdout>,
+    output: &mut Output,
 ) -> Result<(), ToolFault> {
     for SkippedRecords { kind, count } in &report.skipped {
         let name = kind.name();
@@ -55,7 +55,7 @@ fn print_report(
     rt: &HostRuntime,
     report: &LogFindings,
     json: bool,
-    output: &mut Std<Stdout>,
+    output: &mut Output,
 ) -> Result<(), ToolFault> {
     let text = if json {
         json_of(rt.alloc(), report)?
@@ -72,7 +72,7 @@ pub struct LogCommand<'a> {
     rt: &'a HostRuntime,
     dir: LogDir<'a>,
     is_explained: bool,
-    output: Std<Stdout>,
+    output: Output,
 }
 
 impl<'a> LogCommand<'a> {
@@ -82,7 +82,7 @@ impl<'a> LogCommand<'a> {
             rt,
             dir,
             is_explained,
-            output: Std::new(rt.stdout()),
+            output: open_output(rt),
         }
     }
 
@@ -234,7 +234,7 @@ fn print_input(
     rt: &HostRuntime,
     may_compress: bool,
     json: bool,
-    output: &mut Std<Stdout>,
+    output: &mut Output,
 ) -> Result<(), ToolFault> {
     let report = inspect_segment(rt, Reader::Live(Std::new(rt.stdin())), may_compress)?;
     print_report(rt, &report, json, output)?;
@@ -246,10 +246,10 @@ fn print_input(
 
 /// Prints what the segment on standard input holds, and reports how that ended.
 pub fn inspect_input(rt: &HostRuntime, may_compress: bool, json: bool) -> ExitCode {
-    let mut output = Std::new(rt.stdout());
+    let mut output = open_output(rt);
     match print_input(rt, may_compress, json, &mut output) {
         Ok(()) => ExitCode::SUCCESS,
-        Err(_) if has_output_failed(&mut output) => report_output_fault(rt, true),
+        Err(_) if has_output_failed(&mut output) => report_output_fault(rt, &mut output, true),
         Err(fault) => report_unread_input(rt, fault),
     }
 }

@@ -3,7 +3,8 @@
 ghost use Rattle.std.specs.Prelude.{◌≡◌, [], IfOk};
 
 use crate::live_report::is_watched;
-use crate::program_end::{report_output_fault, report_result};
+use crate::output::{Output, report_output_fault};
+use crate::program_end::report_result;
 use rw_cli::Receiving;
 use rw_head::{Memory, RecentSamples};
 use rw_kept_folder::{
@@ -90,6 +91,10 @@ fn fault_of(error: &KeptLogError) -> ToolFault {
 const MAKE_READABLE: &str =
     "make the folder and its files readable and writable, or choose another one";
 
+/// What to do if no file can be opened.
+const MORE_FILES: &str =
+    "raise the limit of open files ('ulimit -n'), and start the receiver again";
+
 const SEE_THE_DISK: &str = "see whether the disk is full or fails, and start the receiver again";
 
 /// Returns what to do about a call on the files of a folder that failed for this reason.
@@ -99,6 +104,7 @@ fn step_after_cause(cause: FaultCause, otherwise: &'static str) -> &'static str 
         FaultCause::ReadOnly => "mount its file system for writing, and start the receiver again",
         FaultCause::NoPermission =>
             "let the user of the receiver read and write the folder and its files",
+        FaultCause::TooManyFiles => MORE_FILES,
         _ => otherwise,
     }
 }
@@ -129,14 +135,20 @@ fn step_after_folder(error: &FolderError) -> Option<&'static str> {
     }
 }
 
+/// Returns what to do if a folder cannot be locked because of this error.
+fn step_after_lock(error: &Error) -> &'static str {
+    match error.raw_os_error() {
+        Some(23 | 24) => MORE_FILES,
+        _ => "see whether the folder exists and may be read; 'mkdir -p' makes one",
+    }
+}
+
 /// Returns what to do if the log in a folder cannot be opened because of this error, or `None` if
 /// the text of the error says so.
 fn next_step(error: &KeptLogError) -> Option<&'static str> {
     match error {
         KeptLogError::InUse => Some("stop that one, or choose another folder"),
-        KeptLogError::Unlocked(_) => {
-            Some("see whether the folder exists and may be read; 'mkdir -p' makes one")
-        }
+        KeptLogError::Unlocked(error) => Some(step_after_lock(error)),
         KeptLogError::Folder(error) => step_after_folder(error),
         KeptLogError::Log(OpenError::Foreign(_), None) => {
             Some("give the settings with which the folder was written, or another folder")
@@ -371,6 +383,7 @@ impl<'a> KeptFolder<'a> {
     pub fn report_end<M: Memory>(
         &self,
         outcome: Result<Received<KeptHead<FolderLog, M>>, ToolFault>,
+        output: &mut Output,
     ) -> ExitCode {
         let rt = self.rt;
         let Received { holder, printed } = match outcome {
@@ -378,7 +391,7 @@ impl<'a> KeptFolder<'a> {
             Err(fault) => return report_result(rt, Err(fault)),
         };
         let status = match printed {
-            Err(ToolFault::Device) => report_output_fault(rt, self.is_explained),
+            Err(ToolFault::Device) => report_output_fault(rt, output, self.is_explained),
             Err(fault) => report_result(rt, Err(fault)),
             Ok(()) if holder.fault().is_none() => ExitCode::SUCCESS,
             Ok(()) => report_result(rt, Err(ToolFault::Device)),

@@ -127,6 +127,12 @@ impl<'a, W: Sink> OutputAfterReport<'a, W> {
         }
     }
 
+    /// Returns the output alone.
+    pub fn into_output(self) -> W {
+        let OutputAfterReport { output, .. } = self;
+        output
+    }
+
     /// Shows the final values of the counters, if they were not shown yet.
     pub fn report(&mut self)
         ensures { self.new.output ≡ self.old.output }

@@ -1,20 +1,19 @@
 //! Why the log in a folder could not be read to its end, and what is printed about that.
 
-use crate::program_end::{print_device_error, report_follow_fault, report_output_fault};
+use crate::output::{Output, has_output_failed, report_output_fault};
+use crate::program_end::{print_device_error, report_follow_fault};
 use rw_cli::LogDir;
 use rw_inspect::fault_lines;
 use rw_log_folder::FolderFault;
 use rw_log_read::UnreadLog;
 use rw_send::FollowFault;
 use rw_text::ToolFault;
-use rw_types::{Sink, Std};
 use rw_wal_tail::{Damage, FaultPlace, TailFault};
 use std::alloc::AllocError;
 use std::fs;
 use std::io::{Error, Read};
 use std::path::Path;
 use std::process::ExitCode;
-use std::rt::Stdout;
 
 /// Why the log in a folder was not read to its end.
 #[derive(Debug, Drop)]
@@ -198,22 +197,17 @@ pub fn log_fault(
     status
 }
 
-/// Returns whether a standard output that was written to has failed: then a write of no byte fails.
-pub fn has_output_failed(output: &mut Std<Stdout>) -> bool {
-    output.write(b"").is_err()
-}
-
 /// Reports as `log_fault` does why a run over the log in a folder has failed or, if that is why,
 /// that standard output could not be written. Returns the exit status.
 pub fn report_run_fault(
     rt: &HostRuntime,
-    output: &mut Std<Stdout>,
+    output: &mut Output,
     dir: LogDir<'_>,
     fault: &LogReadFault,
     is_explained: bool,
 ) -> ExitCode {
     if has_output_failed(output) {
-        report_output_fault(rt, is_explained)
+        report_output_fault(rt, output, is_explained)
     } else {
         log_fault(rt, dir, fault, is_explained)
     }

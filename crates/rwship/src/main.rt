@@ -13,10 +13,12 @@ mod live_report;
 mod log_fault;
 mod log_files;
 mod memory_watch;
+mod output;
 mod program_end;
 mod receive_command;
 mod refusal;
 mod refusal_lines;
+mod request_access;
 mod send_command;
 mod settings;
 mod stop;
@@ -25,31 +27,31 @@ mod waiting;
 use clap::ArgMatches;
 use engines::{body, log, plan, replay};
 use inspect_command::{LogCommand, inspect_input};
+use output::{open_output, report_output_fault};
 use program_end::{
-    print_version, report_bad_arguments, report_bad_value, report_output_fault, report_parse_error,
-    report_result, report_settings_fault,
+    print_version, report_bad_arguments, report_bad_value, report_parse_error, report_result,
+    report_settings_fault,
 };
 use receive_command::receive;
 use rw_cli::{LogDir, SettingsFile, Task, command_line, positions_of, task_of};
 use rw_text::ToolFault;
-use rw_types::{Std, write_all};
+use rw_types::write_all;
 use send_command::send;
 use settings::settings_text;
 use std::env;
 use std::io::{ErrorKind, IsTerminal};
 use std::process::ExitCode;
-use std::rt::Stdout;
 use std::sync::Wait;
 use std::thread::Threads;
 use std::time::Clock;
 
 /// Prints settings, each key with its value.
 fn print_settings(rt: &HostRuntime, settings: SettingsFile<'_>) -> ExitCode {
-    let mut output = Std::new(rt.stdout());
+    let mut output = open_output(rt);
     match settings_text(rt, settings) {
         Ok(text) => match write_all(&mut output, text.as_bytes()) {
             Ok(()) => ExitCode::SUCCESS,
-            Err(_) => report_output_fault(rt, settings.is_explained),
+            Err(_) => report_output_fault(rt, &mut output, settings.is_explained),
         },
         Err(fault) => report_settings_fault(rt, fault),
     }
@@ -82,8 +84,9 @@ fn perform<R: Threads + Wait + Clock + Copy + Send + Sync + 'static>(
             hex,
             pages,
             dir,
+            has_decimals,
             is_explained,
-        } => log(rt, hex, pages, dir, is_explained),
+        } => log(rt, hex, pages, dir, has_decimals, is_explained),
         Task::Plan {
             settings,
             hex,

@@ -112,25 +112,6 @@ pub fn report_missing(rt: &HostRuntime, count: u64) -> ExitCode
     ExitCode::from(NOT_THERE)
 }
 
-/// Says that standard output could not be written, and what to do.
-pub fn print_output_error(rt: &HostRuntime) {
-    let _ = eprintln!(rt;
-        "  cannot write to standard output; next: see whether its disk is full, or its reader has ended, and run again"
-    );
-}
-
-/// Reports that standard output could not be written, with more if that is asked for. Returns the
-/// exit status.
-pub fn report_output_fault(rt: &HostRuntime, is_explained: bool) -> ExitCode
-    ensures { process.exit_status result ≡ 4 }
-{
-    let status = report_result(rt, Err(ToolFault::Device));
-    if is_explained {
-        print_output_error(rt);
-    }
-    status
-}
-
 /// Reports that standard input could not be read, and returns the exit status.
 pub fn report_unread_input(rt: &HostRuntime, fault: ToolFault) -> ExitCode
     ensures { process.exit_status result ≡ exit_status fault }
@@ -227,9 +208,10 @@ pub fn report_bad_value(rt: &HostRuntime, words: &ArgMatches<'_>) -> ExitCode {
         let _ = eprintln!(rt;
             "error: invalid value '{value}' for '--{option} <HOST:PORT>': expected a host, a colon and a port from 1 to 65535\n"
         );
-    } else if let Some(value) = bad_span(words) {
+    } else if let Some((option, value)) = bad_span(words) {
+        let units = if option == "memory" { "m" } else { "s, m" };
         let _ = eprintln!(rt;
-            "error: invalid value '{value}' for '--memory <TIME>': expected a number from 1 on, and m, h or d after it, as 3h\n"
+            "error: invalid value '{value}' for '--{option} <TIME>': expected a number from 1 on, and {units}, h or d after it, as 3h\n"
         );
     }
     report_bad_arguments(rt, "For more information, try '--help'.")

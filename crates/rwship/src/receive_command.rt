@@ -6,30 +6,30 @@ use crate::live_report::{
     OutputAfterReport, begin_reporting, end_reporting, is_watched, name_to_listen_on,
     print_listen_error,
 };
-use crate::log_fault::has_output_failed;
 use crate::memory_watch::report_old_samples;
-use crate::program_end::{
-    report_misplaced, report_output_fault, report_result, report_settings_fault,
-};
+use crate::output::{Output, has_output_failed, open_output, report_output_fault};
+use crate::program_end::{report_misplaced, report_result, report_settings_fault};
 use crate::refusal_lines::report_refusals;
 use crate::settings::settings_in;
 use crate::stop::{is_misplaced, note_left_file, report_stop, report_write_error, stop_signal};
 use rw_cli::{Receiving, SettingsFile, Until};
+use rw_decimal::print_decimals;
 use rw_follow::StopSignal;
-use rw_head::{Capacity, Memory};
+use rw_head::{Capacity, Head, Memory};
 use rw_kept_head::{HeadReading, KeepFor, KeptHead, OpenedHead};
 use rw_metrics::{Counters, ReceiveCounters};
 use rw_receive::{
-    Received, ServeUntil, Service, now_ms, run_receive, serve_and_print, serve_connections,
+    BodyBounds, Received, ServeUntil, Service, TakeOptions, now_ms, run_receive, serve_and_print,
+    serve_connections,
 };
+use rw_recv_head::Show;
 use rw_settings::Settings;
 use rw_text::{Address, ToolFault};
-use rw_types::{Bounded, Std};
+use rw_types::{Bounded, Sink};
 use std::alloc::{AllocError, Global};
 use std::net::TcpListener;
 use std::path::Path;
 use std::process::ExitCode;
-use std::rt::Stdout;
 use std::sync::{Arc, Wait};
 use std::thread::Threads;
 use std::time::Clock;
@@ -160,10 +160,49 @@ impl<R: Threads + Wait + Clock + Sync> Receiver<'_, R> {
             most,
             idle_ms: self.receiving.idle_ms,
             request_ms: self.receiving.request_ms,
+            bodies: BodyBounds {
+                max_bytes: self.receiving.max_inflight_bytes,
+                max_ms: self.receiving.max_request_ms,
+            },
             capacity: capacity_of(self.receiving),
+            takes: TakeOptions {
+                is_partial: self.receiving.takes_parts,
+            },
             memory_ms: self.receiving.memory_ms,
             counters,
         }
+    }
+
+    /// Serves connections over a head, and prints what it holds with decimals. Returns what has the
+    /// head.
+    fn serve_with_decimals<H: Show + Drop + Send, W: Sink>(
+        &self,
+        listener: TcpListener,
+        counters: &Arc<ReceiveCounters, Global>,
+        holder: H,
+        output: &mut W,
+    ) -> Result<Received<H>, ToolFault> {
+        let signal = self.stop_signal(counters)?;
+        let service = self.service(&signal, counters);
+        let (alloc, limits) = (self.rt.alloc(), &self.settings.limits);
+        let holder = serve_connections(self.threads, alloc, limits, service, listener, holder)?;
+        let printed = print_decimals(alloc, holder.head(), output);
+        Ok(Received { holder, printed })
+    }
+
+    /// Serves connections over a new head, and prints what it holds with decimals.
+    fn serve_new_with_decimals(
+        &self,
+        listener: TcpListener,
+        counters: &Arc<ReceiveCounters, Global>,
+        output: &mut Output,
+    ) -> Result<(), ToolFault> {
+        let head = Head::new(self.rt.alloc(), &self.settings.limits);
+        let Received { holder, printed } = self.serve_with_decimals(
+            listener, counters, head, output,
+        )?;
+        drop(holder);
+        printed
     }
 
     /// Serves connections over a new head, and prints what it holds.
@@ -171,12 +210,16 @@ impl<R: Threads + Wait + Clock + Sync> Receiver<'_, R> {
         &self,
         listener: TcpListener,
         counters: &Arc<ReceiveCounters, Global>,
-        output: &mut Std<Stdout>,
+        output: &mut Output,
     ) -> Result<(), ToolFault> {
-        let signal = self.stop_signal(counters)?;
-        let service = self.service(&signal, counters);
-        let (alloc, settings) = (self.rt.alloc(), self.settings);
-        run_receive(self.threads, alloc, settings, service, listener, output)?;
+        if self.receiving.has_decimals {
+            self.serve_new_with_decimals(listener, counters, output)?;
+        } else {
+            let signal = self.stop_signal(counters)?;
+            let service = self.service(&signal, counters);
+            let (alloc, settings) = (self.rt.alloc(), self.settings);
+            run_receive(self.threads, alloc, settings, service, listener, output)?;
+        }
         self.note_ended_input(counters);
         Ok(())
     }
@@ -188,8 +231,11 @@ impl<R: Threads + Wait + Clock + Sync> Receiver<'_, R> {
         listener: TcpListener,
         counters: &Arc<ReceiveCounters, Global>,
         head: FolderHead,
-        output: &mut OutputAfterReport<'_, Std<Stdout>>,
+        output: &mut OutputAfterReport<'_, Output>,
     ) -> Result<Received<FolderHead>, ToolFault> {
+        if self.receiving.has_decimals && !self.receiving.is_quiet {
+            return self.serve_with_decimals(listener, counters, head, output);
+        }
         let signal = self.stop_signal(counters)?;
         let service = self.service(&signal, counters);
         let (alloc, limits) = (self.rt.alloc(), &self.settings.limits);
@@ -227,7 +273,7 @@ impl<R: Threads + Wait + Clock + Sync> Receiver<'_, R> {
     fn receive_in_memory(
         &self,
         listener: TcpListener,
-        output: &mut Std<Stdout>,
+        output: &mut Output,
     ) -> Result<(), ToolFault> {
         let (counters, shown) = self.begin_counting()?;
         let outcome = self.serve_new(listener, &counters, output);
@@ -236,11 +282,11 @@ impl<R: Threads + Wait + Clock + Sync> Receiver<'_, R> {
     }
 
     /// Reports how a receiver ended that keeps nothing in a folder, and returns the exit status.
-    fn report_served(&self, output: &mut Std<Stdout>, outcome: Result<(), ToolFault>) -> ExitCode {
+    fn report_served(&self, output: &mut Output, outcome: Result<(), ToolFault>) -> ExitCode {
         if !has_output_failed(output) {
             return report_result(self.rt, outcome);
         }
-        let status = report_output_fault(self.rt, self.is_explained);
+        let status = report_output_fault(self.rt, output, self.is_explained);
         if self.is_explained {
             let _ = eprintln!(self.rt;
                 "  what was held is not printed in full, and is lost; with --dir DIR it is kept"
@@ -276,7 +322,7 @@ impl<R: Threads + Wait + Clock + Sync> Receiver<'_, R> {
         match folder.open(reading, counters) {
             Ok(opened) => {
                 let head = self.begin_with(folder, counters, opened);
-                let output = Std::new(self.rt.stdout());
+                let output = open_output(self.rt);
                 let reporting = &self.receiving.reporting;
                 let mut output = OutputAfterReport::new(self.rt, reporting, shown, output);
                 let outcome = self.serve_kept(listener, counters, head, &mut output);
@@ -284,7 +330,7 @@ impl<R: Threads + Wait + Clock + Sync> Receiver<'_, R> {
                 if outcome.is_ok() {
                     self.note_ended_input(counters);
                 }
-                folder.report_end(outcome)
+                folder.report_end(outcome, &mut output.into_output())
             }
             Err(error) => folder.report_error(error),
         }
@@ -313,7 +359,7 @@ impl<R: Threads + Wait + Clock + Sync> Receiver<'_, R> {
                 if outcome.is_ok() {
                     self.note_ended_input(counters);
                 }
-                folder.report_end(outcome)
+                folder.report_end(outcome, &mut open_output(self.rt))
             }
             Err(error) => folder.report_error(error),
         }
@@ -335,7 +381,7 @@ impl<R: Threads + Wait + Clock + Sync> Receiver<'_, R> {
     /// Serves connections that a listener accepts, and returns the exit status.
     fn receive_from(&self, listener: TcpListener) -> ExitCode {
         let Some(dir) = self.receiving.dir else {
-            let mut output = Std::new(self.rt.stdout());
+            let mut output = open_output(self.rt);
             let outcome = self.receive_in_memory(listener, &mut output);
             return self.report_served(&mut output, outcome);
         };

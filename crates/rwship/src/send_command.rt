@@ -1,18 +1,20 @@
 //! The command `send`.
 
 use crate::destination::destination_of;
-use crate::drops::{explain_drops, explain_reply};
+use crate::drops::{explain_drops, explain_reply, explain_unsure};
 use crate::event_log::EventLog;
 use crate::live_report::{begin_reporting, end_reporting};
-use crate::log_fault::{LogReadFault, has_output_failed, log_fault, report_run_fault};
+use crate::log_fault::{LogReadFault, log_fault, report_run_fault};
 use crate::log_files::{
     files_of, names_of, note_checkpoint, note_empty, note_gaps, passes_checkpoint_over,
 };
+use crate::output::{Output, has_output_failed, open_output};
 use crate::program_end::{
     empty_status, gap_status, print_device_error, report_dropped, report_misplaced, report_result,
     report_settings_fault, report_skipped,
 };
-use crate::refusal::{RefusalWatch, report_refusal};
+use crate::refusal::{ReceiverStops, report_receiver_stop};
+use crate::request_access::{RequestAccess, access_in};
 use crate::settings::{dir_with, settings_in};
 use crate::stop::{Awaited, is_misplaced, note_left_file, report_stop, stop_signal};
 use crate::waiting::wait_for_start;
@@ -21,17 +23,17 @@ use rw_follow::{Queue, StopSignal, Timed};
 use rw_log_folder::{Folder, FolderFault, Opened, SegmentFile, check_folder, watch_newest_segment};
 use rw_metrics::{Counters, SendCounters, show_stalls};
 use rw_send::{
-    FollowFault, RefusalStop, RunFault, SendOptions, StopFlag, TcpConnect, UntilAborted, run_follow,
+    FollowFault, GiveUp, RefusalStop, RunFault, SendOptions, StopFlag, TcpConnect, UntilAborted,
+    run_follow,
 };
 use rw_settings::Settings;
 use rw_tcp::look_up;
 use rw_text::{Address, ToolFault};
-use rw_types::{Std, write_all};
+use rw_types::write_all;
 use std::alloc::{AllocError, Global};
 use std::io::{Error, ErrorKind, IsTerminal};
 use std::net::SocketAddr;
 use std::process::ExitCode;
-use std::rt::Stdout;
 use std::sync::{Arc, Wait};
 use std::thread::{self, Threads};
 use std::time::{Clock, Duration};
@@ -54,8 +56,8 @@ struct Shipment {
     connect: TcpConnect<HostRuntime>,
     stop: StopFlag,
     counters: Arc<SendCounters, Global>,
-    /// What a refusal of the first batch does, if it is to stop the run.
-    refusal: Option<RefusalWatch>,
+    /// What ends the run by the answers of its receiver.
+    stops: ReceiverStops,
 }
 
 /// What is wrong with the segments of a folder before a run.
@@ -77,7 +79,9 @@ struct Sender<'a, R> {
     /// Where connections go.
     to: Address<'a>,
     is_explained: bool,
-    output: Std<Stdout>,
+    /// What is added to requests.
+    access: Option<RequestAccess>,
+    output: Output,
 }
 
 /// Returns counters that have counted nothing, and look at requests if they have readers.
@@ -285,21 +289,64 @@ impl<R: Threads + Wait + Clock + Copy + Send + 'static> Sender<'_, R> {
     /// this flag.
     fn refusal(
         &self,
-        settings: &Settings,
         signal: &Arc<StopSignal, Global>,
         stop: &StopFlag,
-    ) -> Result<Option<RefusalWatch>, AllocError> {
+    ) -> Result<Option<Arc<RefusalStop, Global>>, AllocError> {
         if !self.sending.stops_on_refusal {
             return Ok(None);
         }
+        let stop = RefusalStop::new(Arc::try_clone(signal)?, stop.share()?);
+        Ok(Some(Arc::new(self.rt.alloc(), stop)?))
+    }
+
+    /// Returns what a failure that is repeated does, if it is to stop the run by this signal and
+    /// this flag.
+    fn give_up(
+        &self,
+        signal: &Arc<StopSignal, Global>,
+        stop: &StopFlag,
+    ) -> Result<Option<Arc<GiveUp, Global>>, AllocError> {
+        let Some(most_ms) = self.sending.give_up_ms else {
+            return Ok(None);
+        };
+        let give_up = GiveUp::new(most_ms, Arc::try_clone(signal)?, stop.share()?);
+        Ok(Some(Arc::new(self.rt.alloc(), give_up)?))
+    }
+
+    /// Returns what ends the run by the answers of its receiver, by this signal and this flag.
+    fn stops(
+        &self,
+        settings: &Settings,
+        signal: &Arc<StopSignal, Global>,
+        stop: &StopFlag,
+    ) -> Result<ReceiverStops, AllocError> {
         let (alloc, Address { host, port }) = (self.rt.alloc(), self.to);
         let path = settings.config.fields().target.path.as_str();
-        let url = format!(in alloc; "http://{host}:{port}{path}")?;
-        let stop = RefusalStop::new(Arc::try_clone(signal)?, stop.share()?);
-        Ok(Some(RefusalWatch {
-            stop: Arc::new(alloc, stop)?,
-            url,
-        }))
+        Ok(ReceiverStops {
+            refusal: self.refusal(signal, stop)?,
+            give_up: self.give_up(signal, stop)?,
+            url: format!(in alloc; "http://{host}:{port}{path}")?,
+        })
+    }
+
+    /// Returns the source of connections, whose answers may end the run, and whose requests have
+    /// the fields that are added.
+    fn with_options(
+        &self,
+        connect: TcpConnect<HostRuntime>,
+        stops: &ReceiverStops,
+    ) -> Result<TcpConnect<HostRuntime>, AllocError> {
+        let mut connect = connect;
+        if let Some(stop) = &stops.refusal {
+            connect = connect.with_refusal_stop(Arc::try_clone(stop)?);
+        }
+        if let Some(give_up) = &stops.give_up {
+            connect = connect.with_give_up(Arc::try_clone(give_up)?);
+        }
+        if let Some(added) = &self.access {
+            connect = connect.with_fields(added.fields.copy()?, Arc::try_clone(&added.access)?);
+        }
+        Ok(connect)
     }
 
     /// Returns a source of connections to these addresses, which send Snappy blocks if the option
@@ -333,18 +380,16 @@ impl<R: Threads + Wait + Clock + Copy + Send + 'static> Sender<'_, R> {
         let signal = self.signal(&stop)?;
         let theirs = Arc::try_clone(counters)?;
         let counters = Arc::try_clone(counters)?;
-        let refusal = self.refusal(settings, &signal, &stop)?;
-        let mut connect = self.connect_to(addresses, settings, theirs)?;
-        if let Some(refusal) = &refusal {
-            connect = connect.with_refusal_stop(Arc::try_clone(&refusal.stop)?);
-        }
+        let stops = self.stops(settings, &signal, &stop)?;
+        let connect = self.connect_to(addresses, settings, theirs)?;
+        let connect = self.with_options(connect, &stops)?;
         let log = self.segments(signal, &counters)?;
         Ok(Shipment {
             log,
             connect,
             stop,
             counters,
-            refusal,
+            stops,
         })
     }
 
@@ -476,6 +521,7 @@ impl<R: Threads + Wait + Clock + Copy + Send + 'static> Sender<'_, R> {
             }
             explain_drops(rt, &numbers.drops);
         }
+        explain_unsure(rt, counters);
         explain_reply(rt, counters);
         let count = counters.skipped().lost();
         if count > 0 {
@@ -485,11 +531,11 @@ impl<R: Threads + Wait + Clock + Copy + Send + 'static> Sender<'_, R> {
         }
     }
 
-    /// Reports that the receiver refuses whatever it is sent, if this is why the run has ended, and
-    /// returns the exit status.
-    fn report_refused(
+    /// Reports what the receiver answered, if this is why the run has ended, and returns the exit
+    /// status.
+    fn report_stopped(
         &mut self,
-        refusal: &Option<RefusalWatch>,
+        stops: &ReceiverStops,
         outcome: &Result<(), LogReadFault>,
     ) -> Option<ExitCode> {
         let is_other = match outcome {
@@ -499,10 +545,7 @@ impl<R: Threads + Wait + Clock + Copy + Send + 'static> Sender<'_, R> {
         if is_other || has_output_failed(&mut self.output) {
             return None;
         }
-        match refusal {
-            Some(refusal) => report_refusal(self.rt, refusal),
-            None => None,
-        }
+        report_receiver_stop(self.rt, stops)
     }
 
     /// Ends the reporting, and reports how shipping ended and, if that is asked for, what is wrong
@@ -511,7 +554,7 @@ impl<R: Threads + Wait + Clock + Copy + Send + 'static> Sender<'_, R> {
         &mut self,
         counters: Arc<SendCounters, Global>,
         noted: Noted,
-        refusal: Option<RefusalWatch>,
+        stops: ReceiverStops,
         outcome: Result<(), LogReadFault>,
     ) -> ExitCode {
         let (rt, dir, sending) = (self.rt, self.dir, self.sending);
@@ -520,7 +563,7 @@ impl<R: Threads + Wait + Clock + Copy + Send + 'static> Sender<'_, R> {
             self.explain_missing(&counters);
         }
         end_reporting(rt, &sending.reporting, &Counters::Send(counters));
-        if let Some(status) = self.report_refused(&refusal, &outcome) {
+        if let Some(status) = self.report_stopped(&stops, &outcome) {
             return status;
         }
         match outcome {
@@ -558,7 +601,7 @@ impl<R: Threads + Wait + Clock + Copy + Send + 'static> Sender<'_, R> {
             connect,
             stop,
             counters,
-            refusal,
+            stops,
         } = shipment;
         let noted = self.note_segments(&log);
         self.log_start();
@@ -571,7 +614,7 @@ impl<R: Threads + Wait + Clock + Copy + Send + 'static> Sender<'_, R> {
         };
         let outcome = self.ship_log(settings, log, options);
         self.log_end(&counters);
-        self.finish(counters, noted, refusal, outcome)
+        self.finish(counters, noted, stops, outcome)
     }
 
     /// Ships the log, and returns the exit status.
@@ -604,6 +647,10 @@ pub fn send<'a, R: Threads + Wait + Clock + Copy + Send + 'static>(
     };
     match settings_in(rt, file) {
         Ok(settings) => {
+            let access = match access_in(rt, file) {
+                Ok(access) => access,
+                Err(status) => return status,
+            };
             let settings = destination.settings_for(settings);
             let mut sender = Sender {
                 rt,
@@ -612,7 +659,8 @@ pub fn send<'a, R: Threads + Wait + Clock + Copy + Send + 'static>(
                 dir: dir_with(sending.dir, &settings),
                 to: destination.address(),
                 is_explained: file.is_explained,
-                output: Std::new(rt.stdout()),
+                access,
+                output: open_output(rt),
             };
             sender.send(settings)
         }

@@ -6,7 +6,8 @@ ghost use Rattle.rw_settings.specs.SettingsText.{settings_text};
 
 use rw_cli::{LogDir, SettingsFile};
 use rw_settings::{
-    Settings, SettingsFault, SettingsNote, explain_settings, print_settings, read_settings,
+    SentFields, Settings, SettingsFault, SettingsNote, explain_settings, print_settings,
+    read_sent_fields, read_settings,
 };
 use rw_text::ToolFault;
 use std::io::ErrorKind;
@@ -73,6 +74,15 @@ pub fn settings_in(rt: &HostRuntime, file: SettingsFile<'_>) -> Result<Settings,
     let text = text_of(rt, file)?;
     match read_settings(rt.alloc(), &text) {
         Ok(settings) => Ok(settings),
+        Err(fault) => Err(refused(rt, &text, fault, file.is_explained)),
+    }
+}
+
+/// Returns what the settings that are asked for add to requests.
+pub fn sent_fields_in(rt: &HostRuntime, file: SettingsFile<'_>) -> Result<SentFields, Unset> {
+    let text = text_of(rt, file)?;
+    match read_sent_fields(rt.alloc(), &text) {
+        Ok(sent) => Ok(sent),
         Err(fault) => Err(refused(rt, &text, fault, file.is_explained)),
     }
 }

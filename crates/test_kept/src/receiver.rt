@@ -5,7 +5,7 @@ use rw_head::{Capacity, Limits};
 use rw_kept_folder::{FolderJournal, FolderMonitor, FolderRules, OpenFolder, open_journal};
 use rw_kept_head::{HeadReading, KeptHead};
 use rw_metrics::ReceiveCounters;
-use rw_receive::{ServeUntil, Service, serve_connections};
+use rw_receive::{BodyBounds, ServeUntil, Service, TakeOptions, serve_connections};
 use rw_report_text::push_store;
 use rw_text::ToolFault;
 use rw_types::Bounded;
@@ -70,10 +70,12 @@ pub(crate) fn serve<R: Threads + Wait + Clock + Sync>(
         most: Bounded::new(2),
         idle_ms: Bounded::new(60_000),
         request_ms: Bounded::new(60_000),
+        bodies: BodyBounds::none(),
         capacity: Capacity {
             max_samples: bounds.max_samples,
             max_series: u64::MAX,
         },
+        takes: TakeOptions::whole(),
         memory_ms: None,
         counters: bounds.counters,
     };

@@ -29,6 +29,8 @@ mod names;
 #[cfg(test)]
 mod order;
 #[cfg(test)]
+mod partial;
+#[cfg(test)]
 mod places;
 #[cfg(test)]
 mod replies;

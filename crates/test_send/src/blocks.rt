@@ -4,9 +4,10 @@ use crate::connections::{UP_BODY, long_body, request_of, statuses, transport_to}
 use rw_shard_core::Target;
 use rw_snappy::decode;
 use rw_types::Bounded;
-use std::alloc::{AllocError, Global};
+use std::alloc::{AllocError, AllocGlobal, Global};
 use std::io::{Read, Write};
-use std::net::{Net, TcpListener, TcpStream};
+use std::net::{Net, SocketAddr, TcpListener, TcpStream};
+use std::rt::Files;
 use std::test::Fail;
 use std::thread::Threads;
 use std::time::Clock;
@@ -37,19 +38,37 @@ fn bytes_of(alloc: Global, listener: &TcpListener, reply: &[u8]) -> io::Result<V
     Ok(bytes)
 }
 
-/// Returns what two attempts of a request with this body bring, of which the first is answered 429.
-fn both_attempts<
-    R: Net<Stream = TcpStream, Listener = TcpListener> + Threads + Clock + Copy + Send + Sync,
->(rt: &R, alloc: Global, snappy: bool, request: &[u8]) -> io::Result<Attempts> {
-    let listener = TcpListener::bind(rt, "127.0.0.1:0")?;
-    let address = listener.local_addr()?;
-    let mut transport = transport_to(rt, alloc, address, Bounded::new(60_000))?;
+/// Returns the statuses of two attempts of a request with this body, compressed if `snappy`.
+fn two_statuses<N: Net<Stream = TcpStream> + Clock + Files + AllocGlobal + Copy>(
+    net: &N,
+    alloc: Global,
+    address: SocketAddr,
+    snappy: bool,
+    request: &[u8],
+) -> io::Result<Vec<u8>> {
+    let mut transport = transport_to(net, alloc, address, Bounded::new(60_000))?;
     if snappy {
         transport = transport.with_snappy(&Target::standard(alloc)?)?;
     }
+    statuses(alloc, &mut transport, 2, request)
+}
+
+/// Returns what two attempts of a request with this body bring, of which the first is answered 429.
+fn both_attempts<
+    R: Net<Stream = TcpStream, Listener = TcpListener>
+        + Threads
+        + Clock
+        + Files
+        + AllocGlobal
+        + Copy
+        + Send
+        + Sync,
+>(rt: &R, alloc: Global, snappy: bool, request: &[u8]) -> io::Result<Attempts> {
+    let listener = TcpListener::bind(rt, "127.0.0.1:0")?;
+    let address = listener.local_addr()?;
     let (statuses, read) = thread::join(
         rt,
-        || statuses(alloc, &mut transport, 2, request),
+        || two_statuses(rt, alloc, address, snappy, request),
         || {
             let first = bytes_of(alloc, &listener, BUSY)?;
             let second = bytes_of(alloc, &listener, TAKEN)?;
@@ -83,7 +102,14 @@ fn is_block_of(alloc: Global, text: &[u8], body: &[u8], most: usize) -> Result<b
 /// Returns whether a body is sent in a block of at most `most` bytes, the same one in both
 /// attempts, and without the option as it is.
 fn is_sent_in_block<
-    R: Net<Stream = TcpStream, Listener = TcpListener> + Threads + Clock + Copy + Send + Sync,
+    R: Net<Stream = TcpStream, Listener = TcpListener>
+        + Threads
+        + Clock
+        + Files
+        + AllocGlobal
+        + Copy
+        + Send
+        + Sync,
 >(rt: &R, alloc: Global, body: &[u8], most: usize) -> io::Result<bool> {
     let request = request_of(alloc, body)?;
     let packed = both_attempts(rt, alloc, true, &request)?;

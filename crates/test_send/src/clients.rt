@@ -34,6 +34,9 @@ pub(crate) enum Clients {
     /// Two come, and the first one goes. Five come one after the other while the second one keeps
     /// its connection.
     OneStays,
+    /// One writes 28,090 bytes of a long request, and no more. Then another one has the reply to a
+    /// whole one, of 32,090 bytes, and the first one's connection is closed or not.
+    LeavesOneUnfinished { is_closed: bool },
     /// One has its last reply, and writes on, as long as it can.
     WritesOn,
 }
@@ -241,6 +244,39 @@ fn one_stays<N: Net<Stream = TcpStream>>(door: &Door<'_, N>, read: &mut Vec<u8>)
     Ok(())
 }
 
+/// Writes a long request of which this many of its last 32,000 bytes have come.
+fn write_long<N: Net<Stream = TcpStream>>(
+    door: &Door<'_, N>,
+    stream: &mut TcpStream,
+    rest: usize,
+) -> io::Result<()> {
+    let mut front = Vec::from_slice(door.alloc, LONG_FRONT)?;
+    let rest: Vec<u8> = vec![in door.alloc; 0; rest]?;
+    front.extend_from_slice(&rest)?;
+    stream.write_all(&front)
+}
+
+/// Writes a part of a long request. Another client writes a whole one half a second later.
+fn leaves_one_unfinished<N: Net<Stream = TcpStream> + Clock>(
+    door: &Door<'_, N>,
+    is_closed: bool,
+    read: &mut Vec<u8>,
+) -> io::Result<()> {
+    let mut first = connected(door)?;
+    write_long(door, &mut first, 28_000)?;
+    thread::sleep(door.net, Duration::from_millis(500));
+    let mut second = connected(door)?;
+    write_long(door, &mut second, 32_000)?;
+    second.shutdown(Shutdown::Write)?;
+    second.read_to_end(read)?;
+    first.set_read_timeout(Some(Duration::from_secs(1)))?;
+    let was_closed = matches!(first.read(&mut [0; 1]), Ok(0));
+    if was_closed != is_closed {
+        read.extend_from_slice(b"wrong ")?;
+    }
+    Ok(())
+}
+
 /// Has the reply to a request that is refused, and then writes a byte each 300 ms, until its
 /// connection is closed or 20 s have passed.
 fn writes_on<N: Net<Stream = TcpStream> + Clock>(
@@ -279,6 +315,9 @@ pub(crate) fn read_by<N: Net<Stream = TcpStream> + Clock>(
         Clients::IsSteady => is_steady(door, &mut read),
         Clients::OneTooMany => one_too_many(door, &mut read),
         Clients::OneStays => one_stays(door, &mut read),
+        Clients::LeavesOneUnfinished { is_closed } => {
+            leaves_one_unfinished(door, is_closed, &mut read)
+        }
         Clients::WritesOn => writes_on(door, &mut read),
     };
     door.signal.finish();

@@ -2,16 +2,17 @@
 
 use rw_head::Capacity;
 use rw_metrics::{ReceiveCounters, SendCounters};
-use rw_receive::{ServeUntil, Service, run_receive};
+use rw_receive::{BodyBounds, ServeUntil, Service, TakeOptions, run_receive};
 use rw_settings::{Settings, read_settings};
 use rw_shard_core::{Target, request_bytes};
 use rw_tcp::{SharedRoute, Sleep, TcpTransport, look_up};
 use rw_text::ToolFault;
 use rw_types::{Bounded, Room};
 use rw_worker::{Lost, Pause, Reply, Transport};
-use std::alloc::{AllocError, Global};
+use std::alloc::{AllocError, AllocGlobal, Global};
 use std::io::{Read, Write};
 use std::net::{Net, Shutdown, SocketAddr, TcpListener, TcpStream};
+use std::rt::Files;
 use std::sync::{Arc, Wait};
 use std::test::Fail;
 use std::thread::Threads;
@@ -143,7 +144,7 @@ fn deserted<N: Net<Stream = TcpStream, Listener = TcpListener>>(net: &N) -> io::
 }
 
 /// Returns the statuses of `count` requests with the same bytes, each after a space.
-pub(crate) fn statuses<N: Net<Stream = TcpStream> + Clock + Copy>(
+pub(crate) fn statuses<N: Net<Stream = TcpStream> + Clock + Files + AllocGlobal + Copy>(
     alloc: Global,
     transport: &mut TcpTransport<N>,
     count: u64,
@@ -160,31 +161,31 @@ pub(crate) fn statuses<N: Net<Stream = TcpStream> + Clock + Copy>(
     Ok(statuses)
 }
 
+/// Returns a transport to these two addresses of a receiver, in this order, over a route that other
+/// transports share.
+fn transport_along<N: Net<Stream = TcpStream> + Clock + Files + AllocGlobal + Copy>(
+    net: &N,
+    alloc: Global,
+    silent: SocketAddr,
+    address: SocketAddr,
+    route: Arc<SharedRoute, Global>,
+) -> Result<TcpTransport<N>, AllocError> {
+    let addresses: Vec<SocketAddr> = vec![in alloc; silent, address]?;
+    let counters = Arc::new(alloc, SendCounters::new(alloc)?)?;
+    let transport = TcpTransport::new(alloc, *net, addresses, Bounded::new(10_000), counters);
+    Ok(transport.with_shared_route(route))
+}
+
 /// Returns the statuses of three requests. At the first address of the receiver nobody listens at
 /// the first request, and from then on somebody who answers nothing. The third request is sent by
 /// another transport, which shares the route.
-fn ask_behind_silent<N: Net<Stream = TcpStream, Listener = TcpListener> + Clock + Copy>(
-    net: &N,
-    alloc: Global,
-    address: SocketAddr,
-    request: &[u8],
-) -> io::Result<Vec<u8>> {
+fn ask_behind_silent<
+    N: Net<Stream = TcpStream, Listener = TcpListener> + Clock + Files + AllocGlobal + Copy,
+>(net: &N, alloc: Global, address: SocketAddr, request: &[u8]) -> io::Result<Vec<u8>> {
     let silent = deserted(net)?;
     let route = Arc::new(alloc, SharedRoute::new(alloc, "127.0.0.1", address.port())?)?;
-    let counters = Arc::new(alloc, SendCounters::new(alloc)?)?;
-    let timeout = Bounded::new(10_000);
-    let to: Vec<SocketAddr> = vec![in alloc; silent, address]?;
-    let also: Vec<SocketAddr> = vec![in alloc; silent, address]?;
-    let mut first = TcpTransport::new(
-        alloc,
-        *net,
-        to,
-        timeout,
-        Arc::try_clone(&counters)?,
-    ).with_shared_route(Arc::try_clone(&route)?);
-    let mut second = TcpTransport::new(alloc, *net, also, timeout, counters).with_shared_route(
-        route,
-    );
+    let mut first = transport_along(net, alloc, silent, address, Arc::try_clone(&route)?)?;
+    let mut second = transport_along(net, alloc, silent, address, route)?;
     let mut read = statuses(alloc, &mut first, 1, request)?;
     let _listener = TcpListener::bind(net, silent)?;
     read.extend_from_slice(&statuses(alloc, &mut first, 1, request)?)?;
@@ -193,7 +194,7 @@ fn ask_behind_silent<N: Net<Stream = TcpStream, Listener = TcpListener> + Clock 
 }
 
 /// Returns what a client reads.
-fn read_by<N: Net<Stream = TcpStream, Listener = TcpListener> + Clock + Copy>(
+fn read_by<N: Net<Stream = TcpStream, Listener = TcpListener> + Clock + Files + AllocGlobal + Copy>(
     net: &N,
     alloc: Global,
     client: Client,
@@ -223,6 +224,8 @@ fn are_served<
         + Threads
         + Wait
         + Clock
+        + Files
+        + AllocGlobal
         + Copy
         + Send
         + Sync,
@@ -250,7 +253,9 @@ fn are_served<
                 most,
                 idle_ms: Bounded::new(60_000),
                 request_ms: Bounded::new(60_000),
+                bodies: BodyBounds::none(),
                 capacity: Capacity::unlimited(),
+                takes: TakeOptions::whole(),
                 memory_ms: None,
                 counters: &counters,
             };
@@ -266,6 +271,8 @@ fn does_with<
         + Threads
         + Wait
         + Clock
+        + Files
+        + AllocGlobal
         + Copy
         + Send
         + Sync,
@@ -282,6 +289,8 @@ fn does<
         + Threads
         + Wait
         + Clock
+        + Files
+        + AllocGlobal
         + Copy
         + Send
         + Sync,
@@ -296,6 +305,8 @@ fn wrong_row<
         + Threads
         + Wait
         + Clock
+        + Files
+        + AllocGlobal
         + Copy
         + Send
         + Sync,
@@ -503,7 +514,9 @@ fn fails_without_waiting<
         most: Bounded::new(1_000),
         idle_ms: Bounded::new(60_000),
         request_ms: Bounded::new(60_000),
+        bodies: BodyBounds::none(),
         capacity: Capacity::unlimited(),
+        takes: TakeOptions::whole(),
         memory_ms: None,
         counters: &counters,
     };
@@ -520,7 +533,7 @@ fn a_failed_accept_is_a_device_fault(rt: HostRuntime) -> Result<(), Fail> {
 }
 
 /// Returns a transport to one address, with a timeout in milliseconds.
-pub(crate) fn transport_to<N: Net<Stream = TcpStream> + Clock + Copy>(
+pub(crate) fn transport_to<N: Net<Stream = TcpStream> + Clock + Files + AllocGlobal + Copy>(
     net: &N,
     alloc: Global,
     address: SocketAddr,
@@ -532,16 +545,27 @@ pub(crate) fn transport_to<N: Net<Stream = TcpStream> + Clock + Copy>(
 }
 
 /// Returns whether a request has no reply.
-fn is_lost<N: Net<Stream = TcpStream> + Clock + Copy>(transport: &mut TcpTransport<N>) -> bool {
+fn is_lost<N: Net<Stream = TcpStream> + Clock + Files + AllocGlobal + Copy>(
+    transport: &mut TcpTransport<N>,
+) -> bool {
     matches!(transport.exchange(b"POST"), Err(Lost))
+}
+
+/// Returns whether a request to this address has no reply within the timeout.
+fn is_lost_at<N: Net<Stream = TcpStream> + Clock + Files + AllocGlobal + Copy>(
+    net: &N,
+    alloc: Global,
+    address: SocketAddr,
+    timeout: Bounded<1, 3_600_000>,
+) -> Result<bool, AllocError> {
+    Ok(is_lost(&mut transport_to(net, alloc, address, timeout)?))
 }
 
 /// Returns whether a request is lost that nobody answers within the timeout, and one to an address
 /// at which nobody listens any more.
-fn are_lost<N: Net<Stream = TcpStream, Listener = TcpListener> + Clock + Copy>(
-    net: &N,
-    alloc: Global,
-) -> io::Result<bool> {
+fn are_lost<
+    N: Net<Stream = TcpStream, Listener = TcpListener> + Clock + Files + AllocGlobal + Copy,
+>(net: &N, alloc: Global) -> io::Result<bool> {
     let listener = TcpListener::bind(net, "127.0.0.1:0")?;
     let address = listener.local_addr()?;
     let mut transport = transport_to(net, alloc, address, Bounded::new(50))?;
@@ -564,13 +588,23 @@ fn hang_up(listener: &TcpListener) -> io::Result<()> {
 
 /// Returns whether a request is lost that a receiver takes whole, and does not answer.
 fn is_lost_in_silence<
-    R: Net<Stream = TcpStream, Listener = TcpListener> + Threads + Clock + Copy + Send + Sync,
+    R: Net<Stream = TcpStream, Listener = TcpListener>
+        + Threads
+        + Clock
+        + Files
+        + AllocGlobal
+        + Copy
+        + Send
+        + Sync,
 >(rt: &R, alloc: Global) -> io::Result<bool> {
     let listener = TcpListener::bind(rt, "127.0.0.1:0")?;
     let address = listener.local_addr()?;
-    let mut transport = transport_to(rt, alloc, address, Bounded::new(60_000))?;
-    let (is_lost, read) = thread::join(rt, || is_lost(&mut transport), || hang_up(&listener));
-    Ok(is_lost && read.is_ok())
+    let (is_lost, read) = thread::join(
+        rt,
+        || is_lost_at(rt, alloc, address, Bounded::new(60_000)),
+        || hang_up(&listener),
+    );
+    Ok(is_lost? && read.is_ok())
 }
 
 /// Not even a request that was written whole and read whole counts as taken if no reply came.
@@ -595,15 +629,25 @@ fn drip<R: Clock>(clock: &R, listener: &TcpListener) -> io::Result<()> {
 /// Returns how long a request takes whose reply comes byte by byte, with a timeout of 200 ms, or
 /// `None` if it has a reply.
 fn dripped<
-    R: Net<Stream = TcpStream, Listener = TcpListener> + Threads + Clock + Copy + Send + Sync,
+    R: Net<Stream = TcpStream, Listener = TcpListener>
+        + Threads
+        + Clock
+        + Files
+        + AllocGlobal
+        + Copy
+        + Send
+        + Sync,
 >(rt: &R, alloc: Global) -> io::Result<Option<Duration>> {
     let listener = TcpListener::bind(rt, "127.0.0.1:0")?;
     let address = listener.local_addr()?;
-    let mut transport = transport_to(rt, alloc, address, Bounded::new(200))?;
     let start = Instant::now(rt)?;
-    let (is_lost, _) = thread::join(rt, || is_lost(&mut transport), || drip(rt, &listener));
+    let (is_lost, _) = thread::join(
+        rt,
+        || is_lost_at(rt, alloc, address, Bounded::new(200)),
+        || drip(rt, &listener),
+    );
     let took = start.elapsed(rt)?;
-    Ok(is_lost.then_some(took))
+    Ok(is_lost?.then_some(took))
 }
 
 /// The timeout holds for the attempt, and not for each read of it.

@@ -4,7 +4,7 @@ use crate::counted::holds_as_printed;
 use crate::logs::{BEHIND, FALLS, NAMES, UP, segment};
 use rw_head::Capacity;
 use rw_metrics::{ReceiveCounters, SendCounters};
-use rw_receive::{ServeUntil, Service, run_receive};
+use rw_receive::{BodyBounds, ServeUntil, Service, TakeOptions, run_receive};
 use rw_send::{SendOptions, StopFlag, TcpConnect, run_send};
 use rw_sender::Connect;
 use rw_settings::read_settings;
@@ -145,7 +145,9 @@ fn receives<R: Threads + Wait + Clock + Sync>(
         most,
         idle_ms: Bounded::new(60_000),
         request_ms: Bounded::new(60_000),
+        bodies: BodyBounds::none(),
         capacity: Capacity::unlimited(),
+        takes: TakeOptions::whole(),
         memory_ms: None,
         counters: &counters,
     };

@@ -7,7 +7,7 @@ use crate::rows::none_is_wrong;
 use rw_follow::StopSignal;
 use rw_head::Capacity;
 use rw_metrics::ReceiveCounters;
-use rw_receive::{ServeUntil, Service, run_receive};
+use rw_receive::{BodyBounds, ServeUntil, Service, TakeOptions, run_receive};
 use rw_settings::{Settings, read_settings};
 use rw_types::{Bounded, Room};
 use std::alloc::Global;
@@ -29,10 +29,17 @@ struct Row<'a> {
     most: u64,
     idle_ms: u64,
     request_ms: u64,
+    bodies: BodyBounds,
     clients: Clients,
     replies: usize,
     printed: &'a [u8],
 }
+
+/// No bounds of bodies.
+const UNBOUNDED: BodyBounds = BodyBounds {
+    max_bytes: None,
+    max_ms: None,
+};
 
 /// The reply to a request that is taken.
 const TAKEN: &[u8] = b"HTTP/1.1 204 No Content\r\n\r\n";
@@ -64,6 +71,7 @@ struct Bounds {
     most: Bounded<1, 1_000>,
     idle_ms: Bounded<10, 3_600_000>,
     request_ms: Bounded<10, 3_600_000>,
+    bodies: BodyBounds,
 }
 
 /// Returns the bounds of a row, or `None` if one of them is not allowed.
@@ -72,6 +80,7 @@ fn bounds_of(row: &Row<'_>) -> Option<Bounds> {
         most: Bounded::try_new(row.most)?,
         idle_ms: Bounded::try_new(row.idle_ms)?,
         request_ms: Bounded::try_new(row.request_ms)?,
+        bodies: row.bodies,
     })
 }
 
@@ -91,7 +100,9 @@ fn service_of<'a>(
         most: bounds.most,
         idle_ms: bounds.idle_ms,
         request_ms: bounds.request_ms,
+        bodies: bounds.bodies,
         capacity: Capacity::unlimited(),
+        takes: TakeOptions::whole(),
         memory_ms: None,
         counters,
     }
@@ -167,6 +178,7 @@ static ROWS: [Row<'static>; 11] = [
         most: 1,
         idle_ms: 60_000,
         request_ms: 60_000,
+        bodies: UNBOUNDED,
         clients: Clients::InTurn,
         replies: 5,
         printed: b"received {__name__=\"up\"} 1000=1 1001=1 1002=1 1003=1 1004=1\n",
@@ -177,6 +189,7 @@ static ROWS: [Row<'static>; 11] = [
         most: 1_000,
         idle_ms: 60_000,
         request_ms: 60_000,
+        bodies: UNBOUNDED,
         clients: Clients::InTurn,
         replies: 5,
         printed: b"received {__name__=\"up\"} 1000=1 1001=1 1002=1 1003=1 1004=1\n",
@@ -187,6 +200,7 @@ static ROWS: [Row<'static>; 11] = [
         most: 2,
         idle_ms: 60_000,
         request_ms: 60_000,
+        bodies: UNBOUNDED,
         clients: Clients::SideBySide,
         replies: 2,
         printed: b"received {__name__=\"up\"} 1000=1 1001=1\n",
@@ -197,6 +211,7 @@ static ROWS: [Row<'static>; 11] = [
         most: 2,
         idle_ms: 60_000,
         request_ms: 60_000,
+        bodies: UNBOUNDED,
         clients: Clients::Stays,
         replies: 1,
         printed: b"received {__name__=\"up\"} 1000=1\n",
@@ -207,6 +222,7 @@ static ROWS: [Row<'static>; 11] = [
         most: 2,
         idle_ms: 60_000,
         request_ms: 60_000,
+        bodies: UNBOUNDED,
         clients: Clients::IsInside,
         replies: 2,
         printed: b"received {__name__=\"up\"} 1000=1 1001=1\n",
@@ -217,6 +233,7 @@ static ROWS: [Row<'static>; 11] = [
         most: 2,
         idle_ms: 60_000,
         request_ms: 60_000,
+        bodies: UNBOUNDED,
         clients: Clients::IsCutOff,
         replies: 1,
         printed: b"received {__name__=\"up\"} 1000=1\n",
@@ -227,6 +244,7 @@ static ROWS: [Row<'static>; 11] = [
         most: 1,
         idle_ms: 60_000,
         request_ms: 60_000,
+        bodies: UNBOUNDED,
         clients: Clients::WritesOneByte,
         replies: 1,
         printed: b"received {__name__=\"up\"} 1000=1\n",
@@ -237,6 +255,7 @@ static ROWS: [Row<'static>; 11] = [
         most: 2,
         idle_ms: 60_000,
         request_ms: 60_000,
+        bodies: UNBOUNDED,
         clients: Clients::OneTooMany,
         replies: 1,
         printed: b"received {__name__=\"up\"} 1000=1\n",
@@ -247,6 +266,7 @@ static ROWS: [Row<'static>; 11] = [
         most: 2,
         idle_ms: 60_000,
         request_ms: 60_000,
+        bodies: UNBOUNDED,
         clients: Clients::OneStays,
         replies: 7,
         printed: b"received {__name__=\"up\"} 1000=1 1001=1 1002=1 1003=1 1004=1 1005=1 1006=1\n",
@@ -257,6 +277,7 @@ static ROWS: [Row<'static>; 11] = [
         most: 2,
         idle_ms: 100,
         request_ms: 60_000,
+        bodies: UNBOUNDED,
         clients: Clients::WritesOneByte,
         replies: 1,
         printed: b"received {__name__=\"up\"} 1000=1\n",
@@ -267,6 +288,7 @@ static ROWS: [Row<'static>; 11] = [
         most: 1,
         idle_ms: 60_000,
         request_ms: 60_000,
+        bodies: UNBOUNDED,
         clients: Clients::WritesOn,
         replies: 1,
         printed: b"received {__name__=\"up\"} 1000=1\n",
@@ -286,6 +308,7 @@ static LIMITS: [Row<'static>; 3] = [
         most: 2,
         idle_ms: 400,
         request_ms: 60_000,
+        bodies: UNBOUNDED,
         clients: Clients::SaysNothing,
         replies: 1,
         printed: b"received {__name__=\"up\"} 1000=1\n",
@@ -296,6 +319,7 @@ static LIMITS: [Row<'static>; 3] = [
         most: 2,
         idle_ms: 60_000,
         request_ms: 200,
+        bodies: UNBOUNDED,
         clients: Clients::Drips,
         replies: 1,
         printed: b"received {__name__=\"up\"} 1000=1\n",
@@ -306,6 +330,7 @@ static LIMITS: [Row<'static>; 3] = [
         most: 2,
         idle_ms: 60_000,
         request_ms: 200,
+        bodies: UNBOUNDED,
         clients: Clients::IsSteady,
         replies: 1,
         printed: b"received {__name__=\"up\"} 1000=1\n",
@@ -320,12 +345,65 @@ fn a_client_has_limited_time(rt: HostRuntime) -> Result<(), Fail> {
     Ok(())
 }
 
+static BODY_BOUNDS: [Row<'static>; 3] = [
+    Row {
+        name: "an unfinished body makes room for a later one",
+        has_sign: true,
+        most: 2,
+        idle_ms: 60_000,
+        request_ms: 60_000,
+        bodies: BodyBounds {
+            max_bytes: Some(40_000),
+            max_ms: None,
+        },
+        clients: Clients::LeavesOneUnfinished { is_closed: true },
+        replies: 1,
+        printed: b"received {__name__=\"up\"} 1000=1\n",
+    },
+    Row {
+        name: "an unfinished body stays if there is room for both",
+        has_sign: true,
+        most: 2,
+        idle_ms: 60_000,
+        request_ms: 60_000,
+        bodies: BodyBounds {
+            max_bytes: Some(80_000),
+            max_ms: None,
+        },
+        clients: Clients::LeavesOneUnfinished { is_closed: false },
+        replies: 1,
+        printed: b"received {__name__=\"up\"} 1000=1\n",
+    },
+    Row {
+        name: "a request has no more than the longest time",
+        has_sign: true,
+        most: 2,
+        idle_ms: 60_000,
+        request_ms: 60_000,
+        bodies: BodyBounds {
+            max_bytes: None,
+            max_ms: Some(200),
+        },
+        clients: Clients::Drips,
+        replies: 1,
+        printed: b"received {__name__=\"up\"} 1000=1\n",
+    },
+];
+
+/// Unfinished bodies have limited room together, and limited time each.
+#[test]
+fn unfinished_bodies_are_bounded(rt: HostRuntime) -> Result<(), Fail> {
+    none_is_wrong(&rt, wrong_row(&rt, rt.alloc(), &BODY_BOUNDS)?);
+    Ok(())
+}
+
 static ONLY_SEAT: Row<'static> = Row {
     name: "a client that says nothing has the only seat",
     has_sign: true,
     most: 1,
     idle_ms: 60_000,
     request_ms: 60_000,
+    bodies: UNBOUNDED,
     clients: Clients::SaysNothing,
     replies: 1,
     printed: b"received {__name__=\"up\"} 1000=1\n",

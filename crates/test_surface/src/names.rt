@@ -14,6 +14,7 @@ pub use rw_recv_head::Admit;
 pub use rw_recv_head::AllAdded;
 pub use rw_recv_head::AllSamples;
 pub use rw_recv_head::AllSeries;
+pub use rw_recv_head::AskedPartly;
 pub use rw_recv_head::Blank;
 pub use rw_recv_head::Block;
 pub use rw_recv_head::Capacity;

@@ -22,6 +22,7 @@ pub fn of_heads<M: Memory>() {
     let _ = (Head::<M>::apply, Head::<M>::answer, Head::<M>::total);
     let _ = (Head::<M>::places, Head::<M>::stage, Head::<M>::admit);
     let _ = (Head::<M>::with_memory, Head::<M>::forget);
+    let _ = Head::<M>::takeable;
     let _ = (M::forgets, InMemory::none);
     let _ = Head::<M>::conforms;
     let _ = (Block::samples, Capacity::unlimited);
@@ -43,7 +44,8 @@ pub fn of_shared_heads<R: Wait, L: Holding<H>, H: Admit>() {
     let _ = (SharedHead::<L, H>::seats, SharedHead::<L, H>::gather);
     let _ = SharedHead::<L, H>::forget::<R>;
     let _ = (Seat::<L>::answer::<R, H>, Seat::<L>::ask::<R, H>);
-    let _ = (H::admit, H::forget, H::total, H::places);
+    let _ = Seat::<L>::ask_partly::<R, H>;
+    let _ = (H::admit, H::takeable, H::forget, H::total, H::places);
     let _ = Seat::<L>::stored;
 }
 

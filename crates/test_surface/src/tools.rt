@@ -47,7 +47,12 @@ pub fn of_folders<R: Files<File = File> + AllocGlobal + Copy>() {
 }
 
 /// The calls of what the engines are given.
-pub fn of_given<O: OpenSource, S: Segments, W: Watch, N: Net<Stream = TcpStream> + Clock + Copy>() {
+pub fn of_given<
+    O: OpenSource,
+    S: Segments,
+    W: Watch,
+    N: Net<Stream = TcpStream> + Clock + Files + AllocGlobal + Copy,
+>() {
     let _ = (O::open, Opened::<O>::place, S::advance);
     let _ = (
         W::stop_request,
@@ -60,6 +65,7 @@ pub fn of_given<O: OpenSource, S: Segments, W: Watch, N: Net<Stream = TcpStream>
     let _ = TcpConnect::<N>::with_name;
     let _ = TcpConnect::<N>::with_refusal_stop;
     let _ = TcpConnect::<N>::with_asked_pause;
+    let _ = (TcpConnect::<N>::with_give_up, TcpConnect::<N>::with_fields);
     let _ = (RefusalStop::new, RefusalStop::refusal);
     let _ = UntilAborted::new;
 }
@@ -85,6 +91,7 @@ pub fn of_receive_counters() {
         ReceiveCounters::read_log_segment,
     );
     let _ = (ReceiveCounters::skip_parts, ReceiveCounters::refuse_body);
+    let _ = ReceiveCounters::refuse_samples;
     let _ = ReceiveCounters::answer_unasked;
     let _ = (
         ReceiveCounters::wants_refusal,
@@ -98,6 +105,7 @@ pub fn of_send_counters() {
     let _ = (SendCounters::new, SendCounters::numbers);
     let _ = SendCounters::without_readers;
     let _ = (SendCounters::keep_reply, SendCounters::last_reply);
+    let _ = (SendCounters::doubt, SendCounters::unsure);
     let _ = (SendCounters::begin_segment, SendCounters::read_bytes);
     let _ = (SendCounters::set_folder_bytes, SendCounters::set_entries);
     let _ = (SendCounters::set_shards, SendCounters::set_load);

@@ -7,6 +7,8 @@ mod blocks;
 #[cfg(test)]
 mod bodies;
 #[cfg(test)]
+mod decimals;
+#[cfg(test)]
 mod logs;
 #[cfg(test)]
 mod notes;

@@ -73,10 +73,10 @@ each_field false host digits h d = (
   ),
 )
 
-are_fields : (snappy : Bool) (host digits : List ℕ) → AllPass is_value_byte (32 ∷ host) → AllPass is_value_byte (32 ∷ digits) → All IsField (fields_of snappy host digits)
+pub are_fields : (snappy : Bool) (host digits : List ℕ) → AllPass is_value_byte (32 ∷ host) → AllPass is_value_byte (32 ∷ digits) → All IsField (fields_of snappy host digits)
 are_fields snappy host digits h d = All-from_recursion IsField (fields_of snappy host digits) (each_field snappy host digits h d)
 
-is_head : (snappy : Bool) (host path digits : List ℕ) → IsTarget path → IsValue host → AreDigits digits → IsRequestHead (head_of snappy host path digits)
+pub is_head : (snappy : Bool) (host path digits : List ℕ) → IsTarget path → IsValue host → AreDigits digits → IsRequestHead (head_of snappy host path digits)
 unfolding is_token_byte
 is_head snappy host path digits target value are = record {
   method = (omega arith, token (codes "POST") refl);
@@ -91,10 +91,10 @@ few_fields true host digits = omega arith
 few_fields false host digits = omega arith
 
 -- a request with this coding
-abbrev sent_of : Bool → List ℕ → List ℕ → List ℕ → List ℕ
+abbrev pub sent_of : Bool → List ℕ → List ℕ → List ℕ → List ℕ
 sent_of snappy host path body = sent_head snappy host path (decimal (length body)) ++ body
 
-begins : (snappy : Bool) (host path body : List ℕ) → is_host_name host ≡ true → is_request_path path ≡ true → length body < 2 ^ 63 →
+pub begins : (snappy : Bool) (host path body : List ℕ) → is_host_name host ≡ true → is_request_path path ≡ true → length body < 2 ^ 63 →
     BeginsWithHead (sent_of snappy host path body) (head_of snappy host path (decimal (length body))) body
 begins snappy host path body h p few =
     let digits = decimal (length body) in
@@ -141,7 +141,7 @@ either_request host path body intake h p few = by_test (nat_lt intake.limit (len
 
 -- ---- blocks
 -- what `limit_only_refuses` says
-abbrev LimitSame : Type 0
+abbrev pub LimitSame : Type 0
 LimitSame = (limit : ℕ) (block bytes : List ℕ) → decoded block ≡ Ok bytes → length bytes ≤ limit → decoded_within limit block ≡ Ok bytes
 
 abbrev LimitOver : Type 0

@@ -18,6 +18,7 @@ loop-sample-preserved c =
     record {
       grown = omega arith;
       few = omega arith;
+      same = λ none. absurd (omega (arith, none));
       gone = c.in_ok-stage.ensures.gone ∙ c.loop-sample.invariant.gone;
       kept = c.in_ok-stage.ensures.kept ∙ c.loop-sample.invariant.kept;
       staged = accepted_at c.args.samples.now c.loop-sample.sample-index c.sample-item.result _ c.loop-sample.self.staged c.stage.new.self.staged _ (to_z-of_z fits) c.loop-sample-test.true c.sample-item.is c.loop-sample.invariant.staged c.in_ok-stage.ensures.staged;

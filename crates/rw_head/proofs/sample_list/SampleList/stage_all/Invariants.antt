@@ -8,5 +8,6 @@ invariant-loop-sample l = record {
   kept : l.self.kept ≡ l.initial.self.kept;
   grown : length l.initial.self.staged ≤ length l.self.staged;
   few : length l.self.staged ≤ length l.initial.self.staged + l.sample-index;
+  same : l.sample-index ≡ 0 → l.self.staged ≡ l.initial.self.staged;
   staged : accept (Some l.initial.self.staged) (points l.samples) ≡ accept (Some l.self.staged) (points (drop l.sample-index l.samples));
 }

@@ -10,7 +10,7 @@ use Rattle.rw_head.specs.inner.Texts.{labels_of}
 use Rattle.rw_head.specs.inner.Lists.{settled_names}
 use Rattle.rw_head.proofs.PlaceLemmas.{none_refused, staged_few}
 use Rattle.rw_head.proofs.shared.StagingLemmas.{taken_by, judged_alone, staged-same}
-use Rattle.rw_head.proofs.TableLemmas.{held_at}
+use Rattle.rw_head.proofs.TableLemmas.{held_at, held_same}
 use Rattle.rw_head.proofs.ForgettingLemmas.{listed_at}
 use Rattle.rw_head.proofs.table.Table.stage.Goals as goal
 
@@ -57,9 +57,11 @@ returns-in_ok-reserve-in-At c =
     let few = c.stage_held.ensures.few in
     let room = c.has_room.ensures.0 c.if-not-has_room.false in
     let h = held_at c.stage_held.result l (points c.args.samples.now) c.find.ensures.tree c.reserve.ensures.items c.self.invariant.0 (ap (λ s. s.staged) c.self.view_is) found c.stage_held.ensures.held c.stage_held.ensures.staged (omega (arith, few, room)) in
+    let held = c.stage_held.ensures.held in
     let series : TimeSeries = record { labels = l; samples = c.args.samples.now } in record {
       kept = h.kept ∙ ap (λ s. s.kept) c.self.view_is;
       staged = taken_by c.stage_held.result c.args.bounds.now c.args.self.now.staged _ series series refl c.in_ok-found.ensures.taken h.gives;
+      same = λ few. held_same c.stage_held.result l c.find.ensures.tree c.self.invariant.0.places (ap (λ s. s.staged) c.self.view_is) found held.list (c.stage_held.ensures.same few);
       placed = ap (λ ns. settled_names ns c.self.inside.fresh.items) c.find.ensures.names ∙ ap (λ s. s.placed) c.self.view_is;
       forgets = ap (λ s. s.forgets) c.self.view_is;
     }

@@ -1,0 +1,6 @@
+mod DecimalLemmas
+mod LineLemmas
+mod PartLemmas
+mod ResultLemmas
+mod StoreLemmas
+mod TextLemmas

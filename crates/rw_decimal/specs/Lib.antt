@@ -1,0 +1,4 @@
+pub mod Decimals
+pub mod ExactText
+pub mod DecimalStore
+pub mod Parts
