@@ -6,7 +6,7 @@ ghost use Rattle.rw_inspect.specs.Faults.{fault_words, next_step, row_number};
 use rw_wal_tail::TailFault;
 
 const COPY_AGAIN: &str =
-    "copy the segment again and compare; send ships what comes before the fault, and nothing after it";
+    "copy the segment again and compare; send ships what is before the fault, receive does not start";
 
 /// What is wrong, and what to do next, by the number of the fault; and then of those faults that
 /// mean something else in a log that may have Snappy blocks.

@@ -3,7 +3,7 @@
 
 use crate::input::Reader;
 use crate::log_fault::{LogReadFault, print_lines, report_run_fault};
-use crate::log_files::{files_of, names_of, note_checkpoint, note_empty};
+use crate::log_files::{files_of, names_of, note_checkpoint, note_empty, note_gaps};
 use crate::output::{Output, has_output_failed, open_output, report_output_fault};
 use crate::program_end::{report_missing, report_unread_input};
 use rw_cli::LogDir;
@@ -16,6 +16,7 @@ use rw_settings::Settings;
 use rw_text::ToolFault;
 use rw_types::{Std, write_all};
 use std::alloc::AllocError;
+use std::io::IsTerminal;
 use std::process::ExitCode;
 
 /// The files of a log, each with its name, and their names once more.
@@ -86,13 +87,20 @@ impl<'a> LogCommand<'a> {
         }
     }
 
-    /// Returns the files of the log. That there is none is reported as `note_empty` does.
+    /// Returns the files of the log. That there is none, or that some are missing between two, is
+    /// said with `--explain` and on a terminal.
     fn files(&self) -> Result<LogFiles, LogReadFault> {
         let alloc = self.rt.alloc();
         let sources = files_of(self.rt, self.dir, None)?;
         if sources.is_empty() {
             note_empty(self.rt, self.dir, self.is_explained);
         }
+        note_gaps(
+            self.rt,
+            self.dir,
+            &sources,
+            self.is_explained || self.rt.stderr().is_terminal(),
+        );
         let names = names_of(alloc, &sources)?;
         let mut files = Vec::new(alloc);
         for source in sources {

@@ -6,6 +6,7 @@ mod drops;
 mod engines;
 mod event_log;
 mod explanations;
+mod file_limit;
 mod input;
 mod inspect_command;
 mod kept_receiver;

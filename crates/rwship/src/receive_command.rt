@@ -1,6 +1,7 @@
 //! The command `receive`.
 
 use crate::event_log::EventLog;
+use crate::file_limit::note_file_limit;
 use crate::kept_receiver::{FolderHead, FolderLog, KeptFolder, RecentFolderHead};
 use crate::live_report::{
     OutputAfterReport, begin_reporting, end_reporting, is_watched, name_to_listen_on,
@@ -142,16 +143,21 @@ impl<R: Threads + Wait + Clock + Sync> Receiver<'_, R> {
         Ok(Some(signal))
     }
 
+    /// Returns how many connections are served at once.
+    fn most_connections(&self) -> Bounded<1, 1_000> {
+        match &self.receiving.until {
+            Until::Connections(count) => *count,
+            _ => Bounded::new(1_000),
+        }
+    }
+
     /// Returns the service that is asked for, with the stop signal if there is one.
     fn service<'s>(
         &self,
         signal: &'s Option<Arc<StopSignal, Global>>,
         counters: &'s ReceiveCounters,
     ) -> Service<'s> {
-        let most = match &self.receiving.until {
-            Until::Connections(count) => *count,
-            _ => Bounded::new(1_000),
-        };
+        let most = self.most_connections();
         Service {
             until: match signal {
                 Some(signal) => ServeUntil::Stop(signal),
@@ -418,6 +424,9 @@ impl<R: Threads + Wait + Clock + Sync> Receiver<'_, R> {
         match TcpListener::bind(self.rt, (name_to_listen_on(listen), listen.port)) {
             Ok(listener) => {
                 self.log_start();
+                if self.is_explained || is_watched(self.rt, &self.receiving.reporting) {
+                    note_file_limit(self.rt, self.most_connections().get());
+                }
                 let status = self.receive_from(listener);
                 self.log().info(String::from_str(self.rt.alloc(), "ends"));
                 status

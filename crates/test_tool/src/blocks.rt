@@ -54,7 +54,7 @@ const WITHOUT_THE_OPTION: &str = "\
 const BAD_BLOCK: &str = "\
 {\"type\":\"segment\",\"file\":\"00000000\",\"bytes\":79,\"pages\":1,\"passed_over\":0,\"entries\":2,\"series\":1,\"samples\":1,\"earliest\":1796044000730,\"latest\":1796044000730}\n\
 {\"type\":\"totals\",\"bytes\":79,\"pages\":1,\"passed_over\":0,\"entries\":2,\"series\":1,\"samples\":1,\"earliest\":1796044000730,\"latest\":1796044000730,\"label_sets\":1,\"without_series\":0,\"bad_labels\":0,\"not_rising\":0,\"first_not_rising\":[]}\n\
-{\"type\":\"fault\",\"fault\":\"the record is a Snappy block that does not decode to at most 16 MiB, or does not have the form of its type\",\"file\":\"00000000\",\"offset\":69,\"behind\":10,\"next\":\"copy the segment again and compare; send ships what comes before the fault, and nothing after it\"}\n\
+{\"type\":\"fault\",\"fault\":\"the record is a Snappy block that does not decode to at most 16 MiB, or does not have the form of its type\",\"file\":\"00000000\",\"offset\":69,\"behind\":10,\"next\":\"copy the segment again and compare; send ships what is before the fault, receive does not start\"}\n\
 ";
 
 const ZSTANDARD_LINES: &str = "\

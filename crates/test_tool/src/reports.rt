@@ -102,7 +102,7 @@ const JSON: &str = "\
 const DAMAGED: &str = "\
 {\"type\":\"segment\",\"file\":\"0\",\"bytes\":97,\"pages\":1,\"passed_over\":0,\"entries\":2,\"series\":1,\"samples\":1,\"earliest\":1000,\"latest\":1000}\n\
 {\"type\":\"totals\",\"bytes\":97,\"pages\":1,\"passed_over\":0,\"entries\":2,\"series\":1,\"samples\":1,\"earliest\":1000,\"latest\":1000,\"label_sets\":1,\"without_series\":0,\"bad_labels\":0,\"not_rising\":0,\"first_not_rising\":[]}\n\
-{\"type\":\"fault\",\"fault\":\"the checksum of the fragment does not match its data\",\"file\":\"0\",\"offset\":63,\"behind\":34,\"next\":\"copy the segment again and compare; send ships what comes before the fault, and nothing after it\"}\n\
+{\"type\":\"fault\",\"fault\":\"the checksum of the fragment does not match its data\",\"file\":\"0\",\"offset\":63,\"behind\":34,\"next\":\"copy the segment again and compare; send ships what is before the fault, receive does not start\"}\n\
 ";
 
 /// Returns the reports of both segments, and of the first with its last byte changed.
