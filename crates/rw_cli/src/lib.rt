@@ -138,6 +138,10 @@ pub struct Receiving<'a> {
     pub takes_snappy: bool,
     /// Whether of a request that is refused as a whole the samples are taken that can be.
     pub takes_parts: bool,
+    /// Whether the labels of each series are sorted before they are judged.
+    pub sorts_labels: bool,
+    /// Whether a reply 400 has a text that says why.
+    pub explains_replies: bool,
     /// How many samples may be held; none for no limit.
     pub max_samples: Option<u64>,
     /// How many series they may be of; none for no limit.

@@ -60,6 +60,8 @@ pub(crate) fn receive_task<'a>(
             max_inflight_bytes: bound_of(options, "max-inflight-bytes", MOST_INFLIGHT_BYTES),
             takes_snappy: options.get_flag("snappy"),
             takes_parts: options.get_flag("partial"),
+            sorts_labels: options.get_flag("sort-labels"),
+            explains_replies: options.get_flag("explain-replies"),
             max_samples: options.get_one::<u64>("max-samples"),
             max_series: options.get_one::<u64>("max-series"),
             dir: options.get_str("dir"),

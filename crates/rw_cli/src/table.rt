@@ -439,6 +439,18 @@ static RECEIVE: Words = Words {
             help: "Of a request with samples that cannot be taken,\ntake the others; it is answered with 400",
         },
         Opt {
+            name: "sort-labels",
+            takes: Takes::Nothing,
+            bonds: &[],
+            help: "Sort the labels of each series by name before they\nare judged, as VictoriaMetrics' vmagent needs",
+        },
+        Opt {
+            name: "explain-replies",
+            takes: Takes::Nothing,
+            bonds: &[],
+            help: "Give each reply 400 a text that says why",
+        },
+        Opt {
             name: "max-samples",
             takes: Takes::Number(1, 1_099_511_627_776),
             bonds: &[],

@@ -2,14 +2,18 @@
 
 ghost use Rattle.std.specs.Prelude.{◌≡◌};
 ghost use Rattle.rw_head.specs.Head.{IsStatus};
-ghost use Rattle.rw_receive.specs.Answering.{HasAnswered};
+ghost use Rattle.rw_receive.specs.Answering.{HasAnswered, HasAnsweredSorted};
 
+use crate::explanation::explanation;
 use crate::refusal_reason::reason_of;
 use crate::refused_part::refused_part;
 use crate::request_trace::RequestTrace;
 use crate::server_context::ServerContext;
+use crate::take_options::TakeOptions;
 use rw_endpoint::Answer;
+use rw_metrics::RefusalReason;
 use rw_recv_head::{Admit, AskedPartly, Holding, Seat, SeatAnswer, SharedHead};
+use rw_sorted_labels::sorted_body;
 use std::alloc::Global;
 use std::sync::Wait;
 
@@ -48,53 +52,132 @@ fn ask<R: Wait, L: Holding<H>, H: Admit>(
     }
 }
 
-/// Counts how a body was answered, and what was not taken of it.
-fn count_answer(
+/// How a seat has answered a body.
+#[derive(Drop)]
+struct Answered {
+    /// 204, 400, 429 or 503.
+    status: u16,
+    /// What the head answered. `None` if it was not asked, since memory ran out.
+    asked: Option<AskedPartly>,
+    /// The body with sorted labels that the head was asked for in place of the one that came.
+    sorted: Option<Vec<u8>>,
+}
+
+impl Answered {
+    /// Returns how a body was answered for which the head was asked.
+    fn of(asked: AskedPartly, sorted: Option<Vec<u8>>) -> Answered
+        ensures { result.status ≡ asked.asked.status }
+    {
+        Answered {
+            status: asked.asked.status,
+            asked: Some(asked),
+            sorted,
+        }
+    }
+}
+
+/// Asks a seat as `ask` does for a body, or for one with sorted labels in its place if that is
+/// wanted. If memory runs out for it, the head is not asked, and the status is 503.
+fn ask_sorted<R: Wait, L: Holding<H>, H: Admit>(
+    rt: &R,
+    alloc: Global,
+    shared: &SharedHead<L, H>,
+    seat: &mut Seat<L>,
+    takes: TakeOptions,
+    body: &[u8],
+) -> Answered
+    ensures asked { HasAnsweredSorted takes.sorts_labels takes.is_partial L.opening seat.old
+        body.now result.status seat.new }
+    ensures statuses { IsStatus result.status }
+{
+    let is_partial = takes.is_partial;
+    if !takes.sorts_labels {
+        let asked = ask(rt, alloc, shared, seat, is_partial, body);
+        return Answered::of(asked, None);
+    }
+    match sorted_body(alloc, body) {
+        Ok(None) => {
+            let asked = ask(rt, alloc, shared, seat, is_partial, body);
+            Answered::of(asked, None)
+        }
+        Ok(Some(text)) => {
+            let asked = ask(rt, alloc, shared, seat, is_partial, &text);
+            Answered::of(asked, Some(text))
+        }
+        Err(_) => Answered {
+            status: 503,
+            asked: None,
+            sorted: None,
+        },
+    }
+}
+
+/// Counts what was not taken of a body that the head was asked for and did not acknowledge, and has
+/// the reply say why if that is wanted.
+fn count_refused(
     context: &ServerContext<'_>,
     trace: &RequestTrace<'_>,
     body: &[u8],
     asked: &SeatAnswer,
     taken: &Option<Vec<u8>>,
 ) {
+    let (alloc, limits) = (context.alloc, context.limits);
+    let refusal = match taken {
+        Some(text) => trace.note_part(asked.status, refused_part(alloc, limits, body, text)),
+        None => {
+            let reason = reason_of(alloc, limits, asked, body);
+            Some(trace.note_refused(asked.status, reason, body))
+        }
+    };
+    if let (Some(refusal), true) = (refusal, context.takes.explains && asked.status == 400) {
+        trace.explain(explanation(alloc, limits, refusal, body, taken));
+    }
+}
+
+/// Counts how a body was answered, and what was not taken of it.
+fn count_answer(
+    context: &ServerContext<'_>,
+    trace: &RequestTrace<'_>,
+    body: &[u8],
+    answered: &Answered,
+) {
+    let Some(AskedPartly { asked, taken }) = &answered.asked else {
+        trace.note_refused(answered.status, Some(RefusalReason::Unavailable), body);
+        return;
+    };
+    context.counters.hold_label_sets(asked.label_sets);
     if asked.status == 204 {
         trace.note_acknowledged(body);
         return;
     }
-    match taken {
-        Some(text) => {
-            let refused = refused_part(context.alloc, context.limits, body, text);
-            trace.note_part(asked.status, refused);
-        }
-        None => {
-            let reason = reason_of(context.alloc, context.limits, asked, body);
-            trace.note_refused(asked.status, reason, body);
-        }
+    match &answered.sorted {
+        Some(text) => count_refused(context, trace, text, asked, taken),
+        None => count_refused(context, trace, body, asked, taken),
     }
 }
 
 impl<R: Wait, L: Holding<H>, H: Admit> Answer for CountingSeat<'_, R, L, H> {
     ghost use Rattle.std.specs.Prelude.{◌≡◌};
-    ghost use Rattle.rw_receive.specs.Answering.{HasAnswered};
+    ghost use Rattle.rw_receive.specs.Answering.{HasAnsweredSorted};
 
     ghost answers = { λ old body status new. (new.seat.ghost_name ≡ old.seat.ghost_name)
-        × HasAnswered old.context.now.takes.is_partial L.opening old.seat.now body status
-        new.seat.now };
+        × HasAnsweredSorted old.context.now.takes.sorts_labels old.context.now.takes.is_partial
+        L.opening old.seat.now body status new.seat.now };
 
     fn answer(&mut self, body: &[u8]) -> u16 {
         let context = self.context;
         let before = self.seat.stored();
-        let AskedPartly { asked, taken } = ask(
+        let answered = ask_sorted(
             self.rt,
             context.alloc,
             self.shared,
             self.seat,
-            context.takes.is_partial,
+            context.takes,
             body,
         );
         let stored = self.seat.stored().saturating_sub(before);
-        context.counters.answer(asked.status, stored);
-        context.counters.hold_label_sets(asked.label_sets);
-        count_answer(context, self.trace, body, &asked, &taken);
-        asked.status
+        context.counters.answer(answered.status, stored);
+        count_answer(context, self.trace, body, &answered);
+        answered.status
     }
 }

@@ -5,6 +5,9 @@
 mod bodies;
 mod connection;
 mod counting_seat;
+mod explained_reply;
+mod explanation;
+mod first_refused;
 mod forgetting;
 mod graceful_close;
 mod held;
@@ -23,6 +26,7 @@ mod timed_stream;
 mod until;
 
 pub use bodies::BodyBounds;
+pub use explanation::refusal_words;
 pub use forgetting::now_ms;
 pub use receive::{Received, Service, run_receive, serve_and_print, serve_connections};
 pub use take_options::TakeOptions;

@@ -6,7 +6,7 @@ use rw_metrics::RefusalReason;
 use rw_write_request::{Message, Series, WireFault, decode};
 use std::alloc::Global;
 
-/// How many samples of a body were refused, by reason, of which others were taken.
+/// How many samples of a body were refused, by reason, and how many were taken.
 #[derive(Clone, Copy, Debug, PartialEq, Eq)]
 pub(crate) struct RefusedPart {
     /// The labels of their series are not a label set.
@@ -15,6 +15,8 @@ pub(crate) struct RefusedPart {
     pub(crate) limits: u64,
     /// They are out of order.
     pub(crate) order: u64,
+    /// How many were taken.
+    pub(crate) taken: u64,
 }
 
 impl RefusedPart {
@@ -67,12 +69,13 @@ fn count_refused(
         labels: 0,
         limits: 0,
         order: 0,
+        taken: 0,
     };
     for Series { labels, samples } in decode(alloc, body)?.series {
         part.add(fault_of_texts(limits, labels)?, samples.len() as u64);
     }
-    let held = sample_count(&decode(alloc, taken)?);
-    part.order = part.order.saturating_sub(held);
+    part.taken = sample_count(&decode(alloc, taken)?);
+    part.order = part.order.saturating_sub(part.taken);
     Ok(part)
 }
 

@@ -1,6 +1,8 @@
 //! What is known of the request of a connection that is being answered, for the counters. It is
 //! best effort: no clause says anything about it.
 
+use crate::explained_reply::{closing_of, explained_reply};
+use crate::explanation::{NOT_ASKED, Refusal};
 use crate::refused_part::RefusedPart;
 use rw_metrics::{ReceiveCounters, RefusalReason, RefusedRequest};
 use std::alloc::Global;
@@ -21,6 +23,10 @@ pub(crate) struct RequestTrace<'s> {
     asked: Cell<Option<String>>,
     /// Whether the head was asked, and its answer is not written yet.
     is_answered: Cell<bool>,
+    /// Whether a 400 has a text.
+    explains: bool,
+    /// The text of the next one, if it is known.
+    text: Cell<Option<String>>,
 }
 
 /// Returns the first bytes that are printable.
@@ -73,6 +79,7 @@ impl<'s> RequestTrace<'s> {
         alloc: Global,
         counters: &'s ReceiveCounters,
         stream: &'s TcpStream,
+        explains: bool,
     ) -> RequestTrace<'s> {
         RequestTrace {
             alloc,
@@ -80,6 +87,8 @@ impl<'s> RequestTrace<'s> {
             stream,
             asked: Cell::new(None),
             is_answered: Cell::new(false),
+            explains,
+            text: Cell::new(None),
         }
     }
 
@@ -98,20 +107,30 @@ impl<'s> RequestTrace<'s> {
         self.counters.skip_parts(body);
     }
 
-    /// Takes that the head was asked, and has refused this body.
-    pub(crate) fn note_refused(&self, status: u16, reason: Option<RefusalReason>, body: &[u8]) {
+    /// Takes that the head was asked, and has refused this body. Returns what was refused.
+    pub(crate) fn note_refused(
+        &self,
+        status: u16,
+        reason: Option<RefusalReason>,
+        body: &[u8],
+    ) -> Refusal {
         self.is_answered.set(true);
-        let samples = self.counters.refuse_body(reason, body);
-        self.give_example(status, reason, samples);
+        let refused = self.counters.refuse_body(reason, body);
+        self.give_example(status, reason, refused);
+        Refusal {
+            reason,
+            taken: 0,
+            refused,
+        }
     }
 
     /// Takes that the head was asked, and has taken a part of a body. These are the samples of it
-    /// that were refused, if memory sufficed to count them.
-    pub(crate) fn note_part(&self, status: u16, refused: Option<RefusedPart>) {
+    /// that were refused, if memory sufficed to count them. Returns what was refused.
+    pub(crate) fn note_part(&self, status: u16, refused: Option<RefusedPart>) -> Option<Refusal> {
         self.is_answered.set(true);
         let Some(refused) = refused else {
             self.give_example(status, None, 0);
-            return;
+            return None;
         };
         let mut most = (RefusalReason::Order, 0u64);
         for (reason, samples) in refused.by_reason() {
@@ -121,6 +140,32 @@ impl<'s> RequestTrace<'s> {
             }
         }
         self.give_example(status, Some(most.0), refused.total());
+        Some(Refusal {
+            reason: Some(most.0),
+            taken: refused.taken,
+            refused: refused.total(),
+        })
+    }
+
+    /// Takes the text of the reply to the body that was refused.
+    pub(crate) fn explain(&self, text: Option<String>) {
+        self.text.set(text);
+    }
+
+    /// Returns the reply with a text that is written in place of this one, if it is to have one.
+    /// `None` also if memory runs out.
+    pub(crate) fn explained(&self, reply: &[u8]) -> Option<Vec<u8>> {
+        if !self.explains {
+            return None;
+        }
+        let Some(closes) = closing_of(reply) else {
+            return None;
+        };
+        match self.text.replace(None) {
+            Some(text) => explained_reply(self.alloc, closes, text.as_bytes()).ok(),
+            None if self.is_answered.get() => None,
+            None => explained_reply(self.alloc, closes, NOT_ASKED.as_bytes()).ok(),
+        }
     }
 
     /// Takes bytes that were written. If a reply begins with them that the head was not asked for,

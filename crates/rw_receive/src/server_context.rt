@@ -72,7 +72,8 @@ fn serve_to_end<L: Holding<H>, H: Admit, R: Wait + Clock>(
 ) -> Seat<L> {
     let mut seat = seat;
     let stage = Cell::new(Stage::new(rt));
-    let trace = RequestTrace::new(context.alloc, context.counters, &stream);
+    let explains = context.takes.explains;
+    let trace = RequestTrace::new(context.alloc, context.counters, &stream, explains);
     let Ok(timed) = TimedStream::new(&stream, context, &stage, &trace, rt) else {
         return seat;
     };

@@ -1,7 +1,7 @@
 //! A connection that may be silent for a limited time, whose requests have a deadline, and that
 //! ends once a stop is requested.
 
-ghost use Rattle.std.specs.Prelude.{◌+◌, ◌*◌, ◌<◌, ◌≤◌};
+ghost use Rattle.std.specs.Prelude.{◌+◌, ◌*◌, ◌<◌, ◌≤◌, length, IfOk};
 
 use crate::pace::{GRACE_MS, Pace};
 use crate::request_trace::RequestTrace;
@@ -85,8 +85,8 @@ impl<C: Clock + Copy> Stage<C> {
 /// at once is requested, each read and write. While another client waits for a seat, so does a read
 /// or a write of a few connections that are silent or late. A request begins with a byte that is
 /// read, and ends with the bytes that are written. What is read of one is returned once there is
-/// room for it (`SharedRoom`), and a read of one that makes room fails, too. No clause says
-/// anything about the bytes.
+/// room for it (`SharedRoom`), and a read of one that makes room fails, too. A reply 400 gets its
+/// text here, if it is to have one. No clause says anything about the bytes.
 #[derive(Clone, Copy, Drop)]
 pub(crate) struct TimedStream<'s, C> {
     stream: &'s TcpStream,
@@ -246,8 +246,11 @@ impl<C: Wait + Clock + Copy> Read for TimedStream<'_, C> {
     }
 }
 
-impl<C: Wait + Clock + Copy> Write for TimedStream<'_, C> {
-    fn write(&mut self, buf: &[u8]) -> io::Result<usize> {
+impl<C: Wait + Clock + Copy> TimedStream<'_, C> {
+    /// Writes as much of a reply as the client takes.
+    fn write_some(&self, buf: &[u8]) -> io::Result<usize>
+        ensures { IfOk result (λ n. n ≤ length buf.now) }
+    {
         let mut stream = self.stream;
         self.begin_reply();
         for _ in 0..self.patience.ticks {
@@ -267,6 +270,31 @@ impl<C: Wait + Clock + Copy> Write for TimedStream<'_, C> {
             }
         }
         Err(io::Error::from(ErrorKind::TimedOut))
+    }
+
+    /// Writes a whole reply.
+    fn write_whole(&self, reply: &[u8]) -> io::Result<()> {
+        let mut rest = reply;
+        for _ in 0..reply.len() {
+            if rest.is_empty() {
+                break;
+            }
+            let written = self.write_some(rest)?;
+            rest = rest.get(written..).unwrap_or(&[]);
+        }
+        Ok(())
+    }
+}
+
+impl<C: Wait + Clock + Copy> Write for TimedStream<'_, C> {
+    fn write(&mut self, buf: &[u8]) -> io::Result<usize> {
+        match self.trace.explained(buf) {
+            Some(reply) => {
+                self.write_whole(&reply)?;
+                Ok(buf.len())
+            }
+            None => self.write_some(buf),
+        }
     }
 
     fn flush(&mut self) -> io::Result<()> {

@@ -172,7 +172,9 @@ impl<R: Threads + Wait + Clock + Sync> Receiver<'_, R> {
             },
             capacity: capacity_of(self.receiving),
             takes: TakeOptions {
+                sorts_labels: self.receiving.sorts_labels,
                 is_partial: self.receiving.takes_parts,
+                explains: self.receiving.explains_replies,
             },
             memory_ms: self.receiving.memory_ms,
             counters,

@@ -1,7 +1,8 @@
 //! Lines on requests that a receiver has refused.
 
 use crate::event_log::LastLine;
-use rw_metrics::{ReceiveCounters, ReceiveNumbers, RefusalReason, RefusedRequest};
+use rw_metrics::{ReceiveCounters, ReceiveNumbers, RefusedRequest};
+use rw_receive::refusal_words;
 use std::alloc::{AllocError, Global};
 use std::sync::Arc;
 use std::thread::{self, Threads};
@@ -28,20 +29,6 @@ fn refused_in(numbers: &ReceiveNumbers) -> u64 {
     sum
 }
 
-/// Returns why the body of a request was refused, in words.
-fn words_of(reason: RefusalReason) -> &'static str {
-    match reason {
-        RefusalReason::Order =>
-            "a sample is neither later than the last one of its series nor a repeat",
-        RefusalReason::Labels => "the labels of a series are not valid",
-        RefusalReason::Limits => "a series is over receive.max_labels or receive.max_label_bytes",
-        RefusalReason::Body => "the body is not a message of Remote-Write 1.0",
-        RefusalReason::Full => "it goes beyond a limit of the receiver",
-        RefusalReason::Unavailable => "memory ran out, or the folder cannot be written",
-        RefusalReason::Busy => "the receiver is busy",
-    }
-}
-
 /// Returns why a request was refused without a look at its message, in words.
 fn words_of_status(status: u16) -> &'static str {
     match status {
@@ -58,7 +45,7 @@ fn words_of_status(status: u16) -> &'static str {
 /// Returns why a request was refused, in words.
 fn why(refusal: &RefusedRequest) -> &'static str {
     match refusal.reason {
-        Some(reason) => words_of(reason),
+        Some(reason) => refusal_words(reason),
         None if refusal.samples > 0 => "for a reason that is not known",
         None => words_of_status(refusal.status),
     }

@@ -41,6 +41,8 @@ mod seats;
 #[cfg(test)]
 mod snappy;
 #[cfg(test)]
+mod sorted;
+#[cfg(test)]
 mod staged;
 #[cfg(test)]
 mod store;

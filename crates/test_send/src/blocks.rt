@@ -9,7 +9,6 @@ use std::io::{Read, Write};
 use std::net::{Net, SocketAddr, TcpListener, TcpStream};
 use std::rt::Files;
 use std::test::Fail;
-use std::thread::Threads;
 use std::time::Clock;
 use std::{io, thread};
 
@@ -21,12 +20,18 @@ const BUSY: &[u8] = b"HTTP/1.1 429 Too Many Requests\r\nConnection: close\r\n\r\
 
 const TAKEN: &[u8] = b"HTTP/1.1 204 No Content\r\nConnection: close\r\n\r\n";
 
-/// What came over two connections, and the statuses that their client read.
+/// What came over the connections of two attempts of a request.
 #[derive(Drop)]
 struct Attempts {
     first: Vec<u8>,
     second: Vec<u8>,
-    statuses: Vec<u8>,
+}
+
+/// What came of a request with the option, and without it.
+#[derive(Drop)]
+struct Requests {
+    packed: Attempts,
+    plain: Attempts,
 }
 
 /// Replies to one connection, and returns all that comes over it.
@@ -53,34 +58,31 @@ fn two_statuses<N: Net<Stream = TcpStream> + Clock + Files + AllocGlobal + Copy>
     statuses(alloc, &mut transport, 2, request)
 }
 
-/// Returns what two attempts of a request with this body bring, of which the first is answered 429.
-fn both_attempts<
-    R: Net<Stream = TcpStream, Listener = TcpListener>
-        + Threads
-        + Clock
-        + Files
-        + AllocGlobal
-        + Copy
-        + Send
-        + Sync,
->(rt: &R, alloc: Global, snappy: bool, request: &[u8]) -> io::Result<Attempts> {
-    let listener = TcpListener::bind(rt, "127.0.0.1:0")?;
-    let address = listener.local_addr()?;
-    let (statuses, read) = thread::join(
-        rt,
-        || two_statuses(rt, alloc, address, snappy, request),
-        || {
-            let first = bytes_of(alloc, &listener, BUSY)?;
-            let second = bytes_of(alloc, &listener, TAKEN)?;
-            Ok::<_, io::Error>((first, second))
-        },
-    );
-    let (first, second) = read?;
-    let statuses = statuses?;
+/// Returns the statuses of two attempts with the option, and of two without it.
+fn all_statuses<N: Net<Stream = TcpStream> + Clock + Files + AllocGlobal + Copy>(
+    net: &N,
+    alloc: Global,
+    address: SocketAddr,
+    request: &[u8],
+) -> io::Result<Vec<u8>> {
+    let mut read = two_statuses(net, alloc, address, true, request)?;
+    read.extend_from_slice(&two_statuses(net, alloc, address, false, request)?)?;
+    Ok(read)
+}
+
+/// Answers the first attempt with 429 and the second one with 204, and returns both.
+fn two_attempts(alloc: Global, listener: &TcpListener) -> io::Result<Attempts> {
     Ok(Attempts {
-        first,
-        second,
-        statuses,
+        first: bytes_of(alloc, listener, BUSY)?,
+        second: bytes_of(alloc, listener, TAKEN)?,
+    })
+}
+
+/// Answers two attempts twice, and returns what came.
+fn all_attempts(alloc: Global, listener: TcpListener) -> io::Result<Requests> {
+    Ok(Requests {
+        packed: two_attempts(alloc, &listener)?,
+        plain: two_attempts(alloc, &listener)?,
     })
 }
 
@@ -99,21 +101,16 @@ fn is_block_of(alloc: Global, text: &[u8], body: &[u8], most: usize) -> Result<b
     Ok(is_sound && out.as_slice() == body && len <= most && length.as_bytes() == digits)
 }
 
-/// Returns whether a body is sent in a block of at most `most` bytes, the same one in both
+/// Returns whether a body was sent in a block of at most `most` bytes, the same one in both
 /// attempts, and without the option as it is.
-fn is_sent_in_block<
-    R: Net<Stream = TcpStream, Listener = TcpListener>
-        + Threads
-        + Clock
-        + Files
-        + AllocGlobal
-        + Copy
-        + Send
-        + Sync,
->(rt: &R, alloc: Global, body: &[u8], most: usize) -> io::Result<bool> {
-    let request = request_of(alloc, body)?;
-    let packed = both_attempts(rt, alloc, true, &request)?;
-    let plain = both_attempts(rt, alloc, false, &request)?;
+fn is_sent_in_block(
+    alloc: Global,
+    requests: &Requests,
+    request: &[u8],
+    body: &[u8],
+    most: usize,
+) -> Result<bool, AllocError> {
+    let Requests { packed, plain } = requests;
     let is_packed = match packed.first.as_slice().strip_prefix(HEAD) {
         Some(rest) => is_block_of(alloc, rest, body, most)?,
         None => false,
@@ -121,24 +118,32 @@ fn is_sent_in_block<
     Ok(
         is_packed
             && packed.first == packed.second
-            && packed.statuses.as_slice() == b" 429 204".as_slice()
-            && plain.first == request
-            && plain.second == request,
+            && plain.first.as_slice() == request
+            && plain.second.as_slice() == request,
     )
 }
 
-/// A short body does not get shorter: its block has a length and a tag more, at most.
+/// A short body does not get shorter: its block has a length and a tag more, at most. 200 KB that
+/// repeat themselves get less than half as long.
 #[test]
-fn a_short_body_is_sent_in_a_block(rt: HostRuntime) -> Result<(), Fail> {
-    assert!(rt; is_sent_in_block(&rt, rt.alloc(), &UP_BODY, UP_BODY.len() + 2)?);
-    Ok(())
-}
-
-/// 200 KB that repeat themselves get less than half as long.
-#[test]
-fn a_long_body_is_sent_in_a_block(rt: HostRuntime) -> Result<(), Fail> {
-    let body = long_body(rt.alloc())?;
-    let most = body.len() / 2;
-    assert!(rt; is_sent_in_block(&rt, rt.alloc(), &body, most)?);
+fn bodies_are_sent_in_blocks(rt: HostRuntime) -> Result<(), Fail> {
+    let alloc = rt.alloc();
+    let long = long_body(alloc)?;
+    for (name, body, most) in [
+        ("a short body", UP_BODY.as_slice(), UP_BODY.len() + 2),
+        ("a long body", long.as_slice(), long.len() / 2),
+    ] {
+        let request = request_of(alloc, body)?;
+        let listener = TcpListener::bind(&rt, "127.0.0.1:0")?;
+        let address = listener.local_addr()?;
+        let (statuses, requests) = thread::join(
+            &rt,
+            || all_statuses(&rt, alloc, address, &request),
+            || all_attempts(alloc, listener),
+        );
+        let is_answered = statuses?.as_slice() == b" 429 204 429 204".as_slice();
+        let is_right = is_sent_in_block(alloc, &requests?, &request, body, most)?;
+        assert!(rt; is_answered && is_right, "{name}");
+    }
     Ok(())
 }

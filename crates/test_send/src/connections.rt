@@ -176,19 +176,33 @@ fn transport_along<N: Net<Stream = TcpStream> + Clock + Files + AllocGlobal + Co
     Ok(transport.with_shared_route(route))
 }
 
-/// Returns the statuses of three requests. At the first address of the receiver nobody listens at
-/// the first request, and from then on somebody who answers nothing. The third request is sent by
-/// another transport, which shares the route.
+/// Returns the statuses of two requests. At the first address of the receiver nobody listens at the
+/// first request, and somebody who answers nothing at the second one.
+fn ask_twice<
+    N: Net<Stream = TcpStream, Listener = TcpListener> + Clock + Files + AllocGlobal + Copy,
+>(
+    net: &N,
+    alloc: Global,
+    silent: SocketAddr,
+    transport: &mut TcpTransport<N>,
+    request: &[u8],
+) -> io::Result<Vec<u8>> {
+    let mut read = statuses(alloc, transport, 1, request)?;
+    let _listener = TcpListener::bind(net, silent)?;
+    read.extend_from_slice(&statuses(alloc, transport, 1, request)?)?;
+    Ok(read)
+}
+
+/// Returns the statuses of three requests of which the first two are sent as `ask_twice` does, and
+/// the third one by another transport, which shares the route.
 fn ask_behind_silent<
     N: Net<Stream = TcpStream, Listener = TcpListener> + Clock + Files + AllocGlobal + Copy,
 >(net: &N, alloc: Global, address: SocketAddr, request: &[u8]) -> io::Result<Vec<u8>> {
     let silent = deserted(net)?;
     let route = Arc::new(alloc, SharedRoute::new(alloc, "127.0.0.1", address.port())?)?;
     let mut first = transport_along(net, alloc, silent, address, Arc::try_clone(&route)?)?;
+    let mut read = ask_twice(net, alloc, silent, &mut first, request)?;
     let mut second = transport_along(net, alloc, silent, address, route)?;
-    let mut read = statuses(alloc, &mut first, 1, request)?;
-    let _listener = TcpListener::bind(net, silent)?;
-    read.extend_from_slice(&statuses(alloc, &mut first, 1, request)?)?;
     read.extend_from_slice(&statuses(alloc, &mut second, 1, request)?)?;
     Ok(read)
 }
@@ -224,19 +238,18 @@ fn are_served<
         + Threads
         + Wait
         + Clock
-        + Files
-        + AllocGlobal
         + Copy
         + Send
         + Sync,
 >(
-    rt: &R,
-    alloc: Global,
+    rt: &HostRuntime,
+    threads: &R,
     row: &Row<'_>,
     settings: &Settings,
     request: &[u8],
     printed: &mut Room,
 ) -> io::Result<bool> {
+    let alloc = rt.alloc();
     let Some(most) = Bounded::try_new(row.connections) else {
         return Ok(false);
     };
@@ -245,7 +258,7 @@ fn are_served<
     let client = row.client;
     let counters = ReceiveCounters::new(alloc)?;
     let (read, ended) = thread::join(
-        rt,
+        threads,
         || read_by(rt, alloc, client, address, request),
         || {
             let service = Service {
@@ -259,7 +272,7 @@ fn are_served<
                 memory_ms: None,
                 counters: &counters,
             };
-            run_receive(rt, alloc, settings, service, listener, printed)
+            run_receive(threads, alloc, settings, service, listener, printed)
         },
     );
     Ok(ended == row.ended && read?.as_slice() == row.read)
@@ -271,15 +284,13 @@ fn does_with<
         + Threads
         + Wait
         + Clock
-        + Files
-        + AllocGlobal
         + Copy
         + Send
         + Sync,
->(rt: &R, alloc: Global, row: &Row<'_>, settings: &Settings) -> io::Result<bool> {
-    let request = request_of(alloc, row.body)?;
-    let mut printed = Room::new(alloc, row.room)?;
-    let is_so = are_served(rt, alloc, row, settings, &request, &mut printed)?;
+>(rt: &HostRuntime, threads: &R, row: &Row<'_>, settings: &Settings) -> io::Result<bool> {
+    let request = request_of(rt.alloc(), row.body)?;
+    let mut printed = Room::new(rt.alloc(), row.room)?;
+    let is_so = are_served(rt, threads, row, settings, &request, &mut printed)?;
     Ok(is_so && (row.ended.is_err() || printed.as_slice() == row.printed))
 }
 
@@ -289,14 +300,12 @@ fn does<
         + Threads
         + Wait
         + Clock
-        + Files
-        + AllocGlobal
         + Copy
         + Send
         + Sync,
->(rt: &R, alloc: Global, row: &Row<'_>) -> Result<bool, Fail> {
-    let settings = read_settings(alloc, row.settings)?;
-    Ok(does_with(rt, alloc, row, &settings)?)
+>(rt: &HostRuntime, threads: &R, row: &Row<'_>) -> Result<bool, Fail> {
+    let settings = read_settings(rt.alloc(), row.settings)?;
+    Ok(does_with(rt, threads, row, &settings)?)
 }
 
 /// Returns the name of the first row that differs.
@@ -305,14 +314,12 @@ fn wrong_row<
         + Threads
         + Wait
         + Clock
-        + Files
-        + AllocGlobal
         + Copy
         + Send
         + Sync,
->(rt: &R, alloc: Global) -> Result<Option<&'static str>, Fail> {
+>(rt: &HostRuntime, threads: &R) -> Result<Option<&'static str>, Fail> {
     for row in &ROWS {
-        if !does(rt, alloc, row)? {
+        if !does(rt, threads, row)? {
             return Ok(Some(row.name));
         }
     }
@@ -405,7 +412,7 @@ static ROWS: [Row<'static>; 7] = [
 
 #[test]
 fn what_is_sent_is_received(rt: HostRuntime) -> Result<(), Fail> {
-    let wrong = wrong_row(&rt, rt.alloc())?;
+    let wrong = wrong_row(&rt, &rt)?;
     assert_eq!(rt; wrong, None);
     Ok(())
 }
@@ -433,12 +440,8 @@ fn refused<'a>(client: Client, body: &'a [u8], read: &'a [u8]) -> Row<'a> {
 #[test]
 fn a_body_over_the_limit_is_refused(rt: HostRuntime) -> Result<(), Fail> {
     let body: Vec<u8> = vec![in rt.alloc(); 0; 1 << 24]?;
-    let asks = does(&rt, rt.alloc(), &refused(Client::Asks(1), &body, b" 413"))?;
-    let writes = does(
-        &rt,
-        rt.alloc(),
-        &refused(Client::WritesFirst, &body, TOO_LARGE),
-    )?;
+    let asks = does(&rt, &rt, &refused(Client::Asks(1), &body, b" 413"))?;
+    let writes = does(&rt, &rt, &refused(Client::WritesFirst, &body, TOO_LARGE))?;
     assert!(rt; asks, "a client that reads at once");
     assert!(rt; writes, "a client that writes all first");
     Ok(())
@@ -485,7 +488,7 @@ fn a_long_request_arrives_whole(rt: HostRuntime) -> Result<(), Fail> {
         ended: Ok(()),
         printed: &printed,
     };
-    let is_so = does(&rt, rt.alloc(), &row)?;
+    let is_so = does(&rt, &rt, &row)?;
     assert!(rt; is_so);
     Ok(())
 }
@@ -581,42 +584,29 @@ fn no_reply_is_lost(rt: HostRuntime) -> Result<(), Fail> {
 }
 
 /// Reads the request of one connection whole, and closes it without a reply.
-fn hang_up(listener: &TcpListener) -> io::Result<()> {
+fn hang_up(listener: TcpListener) -> io::Result<()> {
     let (mut stream, _) = listener.accept()?;
     stream.read_exact(&mut [0; 4])
-}
-
-/// Returns whether a request is lost that a receiver takes whole, and does not answer.
-fn is_lost_in_silence<
-    R: Net<Stream = TcpStream, Listener = TcpListener>
-        + Threads
-        + Clock
-        + Files
-        + AllocGlobal
-        + Copy
-        + Send
-        + Sync,
->(rt: &R, alloc: Global) -> io::Result<bool> {
-    let listener = TcpListener::bind(rt, "127.0.0.1:0")?;
-    let address = listener.local_addr()?;
-    let (is_lost, read) = thread::join(
-        rt,
-        || is_lost_at(rt, alloc, address, Bounded::new(60_000)),
-        || hang_up(&listener),
-    );
-    Ok(is_lost? && read.is_ok())
 }
 
 /// Not even a request that was written whole and read whole counts as taken if no reply came.
 #[test]
 fn a_connection_that_is_closed_without_a_reply_is_lost(rt: HostRuntime) -> Result<(), Fail> {
-    assert!(rt; is_lost_in_silence(&rt, rt.alloc())?);
+    let alloc = rt.alloc();
+    let listener = TcpListener::bind(&rt, "127.0.0.1:0")?;
+    let address = listener.local_addr()?;
+    let (is_lost, read) = thread::join(
+        &rt,
+        || is_lost_at(&rt, alloc, address, Bounded::new(60_000)),
+        || hang_up(listener),
+    );
+    assert!(rt; is_lost? && read.is_ok());
     Ok(())
 }
 
 /// Writes the head of a reply to one connection, a byte each 20 ms, until the client has gone or 40
 /// s have passed.
-fn drip<R: Clock>(clock: &R, listener: &TcpListener) -> io::Result<()> {
+fn drip<R: Clock>(clock: &R, listener: TcpListener) -> io::Result<()> {
     let (mut stream, _) = listener.accept()?;
     stream.write_all(b"HTTP/1.1 204 No Content\r\nX: ")?;
     for _ in 0..2_000 {
@@ -626,34 +616,19 @@ fn drip<R: Clock>(clock: &R, listener: &TcpListener) -> io::Result<()> {
     Ok(())
 }
 
-/// Returns how long a request takes whose reply comes byte by byte, with a timeout of 200 ms, or
-/// `None` if it has a reply.
-fn dripped<
-    R: Net<Stream = TcpStream, Listener = TcpListener>
-        + Threads
-        + Clock
-        + Files
-        + AllocGlobal
-        + Copy
-        + Send
-        + Sync,
->(rt: &R, alloc: Global) -> io::Result<Option<Duration>> {
-    let listener = TcpListener::bind(rt, "127.0.0.1:0")?;
-    let address = listener.local_addr()?;
-    let start = Instant::now(rt)?;
-    let (is_lost, _) = thread::join(
-        rt,
-        || is_lost_at(rt, alloc, address, Bounded::new(200)),
-        || drip(rt, &listener),
-    );
-    let took = start.elapsed(rt)?;
-    Ok(is_lost?.then_some(took))
-}
-
-/// The timeout holds for the attempt, and not for each read of it.
+/// The timeout, of 200 ms, holds for the attempt, and not for each read of it.
 #[test]
 fn a_reply_that_drips_is_lost(rt: HostRuntime) -> Result<(), Fail> {
-    let took = dripped(&rt, rt.alloc())?;
-    assert!(rt; matches!(took, Some(took) if took < Duration::from_secs(10)));
+    let alloc = rt.alloc();
+    let listener = TcpListener::bind(&rt, "127.0.0.1:0")?;
+    let address = listener.local_addr()?;
+    let start = Instant::now(&rt)?;
+    let (is_lost, _) = thread::join(
+        &rt,
+        || is_lost_at(&rt, alloc, address, Bounded::new(200)),
+        || drip(&rt, listener),
+    );
+    let took = start.elapsed(&rt)?;
+    assert!(rt; is_lost? && took < Duration::from_secs(10));
     Ok(())
 }
