@@ -21,6 +21,7 @@ KINDS = {
     "Switch": ("`false`", "`true` or `false`"),
     "Action": ("required", "`keep` or `drop`"),
     "Fields": ("none", "a table of names and values"),
+    "Part": ("none", "a table of names and values, each a string that is not empty"),
     "Labels": ("required", "a list of strings, at least one"),
 }
 KEY = re.compile(r'((?:^/// .*\n)+)^pub\(crate\) const (\w+): Key =\s+Key\(\s*"(\w+)",\s*Kind::(\w+)(?:\(([\d_, ]+)\))?,?\s*\);', re.M)

@@ -3,9 +3,11 @@ import errno
 import os
 import random
 import socket
+import subprocess
 import sys
 
 ROOT = os.path.dirname(os.path.dirname(os.path.abspath(__file__)))
+WAIT = 120  # seconds for what is soon over on a machine that is not busy
 
 
 def program():
@@ -39,3 +41,29 @@ def is_listened_on(port):
             if any(row[1].endswith(f":{port:04X}") and row[3] == "0A" for row in rows[1:]):
                 return True
     return False
+
+
+class Different(Exception):
+    """What is not as it is to be."""
+
+
+# What ends a row: it differs, a process does not end, or the machine does not do what the row needs.
+FAULTS = (Different, subprocess.SubprocessError, OSError)
+
+
+class Rows:
+    """Named rows, of which each prints a line."""
+
+    def __init__(self, only=""):
+        self.only, self.passed, self.failed = only, 0, 0
+
+    def run(self, name, row, *words, **more):
+        """Runs a row, which returns what to print, or raises why it failed."""
+        if self.only not in name:
+            return
+        try:
+            what, is_well = row(*words, **more), True
+        except FAULTS as why:
+            what, is_well = str(why) or type(why).__name__, False
+        print(f"{'passed' if is_well else 'FAILED'}: {name}: {what}", flush=True)
+        self.passed, self.failed = self.passed + is_well, self.failed + (not is_well)

@@ -15,8 +15,8 @@ import subprocess
 import tempfile
 import time
 
-from common import free_port
-from over_folder import FAULTS, Different, same_samples
+from common import FAULTS, Different, free_port
+from over_folder import same_samples
 
 WAIT = 60
 HOSTS, FIRST, ALL = 10, range(40), range(120)

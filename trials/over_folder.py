@@ -8,18 +8,10 @@ import time
 import urllib.parse
 import urllib.request
 
-from common import free_port
+from common import Different, free_port
 
 WAIT = 60
 YEARS = 200
-
-
-class Different(Exception):
-    """What is not as it is to be."""
-
-
-# What ends a round: it differs, a process does not end, or the machine does not do what the round needs.
-FAULTS = (Different, subprocess.SubprocessError, OSError)
 
 
 def is_installed():
@@ -64,7 +56,7 @@ def wait_until_ready(port, server, log):
         time.sleep(0.05)
 
 
-def answered(folder, room):
+def answered(folder, room, ask=samples_of):
     """Copies the folder into the room, starts a Prometheus over the copy as its log, and returns what it answers."""
     port, data, log = free_port(), f"{room}/over-folder", f"{room}/over-folder.log"
     shutil.copytree(folder, f"{data}/wal")
@@ -73,7 +65,7 @@ def answered(folder, room):
         server = subprocess.Popen(words, stdin=subprocess.DEVNULL, stdout=it, stderr=it)
     try:
         wait_until_ready(port, server, log)
-        return samples_of(port)
+        return ask(port)
     finally:
         server.send_signal(signal.SIGKILL)
         server.wait()

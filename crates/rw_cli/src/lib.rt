@@ -118,6 +118,8 @@ pub struct Sending<'a> {
     pub max_batch_bytes: Option<u64>,
     /// Whether bodies are sent as Snappy blocks, whatever the settings say.
     pub sends_snappy: bool,
+    /// The file in which the position in the log is kept, if it is kept.
+    pub resume: Option<&'a str>,
 }
 
 /// What `receive` is to do.

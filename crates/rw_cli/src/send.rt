@@ -50,6 +50,7 @@ pub(crate) fn send_task<'a>(
             give_up_ms,
             max_batch_bytes: options.get_one::<u64>("max-batch-bytes"),
             sends_snappy: options.get_flag("snappy"),
+            resume: options.get_str("resume"),
         },
     })
 }

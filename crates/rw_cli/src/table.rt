@@ -341,6 +341,12 @@ static SEND: Words = Words {
             help: "Stop with status 4 if the receiver answers 400, 401,\n403, 404, 405 or 415 before it takes a batch",
         },
         Opt {
+            name: "resume",
+            takes: Takes::Path("FILE"),
+            bonds: &[],
+            help: "Go on at the segment that FILE names, and keep there\nat the end of each segment which comes next; implies\n--checkpoint",
+        },
+        Opt {
             name: "give-up",
             takes: Takes::Text("TIME"),
             bonds: &[],

@@ -1,5 +1,6 @@
 -- Known bytes, if they are known.
-use Rattle.std.proofs.Common.{◌≡◌, ℕ, List, ◌++◌, Option, None, Some, refl, sym, ◌∙◌, ap}
+use Rattle.std.proofs.Common.{◌≡◌, ℕ, List, [], ◌++◌, Option, None, Some, refl, sym, ◌∙◌, ap, subst}
+use Rattle.std.proofs.lemmas.List.{append-nil}
 use Rattle.std.specs.Io.KnownBytes.{Keeps, Appends, prepend_known}
 
 pub keeps_known : (a b : Option (List ℕ)) (x : List ℕ) → Keeps a b → a ≡ Some x → b ≡ Some x
@@ -18,3 +19,20 @@ prepend_split p (Some y) x e = let same : p ++ y ≡ x = cc in (y, refl, sym sam
 
 pub prepend_known_is : (p : List ℕ) (r : Option (List ℕ)) (y : List ℕ) → r ≡ Some y → prepend_known p r ≡ Some (p ++ y)
 prepend_known_is p r y e = ap (prepend_known p) e
+
+pub some_is : (x y : List ℕ) → Some x ≡ Some y → x ≡ y
+some_is x y e = cc
+
+pub keeps_trans : (a b c : Option (List ℕ)) → Keeps a b → Keeps b c → Keeps a c
+keeps_trans None b c p q = tt
+keeps_trans (Some x) None c p q = absurd p
+keeps_trans (Some x) (Some y) None p q = absurd q
+keeps_trans (Some x) (Some y) (Some z) p q = q ∙ p
+
+-- a body grows, if nothing waits
+pub keeps_body : (a : Option (List ℕ)) (q r w : List ℕ) (b c : Option (List ℕ)) → w ≡ [] → Keeps a (prepend_known (q ++ w) b) → Keeps (prepend_known q b) (prepend_known r c) → Keeps a (prepend_known (r ++ w) c)
+keeps_body a q r w b c none p k =
+    let alone : (t : List ℕ) → t ++ w ≡ t = λ t. ap (λ (u : List ℕ). t ++ u) none ∙ append-nil t in
+    keeps_trans a (prepend_known q b) (prepend_known (r ++ w) c)
+    (subst (λ (t : List ℕ). Keeps a (prepend_known t b)) (alone q) p)
+    (subst (λ (t : List ℕ). Keeps (prepend_known q b) (prepend_known t c)) (sym (alone r)) k)

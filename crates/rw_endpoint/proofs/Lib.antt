@@ -3,6 +3,7 @@ pub mod HeadLemmas
 pub mod KnownLemmas
 pub mod FrontLemmas
 pub mod ServingLemmas
+pub mod RecordedLemmas
 pub mod AloneLemmas
 pub mod RefusedLemmas
 pub mod DeterminedLemmas

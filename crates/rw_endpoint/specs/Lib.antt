@@ -4,6 +4,7 @@ pub mod Replies
 pub mod Coding
 pub mod Judgement
 pub mod Reading
+pub mod Recordings
 pub mod Serving
 pub mod Alone
 pub mod Determined

@@ -1,14 +1,15 @@
 //! Reads heads and bodies from a connection.
 
-ghost use Rattle.std.specs.Prelude.{true, ◌≡◌, ◌≢◌, ◌+◌, ◌*◌, ◌<◌, ◌≤◌, max, length, Some, Err, IfOk, OnOk, OnErr, IsOk, vec_len, vec_capacity, option_map};
+ghost use Rattle.std.specs.Prelude.{true, ◌≡◌, ◌≢◌, ◌+◌, ◌*◌, ◌++◌, ◌<◌, ◌≤◌, max, length, Some, Err, IfOk, OnOk, OnErr, IsOk, vec_len, vec_capacity, option_map};
 ghost use Rattle.std.specs.Io.KnownBytes.{Keeps, IsAtEnd, prepend_known};
-ghost use Rattle.rw_endpoint.specs.inner.Reading.{HasRead, HasBody};
+ghost use Rattle.rw_endpoint.specs.inner.Reading.{HasRead, HasBody, ReadsMore};
 
 use crate::finding::Finding;
 use crate::head::{RequestReading, read_head};
 use crate::intake::Intake;
 use crate::pending::{MAX_HEAD_BYTES, Pending};
-use rw_types::{Failed, Source};
+use crate::read_from::ReadFrom;
+use rw_types::Failed;
 use std::alloc::Global;
 
 /// The most bytes of a body that one read asks for.
@@ -37,22 +38,24 @@ pub(crate) enum Front {
 
 /// Appends some bytes of a head to those that wait, and returns how many. 0 means the end of the
 /// input.
-fn read_pending<R: Source>(reader: &mut R, pending: &mut Pending) -> Result<usize, Failed>
+fn read_pending<R, T: ReadFrom<R>>(reader: &mut R, pending: &mut Pending) -> Result<usize, Failed>
     requires { length pending.old < 8192 }
     ensures kept { OnOk result
-        (Keeps (prepend_known pending.old (R.remaining reader.old))
-        (prepend_known pending.new (R.remaining reader.new))) }
-    ensures end { IfOk result (λ n. n ≡ 0 → IsAtEnd (R.remaining reader.new)
+        (Keeps (prepend_known pending.old (T.remaining reader.old))
+        (prepend_known pending.new (T.remaining reader.new))) }
+    ensures end { IfOk result (λ n. n ≡ 0 → IsAtEnd (T.remaining reader.new)
         × (pending.new ≡ pending.old)) }
     ensures len { IfOk result (λ n. length pending.new ≡ length pending.old + n) }
     ensures bound { OnOk result (length pending.new ≤ 8192) }
-    ensures failed { OnErr result (R.has_failed reader.new ≡ true) }
-    ensures sure { R.is_sure reader.old ≡ true
-        → (R.is_sure reader.new ≡ true) × IsOk result }
+    ensures recorded { ReadsMore (T.past reader.old) (T.past reader.new)
+        (λ more. OnOk result (pending.new ≡ pending.old ++ more)) }
+    ensures failed { OnErr result (T.has_failed reader.new ≡ true) }
+    ensures sure { T.is_sure reader.old ≡ true
+        → (T.is_sure reader.new ≡ true) × IsOk result }
 {
     let mut chunk = [0; MAX_HEAD_BYTES];
     let room = MAX_HEAD_BYTES - pending.len();
-    match reader.read(&mut chunk[..room]) {
+    match T::read(reader, &mut chunk[..room]) {
         Ok(n) => {
             pending.append(&chunk[..n]);
             Ok(n)
@@ -63,22 +66,28 @@ fn read_pending<R: Source>(reader: &mut R, pending: &mut Pending) -> Result<usiz
 
 /// Appends some bytes to those of a body, at most `most`, and returns how many. 0 means the end of
 /// the input.
-fn read_more<R: Source>(reader: &mut R, body: &mut Vec<u8>, most: usize) -> Result<usize, Stop>
+fn read_more<R, T: ReadFrom<R>>(
+    reader: &mut R,
+    body: &mut Vec<u8>,
+    most: usize,
+) -> Result<usize, Stop>
     requires { 0 < most }
     ensures kept { OnOk result
-        (Keeps (prepend_known body.old.items (R.remaining reader.old))
-        (prepend_known body.new.items (R.remaining reader.new))) }
-    ensures end { IfOk result (λ n. n ≡ 0 → IsAtEnd (R.remaining reader.new)
+        (Keeps (prepend_known body.old.items (T.remaining reader.old))
+        (prepend_known body.new.items (T.remaining reader.new))) }
+    ensures end { IfOk result (λ n. n ≡ 0 → IsAtEnd (T.remaining reader.new)
         × (body.new.items ≡ body.old.items)) }
     ensures len { IfOk result (λ n. vec_len body.new ≡ vec_len body.old + n) }
     ensures bound { IfOk result (λ n. n ≤ most) }
-    ensures failed { result ≡ Err Stop.Device → R.has_failed reader.new ≡ true }
-    ensures sure { R.is_sure reader.old ≡ true
-        → (R.is_sure reader.new ≡ true) × (result ≢ Err Stop.Device) }
+    ensures recorded { ReadsMore (T.past reader.old) (T.past reader.new)
+        (λ more. OnOk result (body.new.items ≡ body.old.items ++ more)) }
+    ensures failed { result ≡ Err Stop.Device → T.has_failed reader.new ≡ true }
+    ensures sure { T.is_sure reader.old ≡ true
+        → (T.is_sure reader.new ≡ true) × (result ≢ Err Stop.Device) }
 {
     let mut chunk = [0; CHUNK];
     let size = most.min(CHUNK);
-    let n = match reader.read(&mut chunk[..size]) {
+    let n = match T::read(reader, &mut chunk[..size]) {
         Ok(n) => n,
         Err(_) => return Err(Stop::Device),
     };
@@ -89,26 +98,28 @@ fn read_more<R: Source>(reader: &mut R, body: &mut Vec<u8>, most: usize) -> Resu
 }
 
 /// Reads until a head is at the front of the input, or no head can be there. This takes no memory.
-pub(crate) fn read_front<R: Source>(
+pub(crate) fn read_front<R, T: ReadFrom<R>>(
     reader: &mut R,
     pending: &mut Pending,
     path: &[u8],
     intake: Intake,
 ) -> Result<Front, Failed>
     ensures kept { OnOk result
-        (Keeps (prepend_known pending.old (R.remaining reader.old))
-        (prepend_known pending.new (R.remaining reader.new))) }
+        (Keeps (prepend_known pending.old (T.remaining reader.old))
+        (prepend_known pending.new (T.remaining reader.new))) }
     ensures front { IfOk result
-        (HasRead path.now intake pending.new (R.remaining reader.new)) }
-    ensures failed { OnErr result (R.has_failed reader.new ≡ true) }
-    ensures sure { R.is_sure reader.old ≡ true
-        → (R.is_sure reader.new ≡ true) × IsOk result }
+        (HasRead path.now intake pending.new (T.remaining reader.new)) }
+    ensures recorded { ReadsMore (T.past reader.old) (T.past reader.new)
+        (λ more. OnOk result (pending.new ≡ pending.old ++ more)) }
+    ensures failed { OnErr result (T.has_failed reader.new ≡ true) }
+    ensures sure { T.is_sure reader.old ≡ true
+        → (T.is_sure reader.new ≡ true) × IsOk result }
 {
     loop {
         match read_head(pending.as_slice(), path, intake) {
             RequestReading::Head(finding, len) => return Ok(Front::Head(finding, len)),
             RequestReading::Never => return Ok(Front::Never),
-            RequestReading::More => match read_pending(reader, pending) {
+            RequestReading::More => match read_pending::<R, T>(reader, pending) {
                 Ok(0) => return Ok(Front::End),
                 Ok(_) => {}
                 Err(failed) => return Err(failed),
@@ -143,19 +154,22 @@ fn make_room(body: &mut Vec<u8>, n: usize) -> Result<usize, Stop>
 }
 
 /// Reads a body of `n` bytes, or returns `None` if the input ends before.
-pub(crate) fn read_body<R: Source>(
+pub(crate) fn read_body<R, T: ReadFrom<R>>(
     alloc: Global,
     reader: &mut R,
     pending: &mut Pending,
     n: usize,
 ) -> Result<Option<Vec<u8>>, Stop>
     ensures body { IfOk result
-        (λ body. HasBody (prepend_known pending.old (R.remaining reader.old))
-        (prepend_known pending.new (R.remaining reader.new)) n
+        (λ body. HasBody (prepend_known pending.old (T.remaining reader.old))
+        (prepend_known pending.new (T.remaining reader.new)) n
         (option_map (λ v. v.items) body)) }
-    ensures failed { result ≡ Err Stop.Device → R.has_failed reader.new ≡ true }
-    ensures sure { R.is_sure reader.old ≡ true
-        → (R.is_sure reader.new ≡ true) × (result ≢ Err Stop.Device) }
+    ensures recorded { ReadsMore (T.past reader.old) (T.past reader.new)
+        (λ more. IfOk result (λ body. HasBody (Some (pending.old ++ more)) (Some pending.new) n
+        (option_map (λ v. v.items) body))) }
+    ensures failed { result ≡ Err Stop.Device → T.has_failed reader.new ≡ true }
+    ensures sure { T.is_sure reader.old ≡ true
+        → (T.is_sure reader.new ≡ true) × (result ≢ Err Stop.Device) }
 {
     let mut body = Vec::new(alloc);
     let front = n.min(pending.len());
@@ -166,7 +180,10 @@ pub(crate) fn read_body<R: Source>(
     pending.drop_front(front);
     while body.len() < n {
         let room = make_room(&mut body, n)?;
-        let more = read_more(reader, &mut body, room)?;
+        let more = match read_more::<R, T>(reader, &mut body, room) {
+            Ok(more) => more,
+            Err(stop) => return Err(stop),
+        };
         if more == 0 {
             return Ok(None);
         }

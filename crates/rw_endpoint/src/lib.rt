@@ -13,6 +13,8 @@ mod intake;
 mod laws;
 mod names;
 mod pending;
+mod read_from;
+mod recording;
 mod reply;
 mod requests;
 mod serve_end;
@@ -20,5 +22,6 @@ mod values;
 
 pub use answer::Answer;
 pub use laws::{replies_are_determined, replies_are_short};
-pub use requests::serve;
+pub use recording::Recording;
+pub use requests::{serve, serve_recorded};
 pub use serve_end::ServeEnd;

@@ -5,6 +5,7 @@ ghost use Rattle.std.specs.Io.KnownBytes.{prepend_known};
 ghost use Rattle.rw_endpoint.specs.Coding.{intake_of, through};
 ghost use Rattle.rw_endpoint.specs.Serving.{Replies, HasWritten, IsTooSmall, AsksForBody, IsStoppedAtBody};
 ghost use Rattle.rw_endpoint.specs.Alone.{IsOneRequest, IsServedAlone, IsOneRefusal, IsTurnedAway};
+ghost use Rattle.rw_endpoint.specs.inner.Reading.{ReadsMore};
 ghost use Rattle.rw_endpoint.specs.inner.Steps.{IsBodyAnswered, HasBodyServed, HasServed};
 
 use crate::answer::Answer;
@@ -13,6 +14,8 @@ use crate::finding::Finding;
 use crate::input::{Front, Stop, read_body, read_front};
 use crate::intake::{Intake, intake_of};
 use crate::pending::Pending;
+use crate::read_from::{FromRecording, FromSource, ReadFrom};
+use crate::recording::Recording;
 use crate::reply::{closing_reply, staying_reply};
 use crate::serve_end::ServeEnd;
 use rw_head::Limits;
@@ -28,7 +31,7 @@ struct Asked {
 }
 
 /// Answers the body that a head announced.
-fn serve_body<R: Source, W: Sink, A: Answer>(
+fn serve_body<R, T: ReadFrom<R>, W: Sink, A: Answer>(
     alloc: Global,
     reader: &mut R,
     writer: &mut W,
@@ -37,28 +40,33 @@ fn serve_body<R: Source, W: Sink, A: Answer>(
     asked: Asked,
 ) -> Result<(), ServeEnd>
     ensures served { (input before : List ℕ)
-        → prepend_known pending.old (R.remaining reader.old) ≡ Some input
+        → prepend_known pending.old (T.remaining reader.old) ≡ Some input
         → W.contents writer.old ≡ Some before
         → (text : List ℕ) × (W.contents writer.new ≡ Some (before ++ text))
         × HasBodyServed (through asked.coding A.answers) asked.len asked.closes input answer.old text
-        (prepend_known pending.new (R.remaining reader.new)) answer.new result
+        (prepend_known pending.new (T.remaining reader.new)) answer.new result
         × OnOk result
         (W.has_failed writer.old ≡ false
         → (W.has_failed writer.new ≡ false)
         × (W.room writer.old ≤ W.room writer.new + length text)) }
-    ensures device { result ≡ Err ServeEnd.Device → (R.has_failed reader.new ≡ true)
+    ensures recorded { (before : List ℕ) → W.contents writer.old ≡ Some before
+        → ReadsMore (T.past reader.old) (T.past reader.new)
+        (λ more. (text : List ℕ) × (W.contents writer.new ≡ Some (before ++ text))
+        × HasBodyServed (through asked.coding A.answers) asked.len asked.closes
+        (pending.old ++ more) answer.old text (Some pending.new) answer.new result) }
+    ensures device { result ≡ Err ServeEnd.Device → (T.has_failed reader.new ≡ true)
         ⊎ (W.has_failed writer.new ≡ true) }
-    ensures sure { R.is_sure reader.old ≡ true → R.is_sure reader.new ≡ true }
+    ensures sure { T.is_sure reader.old ≡ true → T.is_sure reader.new ≡ true }
     ensures fits { (input : List ℕ)
-        → prepend_known pending.old (R.remaining reader.old) ≡ Some input
-        → R.is_sure reader.old ≡ true → W.has_failed writer.old ≡ false
+        → prepend_known pending.old (T.remaining reader.old) ≡ Some input
+        → T.is_sure reader.old ≡ true → W.has_failed writer.old ≡ false
         → result ≡ Err ServeEnd.Device
         → (whole : List ℕ) × (rest : List ℕ)
         × IsBodyAnswered (through asked.coding A.answers) asked.len input answer.old whole rest
         asked.closes answer.new
         × (W.room writer.old < length whole) }
 {
-    let body = match read_body(alloc, reader, pending, asked.len) {
+    let body = match read_body::<R, T>(alloc, reader, pending, asked.len) {
         Ok(Some(body)) => body,
         Ok(None) => return Err(ServeEnd::Torn),
         Err(Stop::Device) => return Err(ServeEnd::Device),
@@ -81,7 +89,7 @@ fn serve_body<R: Source, W: Sink, A: Answer>(
 }
 
 /// Replies to the request at the front of the input.
-fn serve_one<R: Source, W: Sink, A: Answer>(
+fn serve_one<R, T: ReadFrom<R>, W: Sink, A: Answer>(
     alloc: Global,
     reader: &mut R,
     writer: &mut W,
@@ -91,30 +99,35 @@ fn serve_one<R: Source, W: Sink, A: Answer>(
     intake: Intake,
 ) -> Result<(), ServeEnd>
     ensures served { (input before : List ℕ)
-        → prepend_known pending.old (R.remaining reader.old) ≡ Some input
+        → prepend_known pending.old (T.remaining reader.old) ≡ Some input
         → W.contents writer.old ≡ Some before
         → (text : List ℕ) × (W.contents writer.new ≡ Some (before ++ text))
         × HasServed path.now intake A.answers input answer.old text
-        (prepend_known pending.new (R.remaining reader.new)) answer.new result
+        (prepend_known pending.new (T.remaining reader.new)) answer.new result
         × OnOk result
         (W.has_failed writer.old ≡ false
         → (W.has_failed writer.new ≡ false)
         × (W.room writer.old ≤ W.room writer.new + length text)) }
-    ensures device { result ≡ Err ServeEnd.Device → (R.has_failed reader.new ≡ true)
+    ensures recorded { (before : List ℕ) → W.contents writer.old ≡ Some before
+        → ReadsMore (T.past reader.old) (T.past reader.new)
+        (λ more. (text : List ℕ) × (W.contents writer.new ≡ Some (before ++ text))
+        × HasServed path.now intake A.answers (pending.old ++ more) answer.old text
+        (Some pending.new) answer.new result) }
+    ensures device { result ≡ Err ServeEnd.Device → (T.has_failed reader.new ≡ true)
         ⊎ (W.has_failed writer.new ≡ true) }
-    ensures sure { R.is_sure reader.old ≡ true → R.is_sure reader.new ≡ true }
+    ensures sure { T.is_sure reader.old ≡ true → T.is_sure reader.new ≡ true }
     ensures fits { (input : List ℕ)
-        → prepend_known pending.old (R.remaining reader.old) ≡ Some input
-        → R.is_sure reader.old ≡ true → W.has_failed writer.old ≡ false
+        → prepend_known pending.old (T.remaining reader.old) ≡ Some input
+        → T.is_sure reader.old ≡ true → W.has_failed writer.old ≡ false
         → result ≡ Err ServeEnd.Device
         → (whole : List ℕ) × (rest : List ℕ) × (closes : Bool)
         × Replies path.now intake A.answers input answer.old whole rest closes answer.new
         × (W.room writer.old < length whole) }
     ensures certain { (input : List ℕ)
-        → prepend_known pending.old (R.remaining reader.old) ≡ Some input
+        → prepend_known pending.old (T.remaining reader.old) ≡ Some input
         → result ≡ Err ServeEnd.OutOfMemory → AsksForBody path.now intake input }
 {
-    let front = match read_front(reader, pending, path, intake) {
+    let front = match read_front::<R, T>(reader, pending, path, intake) {
         Ok(front) => front,
         Err(_) => return Err(ServeEnd::Device),
     };
@@ -146,7 +159,7 @@ fn serve_one<R: Source, W: Sink, A: Answer>(
                     closes,
                     coding,
                 };
-                serve_body(alloc, reader, writer, answer, pending, asked)
+                serve_body::<R, T, W, A>(alloc, reader, writer, answer, pending, asked)
             }
         },
     }
@@ -154,7 +167,7 @@ fn serve_one<R: Source, W: Sink, A: Answer>(
 
 /// Replies to the requests of a connection in order, up to the end of the input or to the first
 /// reply that closes it.
-fn serve_all<R: Source, W: Sink, A: Answer>(
+fn serve_all<R, T: ReadFrom<R>, W: Sink, A: Answer>(
     alloc: Global,
     reader: &mut R,
     writer: &mut W,
@@ -162,18 +175,22 @@ fn serve_all<R: Source, W: Sink, A: Answer>(
     path: &[u8],
     intake: Intake,
 ) -> ServeEnd
-    ensures served { (input before : List ℕ) → R.remaining reader.old ≡ Some input
+    ensures served { (input before : List ℕ) → T.remaining reader.old ≡ Some input
         → W.contents writer.old ≡ Some before
         → HasWritten path.now intake A.answers input answer.old before
         (W.contents writer.new) answer.new result }
-    ensures device { result ≡ ServeEnd.Device → (R.has_failed reader.new ≡ true)
+    ensures recorded { (before : List ℕ) → W.contents writer.old ≡ Some before
+        → ReadsMore (T.past reader.old) (T.past reader.new)
+        (λ input. HasWritten path.now intake A.answers input answer.old before
+        (W.contents writer.new) answer.new result) }
+    ensures device { result ≡ ServeEnd.Device → (T.has_failed reader.new ≡ true)
         ⊎ (W.has_failed writer.new ≡ true) }
-    ensures fits { (input before : List ℕ) → R.remaining reader.old ≡ Some input
+    ensures fits { (input before : List ℕ) → T.remaining reader.old ≡ Some input
         → W.contents writer.old ≡ Some before
-        → R.is_sure reader.old ≡ true → W.has_failed writer.old ≡ false
+        → T.is_sure reader.old ≡ true → W.has_failed writer.old ≡ false
         → result ≡ ServeEnd.Device
         → IsTooSmall path.now intake A.answers input answer.old (W.room writer.old) }
-    ensures certain { (input before : List ℕ) → R.remaining reader.old ≡ Some input
+    ensures certain { (input before : List ℕ) → T.remaining reader.old ≡ Some input
         → W.contents writer.old ≡ Some before
         → length input < 2 ^ 64 - 1 → result ≡ ServeEnd.OutOfMemory
         → IsStoppedAtBody path.now intake A.answers input answer.old before
@@ -181,7 +198,7 @@ fn serve_all<R: Source, W: Sink, A: Answer>(
 {
     let mut pending = Pending::new();
     for _ in 0..u64::MAX {
-        match serve_one(alloc, reader, writer, answer, &mut pending, path, intake) {
+        match serve_one::<R, T, W, A>(alloc, reader, writer, answer, &mut pending, path, intake) {
             Ok(()) => {}
             Err(how) => return how,
         }
@@ -247,5 +264,34 @@ pub fn serve<R: Source, W: Sink, A: Answer>(
         → IsTurnedAway status answer.old before (W.contents writer.new) answer.new result }
 {
     let path = limits.path.as_str().as_bytes();
-    serve_all(alloc, reader, writer, answer, path, intake_of(limits))
+    serve_all::<R, FromSource, W, A>(alloc, reader, writer, answer, path, intake_of(limits))
+}
+
+/// Does what `serve` does, and also says so of what was read, if it was not known before.
+pub fn serve_recorded<R: Source, W: Sink, A: Answer>(
+    alloc: Global,
+    reader: &mut Recording<R>,
+    writer: &mut W,
+    answer: &mut A,
+    limits: &Limits,
+) -> ServeEnd
+    // Of the bytes that were read.
+    ensures recorded { (before : List ℕ) → W.contents writer.old ≡ Some before
+        → (input : List ℕ) × (reader.new.past ≡ reader.old.past ++ input)
+        × HasWritten limits.now.path (intake_of limits.now) A.answers input answer.old before
+        (W.contents writer.new) answer.new result }
+
+    // Device: the reader or the writer has failed.
+    ensures device { result ≡ ServeEnd.Device → (R.has_failed reader.new.device ≡ true)
+        ⊎ (W.has_failed writer.new ≡ true) }
+{
+    let path = limits.path.as_str().as_bytes();
+    serve_all::<Recording<R>, FromRecording, W, A>(
+        alloc,
+        reader,
+        writer,
+        answer,
+        path,
+        intake_of(limits),
+    )
 }

@@ -10,8 +10,8 @@ use Rattle.rw_sender.specs.declared.shipper.FeedFault.TheVariants.{OutOfMemory, 
 use Rattle.rw_in_memory.specs.inner.Shipped.{HasFed}
 
 module _ {T : Type 0} (old was now : Shipping T) (log yielded rest : List Piece) (piece : Piece) (left : log ≡ yielded ++ (piece ∷ rest))
-    (pieces : was.log.pieces ≡ old.log.pieces ++ map piece_of yielded) (choice : was.log.choice ≡ old.log.choice) (fleet : was.fleet ≡ record old.fleet { current = was.fleet.current }) (len : length was.fleet.current ≡ length old.fleet.current)
-    (then_choice : now.log.choice ≡ was.log.choice) (then_fleet : now.fleet ≡ record was.fleet { current = now.fleet.current }) (then_len : length now.fleet.current ≡ length was.fleet.current) where
+    (pieces : was.log.pieces ≡ old.log.pieces ++ map piece_of yielded) (choice : was.log.choice ≡ old.log.choice) (labels : was.log.labels ≡ old.log.labels) (fleet : was.fleet ≡ record old.fleet { current = was.fleet.current }) (len : length was.fleet.current ≡ length old.fleet.current)
+    (then_choice : now.log.choice ≡ was.log.choice) (then_labels : now.log.labels ≡ was.log.labels) (then_fleet : now.fleet ≡ record was.fleet { current = now.fleet.current }) (then_len : length now.fleet.current ≡ length was.fleet.current) where
   pub grown : now.log.pieces ≡ was.log.pieces ++ piece_of piece ∷ [] → now.log.pieces ≡ old.log.pieces ++ map piece_of (yielded ++ piece ∷ [])
   grown e =
       e
@@ -35,6 +35,7 @@ module _ {T : Type 0} (old was now : Shipping T) (log yielded rest : List Piece)
     whole = tt;
     feeds = feeds;
     choice = then_choice ∙ choice;
+    labels = then_labels ∙ labels;
     fleet = fleet_on;
     len = then_len ∙ len;
   }
@@ -46,6 +47,7 @@ module _ {T : Type 0} (old was now : Shipping T) (log yielded rest : List Piece)
     whole = tt;
     feeds = feeds;
     choice = then_choice ∙ choice;
+    labels = then_labels ∙ labels;
     fleet = fleet_on;
     len = then_len ∙ len;
   }

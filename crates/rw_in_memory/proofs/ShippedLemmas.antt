@@ -13,7 +13,9 @@ use Rattle.rw_shard_core.specs.declared.config.ConfigFields.{ConfigFields}
 use Rattle.rw_shard_core.specs.declared.outcome.Outcome.TheVariants.{Complete, Damaged}
 use Rattle.rw_head.specs.Head.{State}
 use Rattle.rw_head.specs.declared.limits.Limits.{Limits}
-use Rattle.rw_sender.specs.Feeders.{Sorting, HasRead}
+use Rattle.rw_sender.specs.Feeders.{Sorting}
+use Rattle.rw_wal_tail.specs.Taking.{HasRead}
+use Rattle.rw_simulation.proofs.shared.PlainLogs.{read-plain, begins-plain}
 use Rattle.rw_fleet.specs.ShardHistories.{AreFresh}
 use Rattle.rw_fleet.specs.Work.{lane_of, finished_of}
 use Rattle.rw_fleet.specs.Fleets.{Shards, EndBy}
@@ -79,7 +81,7 @@ shipped_new opening limits config log v path limit new same bound shipped =
 
 -- ---- from the start to the end
 module _ (opening : State) (path : List ℕ) (limit : ℕ) (config : ConfigFields) (log : List Piece) (was now : Shipping SeatLine) (answer : Result (Unit {0}) FeedFault) (v : Shipped)
-    (log_is : was.log ≡ record { choice = choice_of config; pieces = []; placed = []; hand = [] }) (config_is : was.fleet.config ≡ record config { rules = [] })
+    (log_is : was.log ≡ record { choice = choice_of config; labels = []; pieces = []; placed = []; hand = [] }) (config_is : was.fleet.config ≡ record config { rules = [] })
     (opened : (was.fleet.epoch ≡ 0) × (was.fleet.ended ≡ []) × (length was.fleet.current ≡ config.shards) × AreFresh 0 was.fleet.current)
     (fed : HasFed was now log answer) (g : IsGathered opening path limit now v) (fed_is : v.fed ≡ answer) (empty_is : opening.store ≡ empty) (path_is : path ≡ config.target.path) (sound : IsSound config) where
   setup : Setup
@@ -97,6 +99,9 @@ module _ (opening : State) (path : List ℕ) (limit : ℕ) (config : ConfigField
   choice_is : now.log.choice ≡ choice_of config
   choice_is = fed.choice ∙ ap (λ (l : Sorting). l.choice) log_is
 
+  labels_are : now.log.labels ≡ []
+  labels_are = fed.labels ∙ ap (λ (l : Sorting). l.labels) log_is
+
   pieces_are : now.log.pieces ≡ map piece_of (take fed.fed log)
   pieces_are = fed.pieces ∙ ap (λ (l : Sorting). l.pieces ++ map piece_of (take fed.fed log)) log_is
 
@@ -112,6 +117,7 @@ module _ (opening : State) (path : List ℕ) (limit : ℕ) (config : ConfigField
       batch = sym (ap (λ (c : ConfigFields). c.batch) config_now);
     },
     sym choice_is,
+    labels_are,
   )
 
   work : CanWork setup
@@ -148,7 +154,7 @@ module _ (opening : State) (path : List ℕ) (limit : ℕ) (config : ConfigField
 
   -- nothing is left if the outcome says complete
   whole : (end : ℕ) → g.r.outcome ≡ Complete end → (length log ≤ fed.fed) × (end ≡ length now.log.placed) × (now.log.placed ≡ entries now.log.pieces)
-  whole end is = (by_answer answer fed.whole fed.feeds, ends.0, ends.1.all)
+  whole end is = (by_answer answer fed.whole fed.feeds, ends.0, (read-plain now.log None labels_are ends.1).all)
     where
       ends : HasEndedAs now g.stopped.joined (Complete end)
       ends = subst (HasEndedAs now g.stopped.joined) is g.stopped.ends
@@ -163,7 +169,7 @@ module _ (opening : State) (path : List ℕ) (limit : ℕ) (config : ConfigField
       by_answer (Err feed_fault.Gone) ok feeds = fails queue_fault.Gone feeds
 
   fault_read : (f : TailFault) → g.r.outcome ≡ Damaged f → HasRead now.log.pieces now.log.placed (Some f)
-  fault_read f is = (subst (HasEndedAs now g.stopped.joined) is g.stopped.ends).0
+  fault_read f is = read-plain now.log (Some f) labels_are (subst (HasEndedAs now g.stopped.joined) is g.stopped.ends).0
 
   epoch : IsOneEpoch config now
   epoch = record {
@@ -181,7 +187,7 @@ module _ (opening : State) (path : List ℕ) (limit : ℕ) (config : ConfigField
     epoch = epoch;
     gathered = g;
     pieces_are = pieces_are;
-    read = g.stopped.read;
+    read = begins-plain now.log labels_are g.stopped.read;
     feeds = subst (Feeds now) (sym fed_is) fed.feeds;
     whole = subst (λ (a : Result (Unit {0}) FeedFault). OnOk a (length log ≤ fed.fed)) (sym fed_is) fed.whole;
     filter_count = g.filter_count ∙ g.stopped.filter_count;

@@ -12,7 +12,7 @@ use Rattle.rw_shard_core.specs.declared.outcome.Outcome.TheVariants.{Complete, D
 use Rattle.rw_head.specs.Head.{State}
 use Rattle.rw_head.specs.declared.limits.Limits.{Limits}
 use Rattle.rw_recv_head.specs.Seats.{HasGathered}
-use Rattle.rw_sender.specs.Feeders.{HasRead}
+use Rattle.rw_wal_tail.specs.Taking.{HasRead}
 use Rattle.rw_sender.specs.Logs.{filtered}
 use Rattle.rw_fleet.specs.declared.joined.Finished.{Finished}
 use Rattle.rw_sender.specs.Reports.{IsAbandoned, ListsCut, parts_of, workers_of}

@@ -4,7 +4,7 @@ ghost use Rattle.std.specs.Prelude.{◌≡◌, ◌+◌, [], ◌∷◌, None, map
 ghost use Rattle.std.specs.Arc.{arc_value};
 ghost use Rattle.std.specs.FinMap.{empty};
 ghost use Rattle.rw_fleet.specs.Work.{finished_of};
-ghost use Rattle.rw_sender.specs.Feeders.{HasRead};
+ghost use Rattle.rw_sender.specs.Feeders.{HasReadAll};
 ghost use Rattle.rw_sender.specs.Reports.{part_of};
 ghost use Rattle.rw_in_memory.specs.Lines.{IsSeatLine};
 ghost use Rattle.rw_in_memory.specs.Held.{seat_of};
@@ -47,7 +47,7 @@ fn feed_all<R: Wait, C: Connect + Drop>(
     log: Vec<Piece>,
 ) -> Result<(), FeedFault>
     requires fault { shipper.old.fault ≡ None }
-    requires read { HasRead shipper.old.log.pieces shipper.old.log.placed None }
+    requires read { HasReadAll shipper.old.log None }
     ensures { HasFed shipper.old shipper.new log.items result }
 {
     for piece in log {

@@ -1,12 +1,13 @@
 -- The plan of a log, entry by entry.
 use Rattle.std.proofs.Common.{◌≡◌, ℕ, ℤ, ◌+◌, List, [], ◌∷◌, ◌++◌, Bool, true, false, cond, count_by, eq-eqb, refl, sym, ◌∙◌, ap, subst, Some, None, Result, add-zero}
-use Rattle.std.proofs.lemmas.List.{append-nil}
+use Rattle.std.proofs.lemmas.List.{append-nil, map-append}
 use Rattle.std.proofs.lemmas.List.Sums.{sum_by_push}
 use Rattle.std.specs.Arc.{arc_value}
 use Rattle.std.specs.Result.{OnOk}
 use Rattle.std.specs.FinMap.{empty}
 use Rattle.std.proofs.lemmas.Result.{on_ok_weaker}
 use Rattle.rw_types.specs.Labels.{Labels, label_fault}
+use Rattle.rw_external_labels.specs.External.{labelled_entry, labelled}
 use Rattle.rw_types.specs.declared.entry.Entry.{Entry}
 use Rattle.rw_types.specs.declared.entry.Entry.TheVariants.{Def, Sample}
 use Rattle.rw_types.specs.declared.label_fault.LabelFault.{LabelFault}
@@ -98,6 +99,12 @@ line_bad choice es reference l f e = ap (definition_text (series_of choice (es +
 -- a planner keeps its part whatever stands for its rules
 same_rules : (choice now : Choice) (es : List Entry) (cached : Taken) (text : List ℕ) (counts : SampleCounts) → now ≡ choice → IsPlanned choice es cached text counts → IsPlanned now es cached text counts
 same_rules choice now es cached text counts e h = subst (λ rs. IsPlanned rs es cached text counts) (sym e) h
+
+-- one more entry with external labels
+pub labelled-push : (external : Labels) (es : List Entry) (e labelled_one : Entry) → labelled_one ≡ labelled_entry external e
+    → labelled external (es ++ e ∷ []) ≡ labelled external es ++ labelled_one ∷ []
+labelled-push external es e labelled_one is =
+    map-append (labelled_entry external) es (e ∷ []) ∙ ap (λ x. labelled external es ++ x ∷ []) (sym is)
 
 -- before the first entry
 pub planned_none : (choice : Choice) (es : List Entry) (cached : Taken) (text : List ℕ) → es ≡ [] → cached ≡ record { choice = choice; definitions = []; noted = empty } → text ≡ []

@@ -1,5 +1,6 @@
 -- The series plan of a log: what becomes of each definition, and of how many samples.
 use Rattle.std.specs.Prelude.{ℕ, List, [], ◌∷◌, ◌++◌, Bool, true, false, count_by, codes, decimal, Some}
+use Rattle.rw_external_labels.specs.External.{labelled}
 use Rattle.rw_types.specs.Labels.{Labels, label_fault_number}
 use Rattle.rw_types.specs.declared.entry.Entry.{Entry}
 use Rattle.rw_types.specs.declared.entry.Entry.TheVariants.{Def, Sample}
@@ -88,6 +89,7 @@ counts_text c =
 unfoldable pub plan_text : Choice → List Entry → List ℕ
 plan_text choice es = plan_lines choice es ++ counts_text (counts_of (standings choice es))
 
--- the plan of a segment, which may have Snappy blocks or has none
-abbrev pub plan_of : Choice → Bool → List ℕ → List ℕ
-plan_of choice compresses segment = plan_text choice (entries (log_in compresses (segment ∷ [])))
+-- the plan of a segment whose series have external labels, too; it may have Snappy blocks or has
+-- none
+abbrev pub plan_of : Choice → Labels → Bool → List ℕ → List ℕ
+plan_of choice external compresses segment = plan_text choice (labelled external (entries (log_in compresses (segment ∷ []))))

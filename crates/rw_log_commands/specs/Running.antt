@@ -8,7 +8,6 @@ use Rattle.rw_text.specs.HexText.{hex_text, read_text}
 use Rattle.rw_log_read.specs.Logs.{log_in}
 use Rattle.rw_log_commands.specs.Body.{body_of_segment}
 use Rattle.rw_log_commands.specs.Taking.{ReadsToFault}
-use Rattle.rw_text.specs.declared.tool_fault.ToolFault.TheVariants.{OutOfMemory}
 
 -- the bytes that an input stands for, which may be hexadecimal text
 abbrev pub IsInputFor : Bool → List ℕ → List ℕ → Type 0

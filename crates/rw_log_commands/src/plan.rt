@@ -1,6 +1,6 @@
 //! The command `plan`, over any log and writer.
 
-ghost use Rattle.std.specs.Prelude.{◌≡◌, ◌≢◌, ◌⊎◌, ℕ, true, false, Ok, Err, None, Some, OnOk, IfErr};
+ghost use Rattle.std.specs.Prelude.{◌≡◌, ◌≢◌, ◌⊎◌, ℕ, [], true, false, Ok, Err, None, Some, OnOk, IfErr};
 ghost use Rattle.rw_wal_format.specs.declared.tail_fault.TailFault.{TailFault};
 ghost use Rattle.rw_wal_format.specs.declared.tail_fault.TailFault.TheVariants as tail;
 ghost use Rattle.rw_wal_tail.specs.declared.place.Damage.{Damage};
@@ -15,6 +15,7 @@ ghost use Rattle.rw_text.specs.declared.tool_fault.ToolFault.TheVariants.{Log, L
 use crate::log_read::read_log;
 use crate::planner::Planner;
 use crate::run::read_input;
+use rw_external_labels::ExternalLabels;
 use rw_follow::Segments;
 use rw_relabel::Choice;
 use rw_settings::Settings;
@@ -24,34 +25,36 @@ use rw_wal_tail::{Damage, Taker};
 use std::alloc::{AllocError, Global};
 
 impl Taker for Planner {
+    ghost use Rattle.rw_types.specs.Labels.{Labels};
     ghost use Rattle.rw_relabel.specs.declared.choice.Choice.{Choice};
 
     ghost taken = { λ p. p.entries };
 
-    ghost Fixed = { Choice };
+    ghost Fixed = { Choice × Labels };
 
-    ghost fixed = { λ p. p.choice };
+    ghost fixed = { λ p. (p.choice, p.external) };
 
     fn take(&mut self, entry: Entry) -> Result<(), AllocError> {
         Planner::take(self, entry)
     }
 }
 
-/// Reads a log to its end, and writes what the rules make of its entries: for each definition in
-/// log order `REF kept NUMBER LABELS`, `REF filtered LABELS` or `REF bad FAULT`, and then `samples
-/// kept A filtered B bad C noseries D`, each line ended by LF. Nothing is written before the whole
-/// plan is made. If the log has a fault, the fault is returned with its place, and nothing is
-/// written. With `may_compress` records may be Snappy blocks. A log that lacks a segment cannot be
-/// read, as one whose device fails.
+/// Reads a log to its end, and writes what the rules make of its entries, to which the external
+/// labels are added: for each definition in log order `REF kept NUMBER LABELS`, `REF filtered
+/// LABELS` or `REF bad FAULT`, and then `samples kept A filtered B bad C noseries D`, each line
+/// ended by LF. Nothing is written before the whole plan is made. If the log has a fault, the fault
+/// is returned with its place, and nothing is written. With `may_compress` records may be Snappy
+/// blocks. A log that lacks a segment cannot be read, as one whose device fails.
 pub fn plan_log<L: Segments, W: Sink>(
     alloc: Global,
     log: &mut L,
     writer: &mut W,
     choice: Choice,
+    external: ExternalLabels,
     may_compress: bool,
 ) -> Result<Option<Damage>, ToolFault>
     ensures ok { result ≡ Ok None → (start : L.Start) → L.gave log.old start no_meal
-        → PlansLog choice may_compress (L.gave log.new start) (L.had_all log.new start)
+        → PlansLog choice external may_compress (L.gave log.new start) (L.had_all log.new start)
         (W.contents writer.old) (W.contents writer.new) }
     ensures log_sound { result ≡ Ok None → L.is_sound log.new }
     ensures writer_sound { OnOk result
@@ -73,10 +76,15 @@ pub fn plan_log<L: Segments, W: Sink>(
         × (writer.new ≡ writer.old))
         ⊎ ((W.has_failed writer.new ≡ true)
         × ((start : L.Start) → L.gave log.old start no_meal
-        → PlansLogPart choice may_compress (L.gave log.new start) (L.had_all log.new start)
+        → PlansLogPart choice external may_compress (L.gave log.new start) (L.had_all log.new start)
         (W.contents writer.old) (W.contents writer.new))) }
 {
-    let (read, planner) = read_log(alloc, log, may_compress, Planner::new(alloc, choice))?;
+    let (read, planner) = read_log(
+        alloc,
+        log,
+        may_compress,
+        Planner::new(alloc, choice, external),
+    )?;
     if read.damage.is_some() {
         return Ok(read.damage);
     }
@@ -91,10 +99,11 @@ fn plan_segment<R: Source, W: Sink>(
     reader: &mut R,
     writer: &mut W,
     choice: Choice,
+    external: ExternalLabels,
     may_compress: bool,
 ) -> Result<(), ToolFault>
     ensures ok { OnOk result
-        (WritesPlan choice false may_compress (R.remaining reader.old) (R.remaining reader.new)
+        (WritesPlan choice external false may_compress (R.remaining reader.old) (R.remaining reader.new)
         (W.contents writer.old) (W.contents writer.new)) }
     ensures reader_sound { OnOk result (R.has_failed reader.new ≡ false) }
     ensures writer_sound { OnOk result
@@ -109,10 +118,10 @@ fn plan_segment<R: Source, W: Sink>(
         → ((R.is_sure reader.old ≡ true → ⊥) × (R.has_failed reader.new ≡ true)
         × (writer.new ≡ writer.old))
         ⊎ ((W.has_failed writer.new ≡ true)
-        × WritesPlanPart choice false may_compress (R.remaining reader.old) (R.remaining reader.new)
+        × WritesPlanPart choice external false may_compress (R.remaining reader.old) (R.remaining reader.new)
         (W.contents writer.old) (W.contents writer.new)) }
 {
-    match plan_log(alloc, reader, writer, choice, may_compress)? {
+    match plan_log(alloc, reader, writer, choice, external, may_compress)? {
         None => Ok(()),
         Some(damage) => Err(ToolFault::from(damage.fault)),
     }
@@ -124,10 +133,11 @@ fn plan_digits<R: Source, W: Sink>(
     reader: &mut R,
     writer: &mut W,
     choice: Choice,
+    external: ExternalLabels,
     may_compress: bool,
 ) -> Result<(), ToolFault>
     ensures ok { OnOk result
-        (WritesPlan choice true may_compress (R.remaining reader.old) (R.remaining reader.new)
+        (WritesPlan choice external true may_compress (R.remaining reader.old) (R.remaining reader.new)
         (W.contents writer.old) (W.contents writer.new)) }
     ensures reader_sound { OnOk result (R.has_failed reader.new ≡ false) }
     ensures writer_sound { OnOk result
@@ -141,13 +151,20 @@ fn plan_digits<R: Source, W: Sink>(
     ensures device { result ≡ Err Device
         → ((R.has_failed reader.new ≡ true) × (writer.new ≡ writer.old))
         ⊎ ((W.has_failed writer.new ≡ true)
-        × WritesPlanPart choice true may_compress (R.remaining reader.old) (R.remaining reader.new)
+        × WritesPlanPart choice external true may_compress (R.remaining reader.old) (R.remaining reader.new)
         (W.contents writer.old) (W.contents writer.new)) }
 {
     let text = read_input(alloc, reader)?;
     let segment = rw_text::read_hex(alloc, &text)?;
     drop(text);
-    plan_segment(alloc, &mut segment.as_slice(), writer, choice, may_compress)
+    plan_segment(
+        alloc,
+        &mut segment.as_slice(),
+        writer,
+        choice,
+        external,
+        may_compress,
+    )
 }
 
 /// Returns which series the settings send.
@@ -169,7 +186,7 @@ pub fn run_plan<R: Source, W: Sink>(
     hex: bool,
 ) -> Result<(), ToolFault>
     ensures ok { OnOk result
-        (WritesPlan (choice_of settings.config) hex false (R.remaining reader.old)
+        (WritesPlan (choice_of settings.config) [] hex false (R.remaining reader.old)
         (R.remaining reader.new) (W.contents writer.old) (W.contents writer.new)) }
     ensures reader_sound { OnOk result (R.has_failed reader.new ≡ false) }
     ensures writer_sound { OnOk result
@@ -188,24 +205,34 @@ pub fn run_plan<R: Source, W: Sink>(
     ensures device { result ≡ Err Device
         → ((R.has_failed reader.new ≡ true) × (writer.new ≡ writer.old))
         ⊎ ((W.has_failed writer.new ≡ true)
-        × WritesPlanPart (choice_of settings.config) hex false (R.remaining reader.old)
+        × WritesPlanPart (choice_of settings.config) [] hex false (R.remaining reader.old)
         (R.remaining reader.new) (W.contents writer.old) (W.contents writer.new)) }
 {
-    run_plan_with(alloc, reader, writer, settings, hex, false)
+    run_plan_with(
+        alloc,
+        reader,
+        writer,
+        settings,
+        ExternalLabels::none(),
+        hex,
+        false,
+    )
 }
 
-/// Writes a plan as `run_plan` does. With `may_compress` records of the segment may be Snappy
-/// blocks, whatever the settings say.
+/// Writes a plan as `run_plan` does. The external labels are added to each series before the
+/// rules see it. With `may_compress` records of the segment may be Snappy blocks, whatever the
+/// settings say.
 pub fn run_plan_with<R: Source, W: Sink>(
     alloc: Global,
     reader: &mut R,
     writer: &mut W,
     settings: Settings,
+    external: ExternalLabels,
     hex: bool,
     may_compress: bool,
 ) -> Result<(), ToolFault>
     ensures ok { OnOk result
-        (WritesPlan (choice_of settings.config) hex may_compress (R.remaining reader.old)
+        (WritesPlan (choice_of settings.config) external hex may_compress (R.remaining reader.old)
         (R.remaining reader.new) (W.contents writer.old) (W.contents writer.new)) }
     ensures reader_sound { OnOk result (R.has_failed reader.new ≡ false) }
     ensures writer_sound { OnOk result
@@ -224,12 +251,12 @@ pub fn run_plan_with<R: Source, W: Sink>(
     ensures device { result ≡ Err Device
         → ((R.has_failed reader.new ≡ true) × (writer.new ≡ writer.old))
         ⊎ ((W.has_failed writer.new ≡ true)
-        × WritesPlanPart (choice_of settings.config) hex may_compress (R.remaining reader.old)
+        × WritesPlanPart (choice_of settings.config) external hex may_compress (R.remaining reader.old)
         (R.remaining reader.new) (W.contents writer.old) (W.contents writer.new)) }
 {
     let choice = choice_in(settings);
     if !hex {
-        return plan_segment(alloc, reader, writer, choice, may_compress);
+        return plan_segment(alloc, reader, writer, choice, external, may_compress);
     }
-    plan_digits(alloc, reader, writer, choice, may_compress)
+    plan_digits(alloc, reader, writer, choice, external, may_compress)
 }

@@ -1,6 +1,7 @@
 //! The plan of a log, entry by entry.
 
 ghost use Rattle.std.specs.Prelude.{◌≡◌, [], ◌∷◌, ◌++◌, List, false, true, IfOk, OnOk, OnErr};
+ghost use Rattle.rw_external_labels.specs.External.{labelled};
 ghost use Rattle.rw_types.specs.declared.entry.Entry.{Entry};
 ghost use Rattle.rw_series_cache.specs.Known.{known, definitions_of};
 ghost use Rattle.rw_log_commands.specs.Plan.{plan_line, plan_text};
@@ -8,6 +9,7 @@ ghost use Rattle.rw_log_commands.specs.inner.Planned.{with_sample};
 
 use crate::counts::SampleCounts;
 use crate::lines::{push_bad, push_found};
+use rw_external_labels::ExternalLabels;
 use rw_history::History;
 use rw_relabel::Choice;
 use rw_series_cache::Cache;
@@ -15,11 +17,12 @@ use rw_types::{Entry, LabelFault, LabelSet, RawLabels};
 use std::alloc::{AllocError, Global};
 use std::marker::Model;
 
-/// The plan of the entries so far. Contracts see the rules, the entries, and whether a call has
-/// failed: then each later call fails too.
+/// The plan of the entries so far, with external labels. Contracts see the rules, these labels, the
+/// entries without them, and whether a call has failed: then each later call fails too.
 #[derive(Drop)]
 pub struct Planner {
     alloc: Global,
+    external: ExternalLabels,
     taken: History<Entry>,
     cache: Cache,
     lines: Vec<u8>,
@@ -29,6 +32,7 @@ pub struct Planner {
 
 impl Model for Planner {
     ghost use Rattle.std.specs.Prelude.{◌≡◌, false};
+    ghost use Rattle.rw_external_labels.specs.External.{labelled};
     ghost use Rattle.rw_log_commands.specs.Planned.{Planned};
     ghost use Rattle.rw_log_commands.specs.inner.Planned.{IsPlanned};
 
@@ -36,12 +40,13 @@ impl Model for Planner {
 
     ghost view = { λ p. record {
       choice = p.cache.choice;
+      external = p.external;
       entries = p.taken;
       has_failed = p.has_failed;
     } };
 
     ghost invariant = { λ p. p.has_failed ≡ false
-        → IsPlanned p.cache.choice p.taken p.cache p.lines.items p.counts };
+        → IsPlanned p.cache.choice (labelled p.external p.taken) p.cache p.lines.items p.counts };
 }
 
 /// Takes a definition, and adds its line.
@@ -86,11 +91,13 @@ fn count(cache: &Cache, counts: &mut SampleCounts, reference: u64) -> Result<(),
 
 impl Planner {
     /// Returns a planner before the first entry.
-    pub fn new(alloc: Global, choice: Choice) -> Planner
-        ensures { result ≡ record { choice = choice; entries = []; has_failed = false } }
+    pub fn new(alloc: Global, choice: Choice, external: ExternalLabels) -> Planner
+        ensures { result
+            ≡ record { choice = choice; external = external; entries = []; has_failed = false } }
     {
         Planner {
             alloc,
+            external,
             taken: History::new(),
             cache: Cache::new(alloc, choice),
             lines: Vec::new(alloc),
@@ -118,7 +125,8 @@ impl Planner {
         self.has_failed = true;
         let mut taken = self.taken.again();
         taken.push(&entry);
-        match entry {
+        let labelled = self.external.label(self.alloc, entry)?;
+        match labelled {
             Entry::Def { reference, labels } => define(
                 self.alloc,
                 &mut self.cache,
@@ -135,13 +143,16 @@ impl Planner {
         Ok(())
     }
 
-    /// Returns the plan of the entries. A planner of which a call has failed has none.
+    /// Returns the plan of the entries with the external labels. A planner of which a call has
+    /// failed has none.
     pub fn into_text(self) -> Result<Vec<u8>, AllocError>
-        ensures text { IfOk result (λ v. v.items ≡ plan_text self.choice self.entries) }
+        ensures text { IfOk result
+            (λ v. v.items ≡ plan_text self.choice (labelled self.external self.entries)) }
         ensures sound { OnOk result (self.has_failed ≡ false) }
     {
         let Planner {
             alloc: _,
+            external: _,
             taken: _,
             cache: _,
             mut lines,

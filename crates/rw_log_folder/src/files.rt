@@ -47,6 +47,18 @@ impl<R> SegmentFile<R> {
         self.name.as_str()
     }
 
+    /// Returns the number in its name, or the checkpoint's number if it is a file of a checkpoint.
+    pub fn number(&self) -> u64
+        ensures { result ≡ self.now.number }
+    {
+        self.number
+    }
+
+    /// Returns whether it is a file of a checkpoint.
+    pub fn is_of_checkpoint(&self) -> bool {
+        number_of(self.name.as_str()).is_none()
+    }
+
     /// Returns the numbers between those of two segments that are read one after the other.
     pub fn gap_before(&self, next: &SegmentFile<R>) -> Option<Gap>
         ensures { MatchOption result (next.now.number ≤ suc self.now.number)

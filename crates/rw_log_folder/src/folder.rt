@@ -1,7 +1,9 @@
 //! The segments of a folder to which a writer may still be writing.
 
+ghost use Rattle.std.specs.Prelude.{◌≡◌};
+
 use crate::checkpoint::first_files;
-use crate::files::{SegmentName, names_in};
+use crate::files::{SegmentName, names_in, number_of};
 use crate::folder_fault::FolderFault;
 use rw_follow::{Ahead, Segments};
 use rw_metrics::SendCounters;
@@ -35,6 +37,10 @@ pub struct Folder<R> {
     begun: u64,
     /// The one after it, once it was seen.
     ahead: Option<SegmentName>,
+    /// The number of the current segment, unless it is one of a checkpoint.
+    number: Option<u64>,
+    /// The number of the segment with which it begins, if no earlier one is read.
+    first: u64,
     /// Whether a checkpoint is still to be looked for.
     from_checkpoint: bool,
     /// Those that are open and come after the current one, the last one first.
@@ -53,11 +59,16 @@ fn path_of(alloc: Global, dir: &str, name: &str) -> Result<PathBuf, AllocError> 
     Path::new(dir).join(alloc, name)
 }
 
-/// Returns the first of the names in order that comes after this one.
-fn name_after(names: Vec<SegmentName>, current: &Option<Current>) -> Option<SegmentName> {
+/// Returns the first of the names in order that comes after this one, or without one the first of
+/// those from this number on.
+fn name_after(
+    names: Vec<SegmentName>,
+    current: &Option<Current>,
+    first: u64,
+) -> Option<SegmentName> {
     for next in names {
         let is_after = match current {
-            None => true,
+            None => next.number >= first,
             Some(current) => {
                 let name = &current.segment;
                 (next.number, next.name.len()) > (name.number, name.name.len())
@@ -82,6 +93,8 @@ impl<R: Files<File = File> + AllocGlobal + Copy> Folder<R> {
             previous: None,
             begun: 0,
             ahead: None,
+            number: None,
+            first: 0,
             from_checkpoint: false,
             opened,
             gap: None,
@@ -104,6 +117,8 @@ impl<R: Files<File = File> + AllocGlobal + Copy> Folder<R> {
             previous: None,
             begun: 0,
             ahead: None,
+            number: None,
+            first: 0,
             from_checkpoint: true,
             opened,
             gap: None,
@@ -113,8 +128,30 @@ impl<R: Files<File = File> + AllocGlobal + Copy> Folder<R> {
         }
     }
 
+    /// Returns the segments of the folder of this name, from the one of this number on. If it is
+    /// not there when it is first read, although a later one is, it is reported as missing.
+    pub fn from_segment(
+        rt: R,
+        dir: String,
+        first: u64,
+        counters: Arc<SendCounters, Global>,
+    ) -> Folder<R> {
+        let mut folder = Folder::new(rt, dir, counters);
+        folder.first = first;
+        folder
+    }
+
+    /// Returns the number of the current segment, or `None` if it is one of a checkpoint or none is
+    /// read.
+    pub fn number(&self) -> Option<u64>
+        ensures { result ≡ self.now.number }
+    {
+        self.number
+    }
+
     /// Makes a segment the current one.
     fn go_to(&mut self, next: Current) {
+        self.number = number_of(next.segment.name.as_str());
         self.counters.begin_segment(next.segment.number);
         self.begun = self.begun.saturating_add(1);
         self.previous = match self.current.take() {
@@ -166,7 +203,11 @@ impl<R: Files<File = File> + AllocGlobal + Copy> Folder<R> {
     fn begin(&mut self) -> Result<(), ReadFault> {
         if !self.from_checkpoint {
             return match self.next_name()? {
-                Some(first) => self.open(first),
+                Some(next) if self.first > 0 && next.number > self.first => {
+                    self.gap = Some(self.first);
+                    Ok(())
+                }
+                Some(next) => self.open(next),
                 None => Ok(()),
             };
         }
@@ -193,7 +234,7 @@ impl<R: Files<File = File> + AllocGlobal + Copy> Folder<R> {
     /// Returns the segment after the current one that is there now.
     fn next_name(&self) -> Result<Option<SegmentName>, ReadFault> {
         match names_in(&self.rt, self.dir.as_str()) {
-            Ok(names) => Ok(name_after(names, &self.current)),
+            Ok(names) => Ok(name_after(names, &self.current, self.first)),
             Err(FolderFault::OutOfMemory) => Err(ReadFault::OutOfMemory),
             Err(_) => Err(ReadFault::Failed),
         }

@@ -1,1 +1,2 @@
+pub mod ConversationLemmas
 pub mod HeldLemmas

@@ -1,3 +1,4 @@
 pub mod Answering
+pub mod Conversations
 pub mod Explaining
 pub mod Receiving

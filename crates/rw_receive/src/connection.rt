@@ -3,12 +3,12 @@
 ghost use Rattle.std.specs.Prelude.{◌≡◌, IfErr};
 ghost use Rattle.rw_text.specs.declared.tool_fault.ToolFault.TheVariants.{OutOfMemory};
 
-use crate::server_context::{ServerContext, serve_connection};
+use crate::accepted::Accepted;
+use crate::server_context::{Served, ServerContext, serve_connection};
 use crate::until::ServeUntil;
 use rw_recv_head::{Admit, HeadNaming, Holding, Seat, SharedHead};
 use rw_text::ToolFault;
 use std::alloc::Global;
-use std::net::TcpStream;
 use std::sync::atomic::{AtomicBool, Ordering};
 use std::sync::{Arc, Wait};
 use std::thread::{JoinHandle, Scope, Threads};
@@ -58,7 +58,7 @@ pub(crate) fn start_connection<
     rt: &'s R,
     context: &'s ServerContext<'s>,
     shared: &'s SharedHead<L, H>,
-    stream: TcpStream,
+    accepted: Accepted,
     seat: Seat<L>,
 ) -> Result<Connection<L>, ToolFault>
     ensures { IfErr result (λ e. e ≡ OutOfMemory) }
@@ -70,7 +70,10 @@ pub(crate) fn start_connection<
         return close_unserved(context, seat);
     };
     let work = move || {
-        let seat = serve_connection(rt, context, shared, stream, seat);
+        let Served {
+            seat,
+            conversation: _,
+        } = serve_connection(rt, context, shared, accepted, seat);
         theirs.store(true, Ordering::SeqCst);
         seat
     };

@@ -17,16 +17,32 @@ use rw_sorted_labels::sorted_body;
 use std::alloc::Global;
 use std::sync::Wait;
 
-/// A seat that is lent to answer the bodies of a connection's requests. Each answer may wait for
+/// A seat that answers the bodies of a connection's requests. Each answer may wait for
 /// the lock, and is counted.
 #[derive(Drop)]
 pub(crate) struct CountingSeat<'a, R, L: Holding<H>, H: Admit> {
     pub(crate) rt: &'a R,
     pub(crate) shared: &'a SharedHead<L, H>,
     /// A seat of that shared head.
-    pub(crate) seat: &'a mut Seat<L>,
+    pub(crate) seat: Seat<L>,
     pub(crate) context: &'a ServerContext<'a>,
     pub(crate) trace: &'a RequestTrace<'a>,
+}
+
+impl<R, L: Holding<H>, H: Admit> CountingSeat<'_, R, L, H> {
+    /// Returns the seat.
+    pub(crate) fn into_seat(self) -> Seat<L>
+        ensures { result ≡ self.entry.seat }
+    {
+        let CountingSeat {
+            rt: _,
+            shared: _,
+            seat,
+            context: _,
+            trace: _,
+        } = self;
+        seat
+    }
 }
 
 /// Asks a seat for a body, and of one that is refused for what can be taken of it, if that is
@@ -160,9 +176,9 @@ impl<R: Wait, L: Holding<H>, H: Admit> Answer for CountingSeat<'_, R, L, H> {
     ghost use Rattle.std.specs.Prelude.{◌≡◌};
     ghost use Rattle.rw_receive.specs.Answering.{HasAnsweredSorted};
 
-    ghost answers = { λ old body status new. (new.seat.ghost_name ≡ old.seat.ghost_name)
+    ghost answers = { λ old body status new. (new.context ≡ old.context)
         × HasAnsweredSorted old.context.now.takes.sorts_labels old.context.now.takes.is_partial
-        L.opening old.seat.now body status new.seat.now };
+        L.opening old.seat body status new.seat };
 
     fn answer(&mut self, body: &[u8]) -> u16 {
         let context = self.context;
@@ -171,7 +187,7 @@ impl<R: Wait, L: Holding<H>, H: Admit> Answer for CountingSeat<'_, R, L, H> {
             self.rt,
             context.alloc,
             self.shared,
-            self.seat,
+            &mut self.seat,
             context.takes,
             body,
         );

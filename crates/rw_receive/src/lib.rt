@@ -2,6 +2,7 @@
 //! is printed.
 #![tactic(auto)]
 
+mod accepted;
 mod bodies;
 mod connection;
 mod counting_seat;

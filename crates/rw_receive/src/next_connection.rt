@@ -3,12 +3,13 @@
 ghost use Rattle.std.specs.Prelude.{◌≡◌, IfErr};
 ghost use Rattle.rw_text.specs.declared.tool_fault.ToolFault.TheVariants.{Device};
 
+use crate::accepted::Accepted;
 use crate::server_context::ServerContext;
 use crate::timed_stream::TICK_MS;
 use crate::until::ServeUntil;
-use rw_socket::{accept, limit_accepts};
+use rw_socket::limit_accepts;
 use rw_text::ToolFault;
-use std::net::{TcpListener, TcpStream};
+use std::net::TcpListener;
 use std::thread;
 use std::time::{Clock, Duration};
 
@@ -36,11 +37,11 @@ pub(crate) fn next_connection<C: Clock>(
     clock: &C,
     listener: &TcpListener,
     context: &ServerContext<'_>,
-) -> Result<Option<TcpStream>, ToolFault>
+) -> Result<Option<Accepted>, ToolFault>
     ensures { IfErr result (λ e. e ≡ Device) }
 {
-    match (accept(listener), &context.until) {
-        (Ok(Some(stream)), _) => Ok(Some(stream)),
+    match (Accepted::accept(listener), &context.until) {
+        (Ok(Some(accepted)), _) => Ok(Some(accepted)),
         (_, ServeUntil::Connections(_)) => Err(ToolFault::Device),
         (Ok(None), _) => Ok(None),
         (Err(_), _) => {

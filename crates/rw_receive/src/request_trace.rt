@@ -7,7 +7,7 @@ use crate::refused_part::RefusedPart;
 use rw_metrics::{ReceiveCounters, RefusalReason, RefusedRequest};
 use std::alloc::Global;
 use std::cell::Cell;
-use std::net::TcpStream;
+use std::net::SocketAddr;
 use std::str;
 
 /// How many of the first bytes of a request are looked at.
@@ -18,7 +18,7 @@ const MOST_BYTES: usize = 256;
 pub(crate) struct RequestTrace<'s> {
     alloc: Global,
     counters: &'s ReceiveCounters,
-    stream: &'s TcpStream,
+    peer: Option<SocketAddr>,
     /// The method and the target of the request, if they are known.
     asked: Cell<Option<String>>,
     /// Whether the head was asked, and its answer is not written yet.
@@ -78,13 +78,13 @@ impl<'s> RequestTrace<'s> {
     pub(crate) fn new(
         alloc: Global,
         counters: &'s ReceiveCounters,
-        stream: &'s TcpStream,
+        peer: Option<SocketAddr>,
         explains: bool,
     ) -> RequestTrace<'s> {
         RequestTrace {
             alloc,
             counters,
-            stream,
+            peer,
             asked: Cell::new(None),
             is_answered: Cell::new(false),
             explains,
@@ -191,7 +191,7 @@ impl<'s> RequestTrace<'s> {
             reason,
             samples,
             asked: self.asked.replace(None),
-            from: self.stream.peer_addr().ok(),
+            from: self.peer,
         });
     }
 }

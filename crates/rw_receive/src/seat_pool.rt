@@ -140,14 +140,14 @@ fn serve_next<
     ensures faults { IfErr result (λ e. (e ≡ OutOfMemory) ⊎ (e ≡ Device)) }
 {
     pool.free_ended(rt, SOME);
-    let Some(stream) = next_connection(rt, listener, context)? else {
+    let Some(accepted) = next_connection(rt, listener, context)? else {
         return Ok(false);
     };
     wait_for_seat(pool, rt, context, shared, forgetting);
     let Some(seat) = pool.free.pop() else {
         return Ok(true);
     };
-    match start_connection(scope, rt, context, shared, stream, seat)? {
+    match start_connection(scope, rt, context, shared, accepted, seat)? {
         Connection::Active(active) => pool.active.push_back_reserved(active),
         Connection::Ended(seat) => pool.free.push_reserved(seat),
     }

@@ -1,21 +1,19 @@
 //! One connection, served to its end.
 
+ghost use Rattle.rw_receive.specs.Conversations.{HasAnsweredAll};
+
+use crate::accepted::{Accepted, Conversation};
 use crate::bodies::{BodyBounds, SharedRoom};
 use crate::counting_seat::CountingSeat;
-use crate::graceful_close::close_gracefully;
 use crate::request_trace::RequestTrace;
 use crate::seat_request::SeatRequest;
 use crate::take_options::TakeOptions;
-use crate::timed_stream::{Stage, TimedStream};
 use crate::until::ServeUntil;
-use rw_endpoint::serve;
 use rw_head::Limits;
 use rw_metrics::ReceiveCounters;
-use rw_recv_head::{Admit, Holding, Seat, SharedHead};
-use rw_types::{Bounded, Std};
+use rw_recv_head::{Admit, HeadNaming, Holding, Seat, SharedHead};
+use rw_types::Bounded;
 use std::alloc::Global;
-use std::cell::Cell;
-use std::net::TcpStream;
 use std::sync::Wait;
 use std::time::Clock;
 
@@ -46,56 +44,42 @@ pub struct ServerContext<'a> {
     pub counters: &'a ReceiveCounters,
 }
 
-/// Serves a connection until it closes, shuts it down gracefully and returns its seat. The
-/// connection is counted as open meanwhile.
-pub fn serve_connection<L: Holding<H>, H: Admit, R: Wait + Clock>(
-    rt: &R,
-    context: &ServerContext<'_>,
-    shared: &SharedHead<L, H>,
-    stream: TcpStream,
-    seat: Seat<L>,
-) -> Seat<L> {
-    context.counters.begin_connection();
-    let seat = serve_to_end(rt, context, shared, stream, seat);
-    context.counters.end_connection();
-    seat
+/// A seat that has served a connection, and what went over that connection.
+#[derive(Drop)]
+pub(crate) struct Served<L: HeadNaming> {
+    pub(crate) seat: Seat<L>,
+    /// What the answers of the seat were given for, which contracts see.
+    pub(crate) conversation: Conversation,
 }
 
-/// Serves a connection until it closes, and returns its seat. It is not counted here. A connection
-/// that took too long is closed at once, without waiting for its client.
-fn serve_to_end<L: Holding<H>, H: Admit, R: Wait + Clock>(
+/// Serves a connection from a seat until it closes, shuts it down gracefully, and returns the seat.
+/// The connection is counted as open meanwhile. If it took too long it is closed at once, without
+/// waiting for its client.
+pub(crate) fn serve_connection<L: Holding<H>, H: Admit, R: Wait + Clock>(
     rt: &R,
     context: &ServerContext<'_>,
     shared: &SharedHead<L, H>,
-    stream: TcpStream,
+    accepted: Accepted,
     seat: Seat<L>,
-) -> Seat<L> {
-    let mut seat = seat;
-    let stage = Cell::new(Stage::new(rt));
+) -> Served<L>
+    // The seat was asked what the connection brought, and its answers went back.
+    ensures answered { HasAnsweredAll context.now.limits.now context.now.takes L.opening seat
+        result.conversation result.seat }
+{
+    context.counters.begin_connection();
     let explains = context.takes.explains;
-    let trace = RequestTrace::new(context.alloc, context.counters, &stream, explains);
-    let Ok(timed) = TimedStream::new(&stream, context, &stage, &trace, rt) else {
-        return seat;
-    };
-    let mut reader = Std::new(timed);
-    let mut writer = Std::new(timed);
+    let trace = RequestTrace::new(context.alloc, context.counters, accepted.peer(), explains);
     let mut asking = CountingSeat {
         rt,
         shared,
-        seat: &mut seat,
+        seat,
         context,
         trace: &trace,
     };
-    serve(
-        context.alloc,
-        &mut reader,
-        &mut writer,
-        &mut asking,
-        context.limits,
-    );
-    timed.release();
-    if !timed.is_cut() {
-        close_gracefully(rt, &stream);
+    let conversation = accepted.serve(rt, context, &trace, &mut asking);
+    context.counters.end_connection();
+    Served {
+        seat: asking.into_seat(),
+        conversation,
     }
-    seat
 }

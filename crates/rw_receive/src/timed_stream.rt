@@ -86,7 +86,7 @@ impl<C: Clock + Copy> Stage<C> {
 /// or a write of a few connections that are silent or late. A request begins with a byte that is
 /// read, and ends with the bytes that are written. What is read of one is returned once there is
 /// room for it (`SharedRoom`), and a read of one that makes room fails, too. A reply 400 gets its
-/// text here, if it is to have one. No clause says anything about the bytes.
+/// text here, if it is to have one. `Accepted` has what is read and written recorded.
 #[derive(Clone, Copy, Drop)]
 pub(crate) struct TimedStream<'s, C> {
     stream: &'s TcpStream,

@@ -18,6 +18,7 @@ mod ReceivedLemmas
 mod RefusalLemmas
 mod RefusedExampleLemmas
 mod RelayLemmas
+mod ResumedLemmas
 mod RunLemmas
 mod SenderLemmas
 mod ServedLemmas

@@ -13,6 +13,7 @@ pub mod Receivers
 pub mod Refusals
 pub mod RefusedExamples
 pub mod Relay
+pub mod Resumed
 pub mod Runs
 pub mod Senders
 pub mod ServedReceivers

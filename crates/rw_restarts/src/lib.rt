@@ -7,6 +7,7 @@ mod examples;
 mod logs;
 mod receivers;
 mod relay;
+mod resumed;
 mod runs;
 mod senders;
 mod several_senders;
@@ -31,6 +32,7 @@ pub use relay::{
     a_relay_holds_what_the_first_receiver_holds, a_report_names_what_a_relay_lacks,
     what_was_read_stays_in_the_log,
 };
+pub use resumed::{a_resumed_run_is_a_run_over_the_log, definitions_are_a_checkpoint};
 pub use runs::{
     a_head_answers_so, acknowledged_samples_stay, many_runs_fill_one_head,
     what_comes_next_is_accepted,

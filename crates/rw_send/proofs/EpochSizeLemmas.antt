@@ -177,7 +177,7 @@ module _ {T : Type 0} where
   pub sizes_on : (fewest most least greatest : ℕ) (old now new : Shards T) → (least ≡ fewest) × (greatest ≡ most) → KeepsEpochSizes fewest most old now → KeepsEpochSizes least greatest now new → KeepsEpochSizes fewest most old new
   sizes_on fewest most least greatest old now new same kept later = λ first h. between (λ a b. KeepsEpochSizes a b now new) same.0 same.1 later first (kept first h)
 
-ok_so : {P : Type 0} (r : Result (Unit {0}) FeedFault) → OnOk r P → is_err r ≡ false → P
+pub ok_so : {P : Type 0} (r : Result (Unit {0}) FeedFault) → OnOk r P → is_err r ≡ false → P
 ok_so (Ok u) h well = h
 ok_so (Err f) h well = let never : ⊥ = cc in absurd never
 

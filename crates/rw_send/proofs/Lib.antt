@@ -3,6 +3,7 @@ pub mod EpochLemmas
 pub mod EpochSizeLemmas
 pub mod FeedErrorLemmas
 pub mod IntactLemmas
+pub mod KeepLemmas
 pub mod LapLemmas
 pub mod LoopLemmas
 pub mod MealLemmas

@@ -6,11 +6,11 @@ use Rattle.rw_sender.specs.Shipping.{Shipping}
 use Rattle.rw_send.specs.Steps.{StaysOpen}
 
 pub stays : {T : Type 0} (s : Shipping T) → StaysOpen s s
-stays s = record { choice = refl; pieces = begins_itself s.log.pieces; fleet = refl; shards = refl; limit = refl; marks = λ _. refl }
+stays s = record { setup = refl; pieces = begins_itself s.log.pieces; fleet = refl; shards = refl; limit = refl; marks = λ _. refl }
 
 pub stays_on : {T : Type 0} (old now new : Shipping T) → StaysOpen old now → StaysOpen now new → StaysOpen old new
 stays_on {T} old now new h more = record {
-  choice = more.choice ∙ h.choice;
+  setup = more.setup ∙ h.setup;
   pieces = begins_twice old.log.pieces now.log.pieces new.log.pieces h.pieces more.pieces;
   fleet = more.fleet ∙ ap (λ (f : Shards T). record f { current = new.fleet.current }) h.fleet;
   shards = more.shards ∙ h.shards;

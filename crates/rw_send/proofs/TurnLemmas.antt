@@ -13,7 +13,7 @@ use Rattle.rw_follow.specs.Meals.{Meal}
 use Rattle.rw_follow.specs.Turns.{given_by}
 use Rattle.rw_follow.specs.declared.follower.Turn.{Turn}
 use Rattle.rw_follow.specs.declared.follower.Turn.TheVariants as turn
-use Rattle.rw_sender.specs.Feeders.{Sorting}
+use Rattle.rw_sender.specs.Feeders.{Sorting, setup_of}
 use Rattle.rw_sender.specs.Shipping.{FailsBy, Feeds, HasCompared, Joins, PlacesAll, Shipping}
 use Rattle.rw_sender.specs.declared.shipper.FeedFault.{FeedFault}
 use Rattle.rw_send.specs.FeedErrors.{feed_error_of}
@@ -42,7 +42,7 @@ short_piece n buf items is within small =
 
 -- the shards stay, and as many pieces as were fed are short and sound
 pub record IsSame {T : Type 0} (sharding : Sharding) (old new : Shipping T) : Type 0 where
-  pub choice : new.log.choice ≡ old.log.choice
+  pub setup : setup_of new.log ≡ setup_of old.log
   pub fleet : new.fleet ≡ record old.fleet { current = new.fleet.current }
   pub len : length new.fleet.current ≡ length old.fleet.current
   pub shards : length old.fleet.current ≡ sharding.shards
@@ -61,7 +61,7 @@ pub record IsTurning {T : Type 0} (sharding next : Sharding) (old mid new : Ship
   pub joins : Joins mid.log new.log next_segment r
   pub intact : IsIntact old
 
-range_on : (sharding next : Sharding) (r : Result Sharding FeedError) → (next.fewest ≡ sharding.fewest) × (next.most ≡ sharding.most)
+pub range_on : (sharding next : Sharding) (r : Result Sharding FeedError) → (next.fewest ≡ sharding.fewest) × (next.most ≡ sharding.most)
     → IfOk r (λ s. (s.fewest ≡ next.fewest) × (s.most ≡ next.most)) → IfOk r (λ s. (s.fewest ≡ sharding.fewest) × (s.most ≡ sharding.most))
 range_on sharding next (Ok s) e h = (h.0 ∙ e.0, h.1 ∙ e.1)
 range_on sharding next (Err h) e g = tt
@@ -72,7 +72,7 @@ module _ {T : Type 0} where
 
   keeps_err : (sharding : Sharding) (old new : Shipping T) (h : FeedError) → IsSame sharding old new → Keeps sharding old new (Err h)
   keeps_err sharding old new h m = record {
-    kept = (m.choice, ap (λ (f : Shards T). f.config) m.fleet);
+    kept = (m.setup, ap (λ (f : Shards T). f.config) m.fleet);
     limit = m.limit;
     shards = tt;
     range = tt;
@@ -88,7 +88,7 @@ module _ {T : Type 0} where
 
   keeps_ok : (sharding : Sharding) (old new : Shipping T) → IsSame sharding old new → new.fault ≡ None → IsIntact new → Keeps sharding old new (Ok sharding)
   keeps_ok sharding old new m live intact = record {
-    kept = (m.choice, ap (λ (f : Shards T). f.config) m.fleet);
+    kept = (m.setup, ap (λ (f : Shards T). f.config) m.fleet);
     limit = m.limit;
     shards = m.len ∙ m.shards;
     range = (refl, refl);
@@ -107,7 +107,7 @@ module _ {T : Type 0} where
   pub same_fed : (sharding : Sharding) (old new : Shipping T) (p : Piece) (r : Result (Unit {0}) FeedFault) → StaysOpen old new → length old.fleet.current ≡ sharding.shards
       → ((c : Bool) → IsShortLog c old.log.pieces → IsShortLog c new.log.pieces) → Joins old.log new.log p r → IsIntact old → IsSame sharding old new
   same_fed sharding old new p r st shards short joins intact = record {
-    choice = st.choice;
+    setup = st.setup;
     fleet = st.fleet;
     len = st.shards;
     shards = shards;
@@ -117,7 +117,7 @@ module _ {T : Type 0} where
   }
 
   same_stays : (sharding : Sharding) (s : Shipping T) → length s.fleet.current ≡ sharding.shards → IsSame sharding s s
-  same_stays sharding s shards = record { choice = refl; fleet = refl; len = refl; shards = shards; limit = λ _. refl; short = λ c h. h; but_last = λ h. h }
+  same_stays sharding s shards = record { setup = refl; fleet = refl; len = refl; shards = shards; limit = λ _. refl; short = λ c h. h; but_last = λ h. h }
 
   -- there is no memory for them
   pub piece_refused : (n : ℕ) (buf : List ℕ) (sharding : Sharding) (s : Shipping T) → length s.fleet.current ≡ sharding.shards → Goes (turn.Piece n) buf sharding s s (Err error.Failed)
@@ -160,7 +160,7 @@ module _ {T : Type 0} where
   pub keeps_unset : (sharding : Sharding) (old new : Shipping T) → PlacesAll old.log old.fleet → new.log ≡ old.log → new.limit ≡ old.limit → (new.fleet ≡ old.fleet) ⊎ HasCompared old.fleet new.fleet
       → new.fleet.config ≡ old.fleet.config → IsSome new.fault → length old.fleet.current ≡ sharding.shards → Keeps sharding old new (Err error.Failed)
   keeps_unset sharding old new placed log limit compared config failed shards = record {
-    kept = (ap (λ (l : Sorting). l.choice) log, config);
+    kept = (ap (λ (l : Sorting). (l.choice, l.labels)) log, config);
     limit = λ _. limit;
     shards = tt;
     range = tt;
@@ -220,7 +220,7 @@ module _ {T : Type 0} where
       let number = count_so (sym t.shards) next.some next.few in
       record {
         keeps = record {
-          kept = (t.stays.choice ∙ ap (λ (l : Sorting). l.choice) t.set.log, ap (λ (f : Shards T). f.config) t.stays.fleet ∙ t.config);
+          kept = (t.stays.setup ∙ ap (λ (l : Sorting). (l.choice, l.labels)) t.set.log, ap (λ (f : Shards T). f.config) t.stays.fleet ∙ t.config);
           limit = λ _. t.stays.limit ∙ t.set.limit;
           shards = tt;
           range = tt;
@@ -247,7 +247,7 @@ module _ {T : Type 0} where
       let number = count_so (sym t.shards) next.some next.few in
       record {
         keeps = record {
-          kept = (t.stays.choice ∙ ap (λ (l : Sorting). l.choice) t.set.log, ap (λ (f : Shards T). f.config) t.stays.fleet ∙ t.config);
+          kept = (t.stays.setup ∙ ap (λ (l : Sorting). (l.choice, l.labels)) t.set.log, ap (λ (f : Shards T). f.config) t.stays.fleet ∙ t.config);
           limit = λ _. t.stays.limit ∙ t.set.limit;
           shards = t.stays.shards ∙ sym t.shards;
           range = t.range;
@@ -273,7 +273,7 @@ module _ {T : Type 0} where
   pub same_flushed : (sharding : Sharding) (old new : Shipping T) → new.log ≡ old.log → new.fleet ≡ record old.fleet { current = new.fleet.current } → length new.fleet.current ≡ length old.fleet.current
       → length old.fleet.current ≡ sharding.shards → (new.fault ≡ None → new.limit ≡ old.limit) → IsSame sharding old new
   same_flushed sharding old new log fleet len shards limit = record {
-    choice = ap (λ (l : Sorting). l.choice) log;
+    setup = ap (λ (l : Sorting). (l.choice, l.labels)) log;
     fleet = fleet;
     len = len;
     shards = shards;
@@ -319,7 +319,7 @@ module _ {T : Type 0} where
   halts_from t old mid new (error.Missing n) same h = h
   halts_from t old mid new error.Aborted same h = h
 
-  all_halt_from : (t : Turn) (old mid new : Shipping T) (r : Result Sharding FeedError) → mid.log ≡ old.log → IfErr r (HaltsAt t mid new) → IfErr r (HaltsAt t old new)
+  pub all_halt_from : (t : Turn) (old mid new : Shipping T) (r : Result Sharding FeedError) → mid.log ≡ old.log → IfErr r (HaltsAt t mid new) → IfErr r (HaltsAt t old new)
   all_halt_from t old mid new (Ok x) same h = tt
   all_halt_from t old mid new (Err y) same h = halts_from t old mid new y same h
 
@@ -340,7 +340,7 @@ module _ {T : Type 0} where
       let number = count_so shards next.some next.few in
       record {
         keeps = record {
-          kept = (keeps.kept.0 ∙ ap (λ (l : Sorting). l.choice) log, keeps.kept.1 ∙ config);
+          kept = (keeps.kept.0 ∙ ap (λ (l : Sorting). (l.choice, l.labels)) log, keeps.kept.1 ∙ config);
           limit = λ live. keeps.limit live ∙ limit;
           shards = keeps.shards;
           range = range_on sharding next r range keeps.range;

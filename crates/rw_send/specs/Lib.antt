@@ -1,3 +1,4 @@
+pub mod Drained
 pub mod Logs
 pub mod ReportText
 pub mod Sending

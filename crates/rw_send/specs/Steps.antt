@@ -1,7 +1,7 @@
 -- How the segments of a log are shipped one after another, and how many shards there are for each.
 use Rattle.std.specs.Prelude.{◌≡◌, ◌⊎◌, ℕ, zero, suc, ◌≤◌, ◌+◌, ◌-◌, Bool, [], ◌∷◌, ◌++◌, Option, None, length, map}
 use Rattle.rw_types.specs.Beginnings.{Begins}
-use Rattle.rw_wal_format.specs.Pieces.{begun_log, entries, next_segment}
+use Rattle.rw_wal_format.specs.Pieces.{begun_log, next_segment}
 use Rattle.rw_follow.specs.Meals.{Meal, with_next}
 use Rattle.rw_fleet.specs.Fleets.{Shards, AreAll}
 use Rattle.rw_fleet.specs.ShardHistories.{AreFresh, marks_of}
@@ -10,21 +10,22 @@ use Rattle.rw_fleet.specs.Work.{AreResolved}
 use Rattle.rw_fleet.specs.declared.load.Load.{Load}
 use Rattle.rw_reshard.specs.Wanted.{wanted}
 use Rattle.rw_shard_core.specs.declared.config.ConfigFields.{ConfigFields}
+use Rattle.rw_sender.specs.Feeders.{log_of, setup_of}
 use Rattle.rw_sender.specs.Shipping.{Shipping, HasCompared, PlacesAll}
 use Rattle.rw_send.specs.Segments.{meal_of}
 
 -- more may have been fed, and put to the same shards, and without a limit in bytes no mark
 pub record StaysOpen {T : Type 0} (old new : Shipping T) : Type 0 where
-  pub choice : new.log.choice ≡ old.log.choice
+  pub setup : setup_of new.log ≡ setup_of old.log
   pub pieces : Begins old.log.pieces new.log.pieces
   pub fleet : new.fleet ≡ record old.fleet { current = new.fleet.current }
   pub shards : length new.fleet.current ≡ length old.fleet.current
   pub limit : new.limit ≡ old.limit
   pub marks : old.limit ≡ None → map marks_of new.fleet.current ≡ map marks_of old.fleet.current
 
--- which series are sent and the configuration stay
+-- which series are sent, their external labels and the configuration stay
 abbrev pub KeepsSetup : {T : Type 0} → Shipping T → Shipping T → Type 0
-KeepsSetup old new = (new.log.choice ≡ old.log.choice) × (new.fleet.config ≡ old.fleet.config)
+KeepsSetup old new = (setup_of new.log ≡ setup_of old.log) × (new.fleet.config ≡ old.fleet.config)
 
 -- how many shards are wanted if there are n, under this load
 abbrev pub wanted_under : (fewest most n : ℕ) → Load → ℕ
@@ -54,7 +55,7 @@ pub record IsSet {T : Type 0} (fewest most : ℕ) (old new : Shipping T) : Type 
 
 -- all entries of the pieces that were fed were placed, and the shards were put their samples
 abbrev pub HasPutAll : {T : Type 0} → Shipping T → Type 0
-HasPutAll s = (s.log.placed ≡ entries s.log.pieces) × PlacesAll s.log s.fleet
+HasPutAll s = (s.log.placed ≡ log_of s.log) × PlacesAll s.log s.fleet
 
 -- A segment is over: all that was fed was put to the shards, then their number was set, and then
 -- the end of the segment was fed, and what follows of the next one.

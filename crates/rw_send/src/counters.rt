@@ -1,7 +1,7 @@
 //! Updates the counters as a shipper goes on, and once it has stopped.
 
 ghost use Rattle.std.specs.Prelude.{◌≡◌, None};
-ghost use Rattle.rw_wal_format.specs.Pieces.{entries};
+ghost use Rattle.rw_sender.specs.Feeders.{log_of};
 ghost use Rattle.rw_sender.specs.Shipping.{PlacesAll};
 
 use rw_ledger::Reason;
@@ -37,7 +37,7 @@ fn skipped_by<C: Connect + Drop>(shipper: &Shipper<C>) -> Skipped {
 pub fn update_counters<C: Connect + Drop>(counters: &SendCounters, shipper: &Shipper<C>)
     ensures placed { PlacesAll shipper.now.log shipper.now.fleet }
     ensures read { shipper.now.fault ≡ None
-        → shipper.now.log.placed ≡ entries shipper.now.log.pieces }
+        → shipper.now.log.placed ≡ log_of shipper.now.log }
 {
     let load = shipper.load();
     counters.set_entries(shipper.entries_read());

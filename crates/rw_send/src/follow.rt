@@ -1,19 +1,17 @@
 //! The command `send`, over any segments, connections, watch and writer.
 
-ghost use Rattle.std.specs.Prelude.{◌≡◌, ◌⊎◌, [], true, false, length, None, Err, IfOk, OnOk};
-ghost use Rattle.rw_fleet.specs.ShardHistories.{AreFresh};
+ghost use Rattle.std.specs.Prelude.{◌≡◌, ◌⊎◌, [], true, false, Err, IfOk, OnOk};
 ghost use Rattle.rw_follow.specs.declared.signal.StopRequest.TheVariants as StopRequest;
 ghost use Rattle.rw_send.specs.Logs.{seen_of};
 ghost use Rattle.rw_send.specs.RunFaults.{answer_of};
-ghost use Rattle.rw_wal_format.specs.Pieces.{begun_log};
 ghost use Rattle.rw_send.specs.Segments.{meal_of};
-ghost use Rattle.rw_shard_core.specs.Configs.{choice_of};
 ghost use Rattle.rw_send.specs.Sending.{IsSent, Prints};
 ghost use Rattle.rw_send.specs.inner.Sending.{left_undone};
 ghost use Rattle.rw_send.specs.declared.follow_fault.FollowFault.TheVariants.{Stopped};
 
 use crate::counters::{FeedContext, count_report, update_counters};
 use crate::follow_fault::{FollowFault, RunFault};
+use crate::keeper::{Keeper, KeepsNone};
 use crate::live::{room_for_piece, ship_live};
 use crate::options::SendOptions;
 use crate::printed_report::print_report;
@@ -25,7 +23,6 @@ use rw_settings::Settings;
 use rw_shard_core::Config;
 use rw_text::ToolFault;
 use rw_types::Sink;
-use rw_worker::StopFlag;
 use std::alloc::{AllocError, Global};
 use std::sync::Wait;
 use std::thread::Threads;
@@ -48,42 +45,13 @@ fn or_stopped<W: Watch>(watch: &mut W, answer: Result<(), FollowFault>) -> Resul
     answer
 }
 
-/// Starts a shipper for a log that may have Snappy blocks, or has none.
-fn start_shipper<R: Threads + Wait + Clock + Copy + Send + 'static, C: Connect + Drop>(
-    rt: &R,
-    alloc: Global,
-    config: Config,
-    connect: C,
-    may_compress: bool,
-    limit: Option<u64>,
-    stop: StopFlag,
-) -> Result<Shipper<C>, AllocError>
-    ensures log { IfOk result (λ s. s.log
-        ≡ record {
-          choice = choice_of config;
-          pieces = begun_log may_compress;
-          placed = [];
-          hand = [];
-        }) }
-    ensures config { IfOk result (λ s. s.fleet.config ≡ record config { rules = [] }) }
-    ensures opened { IfOk result (λ s. (s.fleet.epoch ≡ 0) × (s.fleet.ended ≡ [])
-        × (length s.fleet.current ≡ config.shards) × AreFresh 0 s.fleet.current) }
-    ensures fault { IfOk result (λ s. s.fault ≡ None) }
-    ensures limit { IfOk result (λ s. s.limit ≡ limit) }
-{
-    if may_compress {
-        Shipper::start_compressed(rt, alloc, config, connect, limit, stop)
-    } else {
-        Shipper::start_within(rt, alloc, config, connect, limit, stop)
-    }
-}
-
 /// Ships a log, and stops.
 fn ship<
     R: Threads + Wait + Clock + Copy + Send + 'static,
     S: Segments,
     C: Connect + Drop,
     W: Watch,
+    P: Keeper<S, C, W>,
 >(
     rt: &R,
     alloc: Global,
@@ -94,7 +62,7 @@ fn ship<
 ) -> Result<Sent<C::T>, AllocError>
     ensures { IfOk result (λ sent. (start : S.Start) → S.gave segments.old start (meal_of [])
         → IsSent C.T.tells C.T.seen C.T.is_for config options.entry.max_batch_bytes
-        options.entry.may_compress
+        options.entry.reading
         (seen_of (S.gave segments.new start) (S.had_all segments.new start)
         (S.lacks segments.new) (S.may_fail segments.old))
         (W.is_quiet watch.old) (W.said watch.new) sent.report sent.answer) }
@@ -105,20 +73,20 @@ fn ship<
         connect,
         counters,
         max_batch_bytes,
-        may_compress,
+        reading,
         stop,
     } = options;
-    let mut shipper = start_shipper(
+    let mut shipper = Shipper::start_with(
         rt,
         alloc,
         config,
         connect,
-        may_compress,
         max_batch_bytes,
         stop,
+        reading,
     )?;
     let context = FeedContext { alloc, counters };
-    let ended = ship_live(
+    let ended = ship_live::<R, S, C, W, P>(
         rt,
         context,
         &mut shipper,
@@ -140,6 +108,49 @@ fn ship<
         answer,
         place,
     })
+}
+
+/// Ships a log as `run_follow` does. At the end of a segment, if a position is due, it waits until
+/// all that was fed is resolved, and has the position after the segment kept.
+pub fn run_kept<
+    R: Threads + Wait + Clock + Copy + Send + 'static,
+    S: Segments,
+    C: Connect + Drop,
+    W: Watch,
+    P: Keeper<S, C, W>,
+    K: Sink,
+>(
+    rt: &R,
+    alloc: Global,
+    settings: Settings,
+    segments: &mut S,
+    options: SendOptions<'_, C>,
+    watch: &mut W,
+    writer: &mut K,
+) -> Result<(), RunFault>
+    ensures prints { (start : S.Start) → S.gave segments.old start (meal_of [])
+        → Prints C.T.tells C.T.seen C.T.is_for settings.config options.entry.max_batch_bytes
+        options.entry.reading
+        (seen_of (S.gave segments.new start) (S.had_all segments.new start)
+        (S.lacks segments.new) (S.may_fail segments.old))
+        (W.is_quiet watch.old) (W.said watch.new) (K.contents writer.old)
+        (K.contents writer.new) (writer.new ≡ writer.old) (K.has_failed writer.new ≡ true)
+        (answer_of result) }
+    ensures sound { OnOk result
+        (K.has_failed writer.old ≡ false → K.has_failed writer.new ≡ false) }
+{
+    let Settings {
+        config,
+        limits: _,
+        may_compress: _,
+    } = settings;
+    let Sent {
+        report,
+        answer,
+        place,
+    } = ship::<R, S, C, W, P>(rt, alloc, config, segments, options, watch)?;
+    print_report(alloc, report, writer)?;
+    RunFault::at(answer, place)
 }
 
 /// Ships a log until the watch asks to stop, then stops, and prints the report: `dropped POS
@@ -177,7 +188,7 @@ pub fn run_follow<
 ) -> Result<(), RunFault>
     ensures prints { (start : S.Start) → S.gave segments.old start (meal_of [])
         → Prints C.T.tells C.T.seen C.T.is_for settings.config options.entry.max_batch_bytes
-        options.entry.may_compress
+        options.entry.reading
         (seen_of (S.gave segments.new start) (S.had_all segments.new start)
         (S.lacks segments.new) (S.may_fail segments.old))
         (W.is_quiet watch.old) (W.said watch.new) (K.contents writer.old)
@@ -186,16 +197,5 @@ pub fn run_follow<
     ensures sound { OnOk result
         (K.has_failed writer.old ≡ false → K.has_failed writer.new ≡ false) }
 {
-    let Settings {
-        config,
-        limits: _,
-        may_compress: _,
-    } = settings;
-    let Sent {
-        report,
-        answer,
-        place,
-    } = ship(rt, alloc, config, segments, options, watch)?;
-    print_report(alloc, report, writer)?;
-    RunFault::at(answer, place)
+    run_kept::<R, S, C, W, KeepsNone, K>(rt, alloc, settings, segments, options, watch, writer)
 }

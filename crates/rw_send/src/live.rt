@@ -18,6 +18,7 @@ ghost use Rattle.rw_sender.specs.Placement.{IsShardCount};
 
 use crate::counters::{FeedContext, update_counters};
 use crate::feed_error::FeedError;
+use crate::keeper::{Keeper, keep_if_due};
 use crate::sharding::{Sharding, resharded, retuned};
 use rw_follow::{Follower, Segments, Turn, Watch};
 use rw_sender::{Connect, Shipper};
@@ -159,6 +160,7 @@ pub(crate) fn ship_live<
     S: Segments,
     C: Connect + Drop,
     W: Watch,
+    P: Keeper<S, C, W>,
 >(
     rt: &R,
     context: FeedContext<'_>,
@@ -213,8 +215,9 @@ pub(crate) fn ship_live<
         if let Turn::Aborted = turn {
             return Err(FeedError::Aborted);
         }
+        let next = keep_if_due::<R, S, C, W, P>(rt, shipper, sharding, turn, segments, watch)?;
         let is_due = watch.is_reshard_due();
-        sharding = step(rt, context.alloc, shipper, sharding, is_due, turn, buf)?;
+        sharding = step(rt, context.alloc, shipper, next, is_due, turn, buf)?;
         count_turn(context, shipper, sharding.shards, turn);
     }
     unreachable!()

@@ -1,6 +1,7 @@
 //! What shipping is given besides settings and a log.
 
 use rw_metrics::SendCounters;
+use rw_sender::LogOptions;
 use rw_worker::StopFlag;
 
 /// The connections to a receiver, the counters, the greatest number of bytes in the body of a
@@ -12,8 +13,9 @@ pub struct SendOptions<'a, C> {
     pub counters: &'a SendCounters,
     /// `None` for no limit.
     pub max_batch_bytes: Option<u64>,
-    /// Whether records of the log may be Snappy blocks.
-    pub may_compress: bool,
+    /// Whether records of the log may be Snappy blocks, and the labels that are added to each
+    /// series.
+    pub reading: LogOptions,
     /// If another thread sets it, the workers abandon what is not sent, and nothing waits for them
     /// any more.
     pub stop: StopFlag,

@@ -34,7 +34,7 @@ pub fn run_send<
     writer: &mut W,
 ) -> Result<(), ToolFault>
     ensures prints { (now : List (Option (List ℕ))) × Prints C.T.tells C.T.seen C.T.is_for
-        settings.config options.entry.max_batch_bytes options.entry.may_compress
+        settings.config options.entry.max_batch_bytes options.entry.reading
         (readers (map S.remaining segments.items) now (map S.is_sure segments.items)) true Finish
         (W.contents writer.old) (W.contents writer.new) (writer.new ≡ writer.old)
         (W.has_failed writer.new ≡ true) (as_answer result) }

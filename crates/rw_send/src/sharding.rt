@@ -79,6 +79,23 @@ impl Sharding {
         }
     }
 
+    /// Returns as many shards, within their bounds.
+    pub(crate) fn within_bounds(self) -> Sharding
+        ensures shards { result.shards ≡ wanted self.shards 0 0 0 self.fewest self.most }
+        ensures fewest { result.fewest ≡ self.fewest }
+        ensures most { result.most ≡ self.most }
+        ensures placed { result.placed ≡ self.placed }
+        ensures resolved { result.resolved ≡ self.resolved }
+    {
+        Sharding {
+            shards: want(self.shards, 0, 0, 0, self.fewest, self.most),
+            fewest: self.fewest,
+            most: self.most,
+            placed: self.placed,
+            resolved: self.resolved,
+        }
+    }
+
     /// Returns as many shards as are wanted under what was placed and resolved since the clock last
     /// asked for an adjustment, and what waits under this load.
     fn lately(self, load: Load) -> Sharding

@@ -3,24 +3,40 @@ use Rattle.std.specs.Prelude.{◌≡◌, ℕ, ℤ, List, [], ◌∷◌, ◌++◌
 use Rattle.std.specs.Arc.{arc_value}
 use Rattle.rw_types.specs.declared.entry.Entry.{Entry}
 use Rattle.rw_types.specs.declared.entry.Entry.TheVariants.{Sample}
-use Rattle.rw_wal_format.specs.Pieces.{Piece}
+use Rattle.rw_types.specs.Labels.{Labels}
+use Rattle.rw_external_labels.specs.External.{labelled, labelled_entry}
+use Rattle.rw_wal_format.specs.Pieces.{Piece, entries, fault}
+use Rattle.rw_wal_format.specs.declared.tail_fault.TailFault.{TailFault}
 use Rattle.rw_ledger.specs.declared.ledger.Reason.{Reason}
 use Rattle.rw_relabel.specs.declared.choice.Choice.{Choice}
 use Rattle.rw_series_cache.specs.Fates.{Drops, fate}
 use Rattle.rw_series_cache.specs.Routing.{IsSentNext}
 use Rattle.rw_series_cache.specs.declared.sample.RoutedSample.{RoutedSample}
-pub use Rattle.rw_wal_tail.specs.Taking.{HasRead}
 use Rattle.rw_sender.specs.Logs.{Sent, sent_of}
 use Rattle.rw_sender.specs.declared.feeder.Next.{Next}
 use Rattle.rw_sender.specs.declared.feeder.Next.TheVariants as next
 
--- the rules, the pieces of the log so far, the entries that were placed, and those that were read
--- and are to be placed
+-- the rules, the external labels, the pieces of the log so far, the entries that were placed, and
+-- those that were read and are to be placed; these have the external labels
 pub record Sorting : Type 0 where
   pub choice : Choice
+  pub labels : List (List ℕ × List ℕ)
   pub pieces : List Piece
   pub placed : List Entry
   pub hand : List Entry
+
+-- which series are sent, and with which external labels
+abbrev pub setup_of : Sorting → Choice × Labels
+setup_of s = (s.choice, s.labels)
+
+-- the entries of the log so far, with the external labels
+abbrev pub log_of : Sorting → List Entry
+log_of s = labelled s.labels (entries s.pieces)
+
+-- all of them were placed: there is this fault after them, or none
+pub record HasReadAll (s : Sorting) (found : Option TailFault) : Type 0 where
+  pub all : s.placed ≡ log_of s
+  pub fault_is : fault s.pieces ≡ found
 
 -- what was in hand is placed
 abbrev pub HasPlaced : Sorting → Sorting → Type 0
@@ -49,9 +65,9 @@ sent_by l = record { pos = l.pos; series = l.series; t = l.t; word = l.word; lab
 
 -- an entry is in hand, or the log has been read to its end, or to a fault
 abbrev pub ReadsNext : Sorting → Sorting → Next → Type 0
-ReadsNext old new (next.Entry e) = new ≡ record old { hand = e ∷ [] }
-ReadsNext old new next.End = (new ≡ old) × HasRead old.pieces old.placed None
-ReadsNext old new (next.Damaged f) = (new ≡ old) × HasRead old.pieces old.placed (Some f)
+ReadsNext old new (next.Entry e) = new ≡ record old { hand = labelled_entry old.labels e ∷ [] }
+ReadsNext old new next.End = (new ≡ old) × HasReadAll old None
+ReadsNext old new (next.Damaged f) = (new ≡ old) × HasReadAll old (Some f)
 
 -- an entry was placed that is not to be sent, or gives a sample that is
 abbrev pub Judges : Sorting → Sorting → Entry → Option RoutedSample → Type 0

@@ -8,12 +8,12 @@ use Rattle.rw_fleet.specs.Fleets.{Shards, AreAll, EndBy}
 use Rattle.rw_fleet.specs.declared.running_shard.Fault.{Fault}
 use Rattle.rw_fleet.specs.declared.running_shard.Fault.TheVariants as queue_fault
 use Rattle.rw_types.specs.Beginnings.{Begins}
-use Rattle.rw_wal_format.specs.Pieces.{Piece, entries}
+use Rattle.rw_wal_format.specs.Pieces.{Piece}
 use Rattle.rw_ledger.specs.Names.{Named}
 use Rattle.rw_shard_core.specs.declared.outcome.Outcome.{Outcome}
 use Rattle.rw_shard_core.specs.declared.outcome.Outcome.TheVariants as outcome
 use Rattle.rw_fleet.specs.declared.joined.StoppedShard.{StoppedShard}
-use Rattle.rw_sender.specs.Feeders.{Sorting, HasRead}
+use Rattle.rw_sender.specs.Feeders.{Sorting, HasReadAll, log_of}
 use Rattle.rw_sender.specs.Logs.{sent, named, dropped, filtered}
 use Rattle.rw_sender.specs.Placement.{IsPlacing, ArePlaced}
 use Rattle.rw_sender.specs.declared.report.Report.{Report}
@@ -49,8 +49,8 @@ FailsBy (Some f) e = e ≡ feed_fault_of f
 
 -- what a feed that met no earlier fault answers
 abbrev pub Feeds : {T : Type 0} → Shipping T → Result (Unit {0}) FeedFault → Type 0
-Feeds s (Ok u) = HasRead s.log.pieces s.log.placed None × (s.fault ≡ None)
-Feeds s (Err (Damaged f)) = HasRead s.log.pieces s.log.placed (Some f) × (s.fault ≡ None)
+Feeds s (Ok u) = HasReadAll s.log None × (s.fault ≡ None)
+Feeds s (Err (Damaged f)) = HasReadAll s.log (Some f) × (s.fault ≡ None)
 Feeds s (Err OutOfMemory) = s.fault ≡ Some queue_fault.OutOfMemory
 Feeds s (Err Gone) = s.fault ≡ Some queue_fault.Gone
 
@@ -63,8 +63,8 @@ Joins old new piece (Err OutOfMemory) = (new.pieces ≡ old.pieces) ⊎ (new.pie
 
 -- how the work has ended: all is resolved, or these samples are not
 abbrev pub HasEndedAs : {T : Type 0} → Shipping T → List (StoppedShard T) → Outcome → Type 0
-HasEndedAs s js (outcome.Complete end) = (end ≡ length s.log.placed) × HasRead s.log.pieces s.log.placed None × AreResolved js
-HasEndedAs s js (outcome.Damaged f) = HasRead s.log.pieces s.log.placed (Some f) × AreResolved js
+HasEndedAs s js (outcome.Complete end) = (end ≡ length s.log.placed) × HasReadAll s.log None × AreResolved js
+HasEndedAs s js (outcome.Damaged f) = HasReadAll s.log (Some f) × AreResolved js
 HasEndedAs s js (outcome.Abandoned placed samples) = (placed ≡ length s.log.placed) × (samples.items ≡ abandoned_in js)
 
 -- The entries placed are the first ones of those fed. The shards of all epochs were put their
@@ -80,5 +80,5 @@ pub record HasStopped {T : Type 0} (tells : T → Type 0) (seen : T → List Exc
   pub all : AreAll s.fleet joined
   pub names : own.names ≡ named (dropped s.log.choice s.log.placed)
   pub filter_count : r.filtered ≡ length (filtered s.log.choice s.log.placed)
-  pub read : Begins s.log.placed (entries s.log.pieces)
+  pub read : Begins s.log.placed (log_of s.log)
   pub ends : HasEndedAs s joined r.outcome

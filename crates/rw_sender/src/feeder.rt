@@ -1,16 +1,18 @@
 //! The entries of a log, one after the other.
 
-ghost use Rattle.std.specs.Prelude.{◌≡◌, ◌⊎◌, ◌<◌, ◌≤◌, ◌^◌, ◌++◌, ◌∷◌, [], length, Some, OnOk, OnErr, IfOk, IfSome};
+ghost use Rattle.std.specs.Prelude.{◌≡◌, ◌≢◌, ◌⊎◌, ◌<◌, ◌≤◌, ◌^◌, ◌++◌, ◌∷◌, [], length, Some, OnOk, OnErr, IfOk, IfSome};
 ghost use Rattle.rw_types.specs.Beginnings.{Begins};
 ghost use Rattle.rw_types.specs.declared.entry.Entry.{Entry};
+ghost use Rattle.rw_external_labels.specs.External.{labelled_entry};
 ghost use Rattle.rw_wal_format.specs.Pieces.{entries};
 ghost use Rattle.rw_wal_tail.specs.Fed.{piece_of, size_of};
 ghost use Rattle.rw_wal_tail.specs.Places.{fault_place};
 ghost use Rattle.rw_series_cache.specs.Routing.{TakesMemory};
 ghost use Rattle.rw_sender.specs.Logs.{named, dropped, filtered};
 ghost use Rattle.rw_wal_tail.specs.Taking.{HasTaken};
-ghost use Rattle.rw_sender.specs.Feeders.{ReadsNext, IsDropped, IsDroppedSample, IsToBeSent, Judges, HasPlaced};
+ghost use Rattle.rw_sender.specs.Feeders.{log_of, ReadsNext, IsDropped, IsDroppedSample, IsToBeSent, Judges, HasPlaced};
 
+use rw_external_labels::ExternalLabels;
 use rw_history::History;
 use rw_ledger::{Ledger, Reason};
 use rw_relabel::Choice;
@@ -34,11 +36,14 @@ pub enum Next {
 /// Reads the entries of a log and routes them: it names the samples that are dropped, counts those
 /// whose series the rules drop, and returns the others with their series.
 ///
-/// It keeps no sample. Contracts see the rules, the pieces of the log, the entries that were
-/// placed, and those that were read and are to be placed.
+/// It keeps no sample. Contracts see the rules, the external labels, the pieces of the log, the
+/// entries that were placed, and those that were read and are to be placed; these entries have the
+/// external labels.
 #[derive(Drop)]
 pub struct Feeder {
+    alloc: Global,
     tail: Tail,
+    labels: ExternalLabels,
     router: Router,
     part: Ledger,
     /// How many entries were placed.
@@ -52,37 +57,53 @@ impl Model for Feeder {
     ghost use Rattle.std.specs.Prelude.{take, drop};
     ghost use Rattle.rw_sender.specs.Feeders.{Sorting};
     ghost use Rattle.rw_sender.specs.inner.Feeders.{IsFeeder};
+    ghost use Rattle.rw_external_labels.specs.External.{labelled};
 
     ghost Value = { Sorting };
 
     ghost view = { λ f. record {
       choice = f.router.cache.choice;
+      labels = f.labels;
       pieces = f.tail.pieces;
-      placed = take f.count f.read;
-      hand = drop f.count f.read;
+      placed = labelled f.labels (take f.count f.read);
+      hand = labelled f.labels (drop f.count f.read);
     } };
 
-    ghost invariant = { λ f. IsFeeder f.tail f.router f.part.names f.count (take f.count f.read)
+    ghost invariant = { λ f. IsFeeder f.labels f.tail f.router f.part.names f.count (take f.count f.read)
         (drop f.count f.read) };
 }
 
 impl Feeder {
     /// Returns a feeder before the first piece of a log. This takes no memory.
     pub fn new(alloc: Global, choice: Choice) -> Feeder
-        ensures { result ≡ record { choice = choice; pieces = []; placed = []; hand = [] } }
+        ensures { result
+            ≡ record { choice = choice; labels = []; pieces = []; placed = []; hand = [] } }
     {
-        Feeder::with_tail(alloc, choice, Tail::new(alloc))
+        Feeder::with_tail(alloc, choice, ExternalLabels::none(), Tail::new(alloc))
     }
 
-    /// Returns a feeder that reads a log with this reader, of which nothing was taken. This takes
-    /// no memory.
-    pub(crate) fn with_tail(alloc: Global, choice: Choice, tail: Tail) -> Feeder
+    /// Returns a feeder that adds these labels, and reads a log with this reader, of which nothing
+    /// was taken. This takes no memory.
+    pub(crate) fn with_tail(
+        alloc: Global,
+        choice: Choice,
+        labels: ExternalLabels,
+        tail: Tail,
+    ) -> Feeder
         requires { HasTaken tail [] }
         ensures { result
-            ≡ record { choice = choice; pieces = tail.pieces; placed = []; hand = [] } }
+            ≡ record {
+              choice = choice;
+              labels = labels;
+              pieces = tail.pieces;
+              placed = [];
+              hand = [];
+            } }
     {
         Feeder {
+            alloc,
             tail,
+            labels,
             router: Router::new(alloc, choice),
             part: Ledger::new(alloc),
             count: 0,
@@ -100,7 +121,8 @@ impl Feeder {
         self.tail.feed_piece(piece)
     }
 
-    /// Returns the next entry.
+    /// Returns the next entry as it is in the log. It is to be placed with the external labels, as
+    /// `label` returns it.
     pub fn read(&mut self) -> Result<Next, AllocError>
         requires { self.old.hand ≡ [] }
         ensures ok { IfOk result (λ next. ReadsNext self.old self.new next) }
@@ -121,6 +143,14 @@ impl Feeder {
                 Ok(Next::Damaged(fault))
             }
         }
+    }
+
+    /// Returns an entry with the external labels. Without external labels this takes no memory.
+    pub fn label(&self, entry: Entry) -> Result<Entry, AllocError>
+        ensures ok { IfOk result (λ e. e ≡ labelled_entry self.now.labels entry) }
+        ensures free { OnErr result (self.now.labels ≢ []) }
+    {
+        self.labels.label(self.alloc, entry)
     }
 
     /// Returns where the fault is that `read` has reported, or `None` before it has reported one.
@@ -212,7 +242,7 @@ impl Feeder {
     pub fn finish(self) -> (Ledger, u64)
         ensures names { result.0.names ≡ named (dropped self.choice self.placed) }
         ensures filtered { result.1 ≡ length (filtered self.choice self.placed) }
-        ensures begins { Begins (self.placed ++ self.hand) (entries self.pieces) }
+        ensures begins { Begins (self.placed ++ self.hand) (log_of self) }
     {
         let Feeder { part, router, .. } = self;
         (part, router.filtered())

@@ -30,4 +30,4 @@ pub use rw_worker::{
     Begun, FeederGone, Lost, Pause, Reply, StopFlag, Stopped, TakingEnd, Tally, Transport, Worker,
     WorkerReport, spawn,
 };
-pub use shipper::{FeedFault, Shipper};
+pub use shipper::{FeedFault, LogOptions, Shipper};

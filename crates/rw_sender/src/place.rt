@@ -1,7 +1,7 @@
 //! Places the entries of the log.
 
 ghost use Rattle.std.specs.Prelude.{◌≡◌, ◌<◌, ◌∷◌, [], length, IfOk, OnOk, None};
-ghost use Rattle.rw_sender.specs.Feeders.{HasRead};
+ghost use Rattle.rw_sender.specs.Feeders.{HasReadAll};
 ghost use Rattle.rw_sender.specs.Sizes.{size_of_sample};
 ghost use Rattle.std.specs.Arc.{arc_value};
 ghost use Rattle.rw_fleet.specs.ShardHistories.{AreSame};
@@ -54,7 +54,7 @@ fn make_room<C: Connect + Drop, R: Wait>(
     Ok(())
 }
 
-/// Places the entry that was read. It may wait for room in a queue.
+/// Places the entry that was read, which has the external labels. It may wait for room in a queue.
 fn place_entry<C: Connect + Drop, R: Wait>(
     rt: &R,
     feeder: &mut Feeder,
@@ -110,6 +110,9 @@ fn place_next<C: Connect + Drop, R: Wait>(
     };
     match next {
         Next::Entry(entry) => {
+            let Ok(entry) = feeder.label(entry) else {
+                return Err(Fault::OutOfMemory);
+            };
             place_entry(rt, feeder, fleet, cuts, entry)?;
             Ok(Progress::Placed)
         }
@@ -131,7 +134,7 @@ pub(crate) fn place_all<C: Connect + Drop, R: Wait>(
     requires places { PlacesAll feeder.old fleet.old }
     requires counted { AreCounted cuts.old.limit cuts.old.rooms fleet.old.current }
     ensures hand { OnOk result (feeder.new.hand ≡ []) }
-    ensures ok { IfOk result (λ found. HasRead feeder.new.pieces feeder.new.placed found) }
+    ensures ok { IfOk result (λ found. HasReadAll feeder.new found) }
     ensures goes { GoesOn cuts.old.limit feeder.old feeder.new fleet.old fleet.new }
     ensures limit { cuts.new.limit ≡ cuts.old.limit }
     ensures cut { OnOk result (GoesCut cuts.old cuts.new fleet.old.current fleet.new.current) }

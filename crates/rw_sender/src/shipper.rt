@@ -3,13 +3,14 @@
 ghost use Rattle.std.specs.Prelude.{◌≡◌, ◌⊎◌, List, true, false, ◌+◌, ◌≤◌, ◌<◌, [], ◌∷◌, ◌++◌, length, map, None, Some, Err, IfOk, IfErr, IfSome, OnOk, is_some};
 ghost use Rattle.rw_wal_tail.specs.Fed.{piece_of};
 ghost use Rattle.rw_wal_tail.specs.Places.{fault_place};
-ghost use Rattle.rw_wal_tail.specs.Taking.{HasTaken, HasRead};
+ghost use Rattle.rw_wal_tail.specs.Taking.{HasTaken};
 ghost use Rattle.rw_fleet.specs.ShardHistories.{AreFresh, AreSame, marked, marks_of};
 ghost use Rattle.rw_fleet.specs.Work.{AreResolved, HasCut};
 ghost use Rattle.rw_fleet.specs.Fleets.{EndBy};
 ghost use Rattle.rw_fleet.specs.Loads.{IsLoad};
 ghost use Rattle.rw_types.specs.declared.entry.Entry.{Entry};
-ghost use Rattle.rw_wal_format.specs.Pieces.{may_compress, entries};
+ghost use Rattle.rw_wal_format.specs.Pieces.{begun_log, fault};
+ghost use Rattle.rw_sender.specs.Feeders.{log_of};
 ghost use Rattle.rw_sender.specs.Logs.{named, dropped, filtered};
 ghost use Rattle.rw_shard_core.specs.Configs.{choice_of};
 ghost use Rattle.rw_sender.specs.Cutting.{AreCutBy};
@@ -23,6 +24,7 @@ use crate::feeder::Feeder;
 use crate::place::place_all;
 use crate::report::Report;
 use crate::unresolved::{finish_listed, open_listed};
+use rw_external_labels::ExternalLabels;
 use rw_fleet::{Connect, Fault, Load, Resolution, ShardSet};
 use rw_ledger::Ledger;
 use rw_relabel::{Choice, Rules};
@@ -97,6 +99,39 @@ fn outcome_of(
     match damage {
         Some(fault) => Outcome::Damaged(fault),
         None => Outcome::Complete(placed),
+    }
+}
+
+/// How a log is read.
+#[derive(Debug, Drop)]
+pub struct LogOptions {
+    /// Whether its records may be Snappy blocks.
+    pub may_compress: bool,
+    /// The labels that are added to each of its series.
+    pub labels: ExternalLabels,
+}
+
+impl LogOptions {
+    /// Returns how a log is read to whose series no labels are added.
+    pub fn without_labels(may_compress: bool) -> LogOptions
+        ensures { result ≡ record { may_compress = may_compress; labels = [] } }
+    {
+        LogOptions {
+            may_compress,
+            labels: ExternalLabels::none(),
+        }
+    }
+}
+
+/// Returns a reader of a log, to which nothing was fed.
+fn tail_for(alloc: Global, may_compress: bool) -> Result<Tail, AllocError>
+    ensures pieces { IfOk result (λ t. t.pieces ≡ begun_log may_compress) }
+    ensures taken { IfOk result (λ t. HasTaken t []) }
+{
+    if may_compress {
+        Tail::for_compressed(alloc)
+    } else {
+        Ok(Tail::new(alloc))
     }
 }
 
@@ -193,7 +228,13 @@ impl<C: Connect + Drop> Shipper<C> {
         connect: C,
     ) -> Result<Shipper<C>, AllocError>
         ensures log { IfOk result (λ s. s.log
-            ≡ record { choice = choice_of config; pieces = []; placed = []; hand = [] }) }
+            ≡ record {
+              choice = choice_of config;
+              labels = [];
+              pieces = [];
+              placed = [];
+              hand = [];
+            }) }
         ensures config { IfOk result (λ s. s.fleet.config ≡ record config { rules = [] }) }
         ensures opened { IfOk result (λ s. (s.fleet.epoch ≡ 0) × (s.fleet.ended ≡ [])
             × (length s.fleet.current ≡ config.shards) × AreFresh 0 s.fleet.current) }
@@ -221,30 +262,10 @@ impl<C: Connect + Drop> Shipper<C> {
         stop: StopFlag,
     ) -> Result<Shipper<C>, AllocError>
         ensures log { IfOk result (λ s. s.log
-            ≡ record { choice = choice_of config; pieces = []; placed = []; hand = [] }) }
-        ensures config { IfOk result (λ s. s.fleet.config ≡ record config { rules = [] }) }
-        ensures opened { IfOk result (λ s. (s.fleet.epoch ≡ 0) × (s.fleet.ended ≡ [])
-            × (length s.fleet.current ≡ config.shards) × AreFresh 0 s.fleet.current) }
-        ensures fault { IfOk result (λ s. s.fault ≡ None) }
-        ensures limit { IfOk result (λ s. s.limit ≡ limit) }
-    {
-        Shipper::start_at(rt, alloc, config, connect, limit, stop, Tail::new(alloc))
-    }
-
-    /// Opens epoch 0 as `start_within` does, for a log that may have records that are Snappy
-    /// blocks. Memory may also run out for one decoded record.
-    pub fn start_compressed<R: Threads + Wait + Copy + Send + 'static>(
-        rt: &R,
-        alloc: Global,
-        config: Config,
-        connect: C,
-        limit: Option<u64>,
-        stop: StopFlag,
-    ) -> Result<Shipper<C>, AllocError>
-        ensures log { IfOk result (λ s. s.log
             ≡ record {
               choice = choice_of config;
-              pieces = may_compress ∷ [];
+              labels = [];
+              pieces = [];
               placed = [];
               hand = [];
             }) }
@@ -254,26 +275,26 @@ impl<C: Connect + Drop> Shipper<C> {
         ensures fault { IfOk result (λ s. s.fault ≡ None) }
         ensures limit { IfOk result (λ s. s.limit ≡ limit) }
     {
-        let tail = Tail::for_compressed(alloc)?;
-        Shipper::start_at(rt, alloc, config, connect, limit, stop, tail)
+        let reading = LogOptions::without_labels(false);
+        Shipper::start_with(rt, alloc, config, connect, limit, stop, reading)
     }
 
-    /// Opens epoch 0, and reads the log with this reader, of which nothing was taken.
-    fn start_at<R: Threads + Wait + Copy + Send + 'static>(
+    /// Opens epoch 0 as `start_within` does, for a log that is read as `reading` says. Memory may
+    /// also run out for one decoded record, or for a series with the external labels.
+    pub fn start_with<R: Threads + Wait + Copy + Send + 'static>(
         rt: &R,
         alloc: Global,
         config: Config,
         connect: C,
         limit: Option<u64>,
         stop: StopFlag,
-        tail: Tail,
+        reading: LogOptions,
     ) -> Result<Shipper<C>, AllocError>
-        requires taken { HasTaken tail [] }
-        requires read { HasRead tail.pieces [] None }
         ensures log { IfOk result (λ s. s.log
             ≡ record {
               choice = choice_of config;
-              pieces = tail.pieces;
+              labels = reading.labels;
+              pieces = begun_log reading.may_compress;
               placed = [];
               hand = [];
             }) }
@@ -283,6 +304,7 @@ impl<C: Connect + Drop> Shipper<C> {
         ensures fault { IfOk result (λ s. s.fault ≡ None) }
         ensures limit { IfOk result (λ s. s.limit ≡ limit) }
     {
+        let tail = tail_for(alloc, reading.may_compress)?;
         let shards = config.fields().shards.get() as u32;
         let (config, choice) = split_choice(alloc, config);
         let cuts = Cuts::within(alloc, limit)?;
@@ -293,7 +315,7 @@ impl<C: Connect + Drop> Shipper<C> {
             return Err(AllocError);
         }
         Ok(Shipper {
-            feeder: Feeder::with_tail(alloc, choice, tail),
+            feeder: Feeder::with_tail(alloc, choice, reading.labels, tail),
             fleet,
             samples,
             cuts,
@@ -312,6 +334,7 @@ impl<C: Connect + Drop> Shipper<C> {
             → Joins self.old.log self.new.log (piece_of piece) result }
         ensures grown { (more : List Entry) × (self.new.log.placed ≡ self.old.log.placed ++ more) }
         ensures choice { self.new.log.choice ≡ self.old.log.choice }
+        ensures labels { self.new.log.labels ≡ self.old.log.labels }
         ensures rest { self.new.fleet ≡ record self.old.fleet { current = self.new.fleet.current } }
         ensures len { length self.new.fleet.current ≡ length self.old.fleet.current }
         ensures placed { PlacesAll self.new.log self.new.fleet }
@@ -478,7 +501,7 @@ impl<C: Connect + Drop> Shipper<C> {
     pub fn load(&self) -> Load
         ensures load { IsLoad self.now.fleet result }
         ensures placed { PlacesAll self.now.log self.now.fleet }
-        ensures read { self.now.fault ≡ None → self.now.log.placed ≡ entries self.now.log.pieces }
+        ensures read { self.now.fault ≡ None → self.now.log.placed ≡ log_of self.now.log }
     {
         self.fleet.load()
     }

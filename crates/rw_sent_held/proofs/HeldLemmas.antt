@@ -42,6 +42,7 @@ use Rattle.rw_simulation.specs.Received.{IsHeld, ReceivesAbandoned, ReceivesInOr
 use Rattle.rw_simulation.specs.StoppedRuns.{IsMachineOf, first_number}
 use Rattle.rw_send.specs.Segments.{AreShortPieces, IsShortPiece, IsShortLog}
 use Rattle.rw_send.specs.Sending.{EndsFor, IsReportOf}
+use Rattle.rw_simulation.proofs.shared.PlainLogs.{read-plain}
 use Rattle.rw_sent_held.specs.Held.{ComesToOne, Holds, HoldsAllOf, machine_of}
 
 -- ---- short pieces are such as a shipper is fed
@@ -137,7 +138,7 @@ module _ {T : Type 0} (tells : T → Type 0) (seen : T → List Exchange) (is_fo
     (in_order : (s : Shipping T) (r : Report T) → ReceivesInOrder tells seen is_for s r)
     (abandoned : (s : Shipping T) (r : Report T) → ReceivesAbandoned tells seen is_for s r)
     (c : ConfigFields) (limit : Option ℕ) (cause : Type 0) (ps : List pieces.Piece) (r : Report T)
-    (report : IsReportOf tells seen is_for c limit cause ps r) (short : AreShortPieces ps) (store : Store)
+    (report : IsReportOf tells seen is_for c limit [] cause ps r) (short : AreShortPieces ps) (store : Store)
     (comes : ComesToOne tells seen is_for c report.shipping r report.stopped store) where
   abbrev s : Shipping T
   s = report.shipping
@@ -153,6 +154,7 @@ module _ {T : Type 0} (tells : T → Type 0) (seen : T → List Exchange) (is_fo
       batch = sym (ap (λ (f : ConfigFields). f.batch) report.config);
     },
     sym report.choice,
+    report.labels_are,
   )
 
   can_work : (n : ℕ) → 1 ≤ n → CanWork (machine n)
@@ -200,7 +202,7 @@ module _ {T : Type 0} (tells : T → Type 0) (seen : T → List Exchange) (is_fo
     named = all.named;
     each = λ l.
         all.whole left l
-        ∙ ap (λ qs. map pair_of (owed all.names qs)) (all_below s.log.choice (entries s.log.pieces) l s.log.placed ends.1.all)
+        ∙ ap (λ qs. map pair_of (owed all.names qs)) (all_below s.log.choice (entries s.log.pieces) l s.log.placed (read-plain s.log None report.labels_are ends.1).all)
         ∙ ap (λ (choice : Choice). map pair_of (owed all.names (kept_points choice (entries s.log.pieces) l))) report.choice
         ∙ ap (λ (qs : List pieces.Piece). map pair_of (owed all.names (kept_points (choice_of c) (entries qs) l))) report.pieces_are;
   }

@@ -1,5 +1,5 @@
 -- What one receiver holds of a log that was sent.
-use Rattle.std.specs.Prelude.{◌≡◌, ℕ, ◌≤◌, Bool, false, List, length, map, Option, Result}
+use Rattle.std.specs.Prelude.{◌≡◌, ℕ, ◌≤◌, Bool, false, List, [], length, map, Option, Result}
 use Rattle.std.specs.Ordering.{nat_cmp}
 use Rattle.std.specs.FinMap.{FinMap}
 use Rattle.rw_types.specs.Labels.{Labels}
@@ -18,6 +18,7 @@ use Rattle.rw_worker.specs.Transcript.{Exchange}
 use Rattle.rw_sender.specs.Reports.{IsAbandoned, parts_of}
 use Rattle.rw_sender.specs.Shipping.{Shipping, HasStopped}
 use Rattle.rw_sender.specs.declared.report.Report.{Report}
+use Rattle.rw_sender.specs.declared.shipper.LogOptions.{LogOptions}
 use Rattle.rw_restarts.specs.Arrivals.{Arrival, AreExchangesOf}
 use Rattle.rw_simulation.specs.OneReceivers.{IsOneReceiver}
 use Rattle.rw_simulation.specs.Received.{IsHeld}
@@ -72,11 +73,15 @@ pub record Holds {T : Type 0} (c : ConfigFields) (s : Shipping T) (pieces : List
   pub placed : (IsAbandoned r.outcome → length s.fleet.current ≤ 1000) → IsHeld s r store
   pub complete : (end : ℕ) → r.outcome ≡ Complete end → HoldsAllOf c pieces r store
 
+-- a log that has no Snappy blocks, and gets no external labels
+abbrev pub as_it_is : LogOptions
+as_it_is = record { may_compress = false; labels = [] }
+
 -- whichever receiver its requests come to
 abbrev pub ReportIsHeld : {T : Type 0} (tells : T → Type 0) (seen : T → List Exchange)
     (is_for : ℕ → ℕ → T → Type 0) (c : ConfigFields) (limit : Option ℕ) (cause : Type 0)
     (pieces : List Piece) (r : Report T)
-    → IsReportOf tells seen is_for c limit cause pieces r → Type 0
+    → IsReportOf tells seen is_for c limit [] cause pieces r → Type 0
 ReportIsHeld tells seen is_for c limit cause pieces r report =
     (store : Store) → ComesToOne tells seen is_for c report.shipping r report.stopped store
     → Holds c report.shipping pieces r store
@@ -85,6 +90,6 @@ abbrev pub SentIsHeld : {T : Type 0} → (T → Type 0) → (T → List Exchange
     → ConfigFields → Option ℕ → Seen → Bool → StopRequest → Report T
     → Result (Unit {0}) FollowFault → Type 0
 SentIsHeld tells seen is_for c limit log quiet said r answer =
-    (sent : IsSent tells seen is_for c limit false log quiet said r answer)
+    (sent : IsSent tells seen is_for c limit as_it_is log quiet said r answer)
     → ReportIsHeld tells seen is_for c limit (StopsAtOnce log said (meal_of sent.pieces) answer)
     sent.pieces r sent.report

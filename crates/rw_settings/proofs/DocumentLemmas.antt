@@ -7,6 +7,7 @@ use Rattle.rw_shard_core.specs.Configs.{is_ordered}
 use Rattle.rw_settings.specs.Faults.{fault_number, lesser, least}
 use Rattle.rw_settings.specs.Keys.{send_keys, table_fault}
 use Rattle.rw_settings.specs.RuleTables.{rules_of}
+use Rattle.rw_settings.specs.SentLabels.{external_fault}
 use Rattle.rw_settings.specs.Sending.{send_fields, order_fault, send_fault}
 use Rattle.rw_settings.specs.Settings.{document_fault, settings_of, settings_if, unless_faulty, IsRefusedRule, IsFaultOf}
 use Rattle.rw_settings.specs.Values.{section, list_at, part_fault, part_or}
@@ -36,8 +37,11 @@ unfolding least
 least_none fs h = (none_among None fs h).1
 
 -- a table `send` without a fault is in order
-ordered_send : (table : Members) → send_fault table ≡ None → order_fault table ≡ None
-ordered_send table h = (lesser_none (table_fault send_keys table) (order_fault table) h).1
+pub ordered_send : (table : Members) → send_fault table ≡ None → order_fault table ≡ None
+ordered_send table h =
+    let keys = table_fault send_keys table in
+    let order = order_fault table in
+    (lesser_none keys order (lesser_none (lesser keys order) (external_fault table) h).0).1
 
 ordered_part : (o : Option Members) → part_fault send_fault o ≡ None → order_fault (part_or no_members o) ≡ None
 ordered_part None h = absurd cc

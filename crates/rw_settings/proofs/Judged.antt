@@ -14,13 +14,13 @@ use Rattle.rw_shard_core.specs.declared.config.ConfigFields.{ConfigFields}
 use Rattle.rw_head.specs.declared.limits.Limits.{Limits}
 use Rattle.rw_settings.specs.Faults.{lesser, least}
 use Rattle.rw_settings.specs.Receiving.{receive_limits, receive_fault, receive_values}
-use Rattle.rw_settings.specs.Keys.{Row, host, path, shards, min_shards, max_shards, capacity, batch, min_backoff_ms, max_backoff_ms, timeout_ms, max_body_bytes, max_labels, max_label_bytes, busy_first, snappy, headers, bearer_token_file, send_keys, receive_keys, number_for, number_setting, switch_setting, table_fault}
+use Rattle.rw_settings.specs.Keys.{Row, host, path, shards, min_shards, max_shards, capacity, batch, min_backoff_ms, max_backoff_ms, timeout_ms, max_body_bytes, max_labels, max_label_bytes, busy_first, snappy, headers, bearer_token_file, external_labels, send_keys, receive_keys, number_for, number_setting, switch_setting, table_fault}
 use Rattle.rw_settings.specs.RuleTables.{rule_table_fault, rule_fault_of, with_rules_fault, texts_of, rule_config, rules_of}
 use Rattle.rw_settings.specs.Sending.{send_fields, order_fault, send_fault, send_values}
 use Rattle.rw_settings.specs.Values.{Setting, of_number, of_true, of_text, of_texts, switch_values, names_text, are_texts, labels_fault, source_fault, number_at, text_if, text_setting, names_in, found_or, part_or, list_at}
 use Rattle.rw_settings.specs.declared.fault.SettingsFault.{SettingsFault}
 use Rattle.rw_settings.specs.declared.keys.Kind.{Kind}
-use Rattle.rw_settings.proofs.DocumentLemmas.{lesser_none, least_none}
+use Rattle.rw_settings.proofs.DocumentLemmas.{lesser_none, least_none, ordered_send}
 use Rattle.rw_settings.proofs.KeyLemmas.{IsIn, number_taken}
 use Rattle.rw_settings.proofs.Written.{text_items, Fits}
 use Rattle.rw_settings.proofs.Defined.{send_members, receive_members, rule_members, with_rules}
@@ -95,8 +95,8 @@ switches_suit false rows = tt
 pub send_taken : (ms : Members) (rules : List RuleConfig) → send_fault ms ≡ None → SendTaken (send_fields ms rules)
 unfolding order_fault send_fields
 send_taken ms rules h = record {
-  suits = (text_taken is_host_name (codes "localhost:9090") (get_member host.0 ms) refl, (text_taken is_request_path (codes "/api/v1/write") (get_member path.0 ms) refl, (number_row shards ms refl, (number_row min_shards ms refl, (number_row max_shards ms refl, (number_row capacity ms refl, (number_row batch ms refl, (number_row min_backoff_ms ms refl, (number_row max_backoff_ms ms refl, (number_row timeout_ms ms refl, (refl, switches_suit (switch_setting snappy ms) (headers ∷ bearer_token_file ∷ []))))))))))));
-  ordered = in_order _ (lesser_none (table_fault send_keys ms) (order_fault ms) h).1;
+  suits = (text_taken is_host_name (codes "localhost:9090") (get_member host.0 ms) refl, (text_taken is_request_path (codes "/api/v1/write") (get_member path.0 ms) refl, (number_row shards ms refl, (number_row min_shards ms refl, (number_row max_shards ms refl, (number_row capacity ms refl, (number_row batch ms refl, (number_row min_backoff_ms ms refl, (number_row max_backoff_ms ms refl, (number_row timeout_ms ms refl, (refl, switches_suit (switch_setting snappy ms) (headers ∷ bearer_token_file ∷ external_labels ∷ []))))))))))));
+  ordered = in_order _ (ordered_send ms h);
 }
 
 abbrev pub LimitsTaken : Limits → Type 0

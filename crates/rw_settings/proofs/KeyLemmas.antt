@@ -7,7 +7,7 @@ use Rattle.std.proofs.lemmas.Bool.Decides.{nat_tests}
 use Rattle.toml.specs.Data.{Data, as_integer}
 use Rattle.toml.specs.View.{members_view}
 use Rattle.toml.specs.declared.value.Value.{Value}
-use Rattle.rw_settings.specs.Keys.{Row, snappy, headers, bearer_token_file, number_for, has_only}
+use Rattle.rw_settings.specs.Keys.{Row, snappy, headers, bearer_token_file, external_labels, number_for, has_only}
 use Rattle.rw_settings.specs.inner.Keys.{has_range}
 use Rattle.rw_settings.specs.SentFields.{member_names}
 use Rattle.rw_settings.specs.SettingsText.{lines_of}
@@ -26,7 +26,7 @@ has_only-entries rows [] = refl
 has_only-entries rows (e ∷ es) = ap (λ b. list_any (λ row. bytes_eq (string_bytes e.0) row.0) rows && b) (has_only-entries rows es)
 
 -- the line of a switch, whatever keys come after it
-pub switch_lines : (on : Bool) → lines_of (snappy ∷ []) (switch_values on) ≡ lines_of (snappy ∷ headers ∷ bearer_token_file ∷ []) (switch_values on)
+pub switch_lines : (on : Bool) → lines_of (snappy ∷ []) (switch_values on) ≡ lines_of (snappy ∷ headers ∷ bearer_token_file ∷ external_labels ∷ []) (switch_values on)
 switch_lines true = refl
 switch_lines false = refl
 

@@ -1,5 +1,6 @@
 pub mod DocumentLemmas
 pub mod KeyLemmas
+pub mod LabelLemmas
 pub mod LineLemmas
 pub mod NoteLemmas
 pub mod RuleLemmas

@@ -6,7 +6,7 @@ use Rattle.toml.proofs.ReadLines.{AllPrinted}
 use Rattle.rw_relabel.specs.Rules.{RuleConfig}
 use Rattle.rw_shard_core.specs.declared.config.ConfigFields.{ConfigFields}
 use Rattle.rw_head.specs.declared.limits.Limits.{Limits}
-use Rattle.rw_settings.specs.Keys.{Row, snappy, headers, bearer_token_file}
+use Rattle.rw_settings.specs.Keys.{Row, snappy, headers, bearer_token_file, external_labels}
 use Rattle.rw_settings.specs.Values.{switch_values}
 use Rattle.rw_settings.specs.declared.settings.Settings.{Settings}
 use Rattle.rw_settings.proofs.Written.{text_items, pairs_of, send_expressions, receive_expressions, log_expressions, rule_expressions}
@@ -28,7 +28,7 @@ switch_printed row rows true = (scalar, none_printed rows)
 switch_printed row rows false = tt
 
 send_printed : (send : ConfigFields) → AllPrinted (send_expressions send)
-send_printed send = (omega arith, (scalar, (scalar, (scalar, (scalar, (scalar, (scalar, (scalar, (scalar, (scalar, (scalar, (scalar, switch_printed snappy (headers ∷ bearer_token_file ∷ []) send.snappy))))))))))))
+send_printed send = (omega arith, (scalar, (scalar, (scalar, (scalar, (scalar, (scalar, (scalar, (scalar, (scalar, (scalar, (scalar, switch_printed snappy (headers ∷ bearer_token_file ∷ external_labels ∷ []) send.snappy))))))))))))
 
 receive_printed : (limits : Limits) → AllPrinted (receive_expressions limits)
 receive_printed limits = (omega arith, (scalar, (scalar, (scalar, (scalar, (scalar, (scalar, switch_printed snappy [] limits.snappy)))))))

@@ -130,7 +130,7 @@ pairs_written (row ∷ rows) (s ∷ settings) bare fits =
 pub send_written : (send : ConfigFields) → AllByRecursion Fits (send_values send) → IsLinesText false false (send_expressions send) (send_text send)
 unfolding send_text key_text
 send_written send fits =
-    let bare : AllByRecursion IsBare send_keys = (refl, (refl, (refl, (refl, (refl, (refl, (refl, (refl, (refl, (refl, (refl, (refl, (refl, (refl, tt)))))))))))))) in
+    let bare : AllByRecursion IsBare send_keys = (refl, (refl, (refl, (refl, (refl, (refl, (refl, (refl, (refl, (refl, (refl, (refl, (refl, (refl, (refl, tt))))))))))))))) in
     lines_text false (send_expressions send) (send_lines send) (refl, pairs_written send_keys (send_values send) bare fits)
 
 pub receive_written : (limits : Limits) → AllByRecursion Fits (receive_values limits) → IsLinesText false true (receive_expressions limits) (receive_text limits)

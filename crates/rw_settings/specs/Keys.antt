@@ -68,11 +68,14 @@ headers = (codes "headers", Kind.Fields)
 abbrev pub bearer_token_file : Row
 bearer_token_file = (codes "bearer_token_file", Kind.Text)
 
--- the last two are never printed
+abbrev pub external_labels : Row
+external_labels = (codes "labels", Kind.Part)
+
+-- the last three are never printed
 abbrev pub send_keys : List Row
 send_keys =
     host ∷ path ∷ shards ∷ min_shards ∷ max_shards ∷ capacity ∷ batch ∷ min_backoff_ms ∷ max_backoff_ms ∷ timeout_ms ∷ names ∷ snappy
-    ∷ headers ∷ bearer_token_file ∷ []
+    ∷ headers ∷ bearer_token_file ∷ external_labels ∷ []
 
 abbrev pub max_body_bytes : Row
 max_body_bytes = (codes "max_body_bytes", Kind.Number 1 67108864 16777216)

@@ -1,5 +1,6 @@
 pub mod Faults
 pub mod SentFields
+pub mod SentLabels
 pub mod Keys
 pub mod LogTable
 pub mod Notes

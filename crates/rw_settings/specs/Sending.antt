@@ -6,6 +6,7 @@ use Rattle.rw_shard_core.specs.Configs.{is_ordered}
 use Rattle.rw_shard_core.specs.declared.config.ConfigFields.{ConfigFields}
 use Rattle.rw_settings.specs.Faults.{lesser}
 use Rattle.rw_settings.specs.Keys.{send_keys, shards, min_shards, max_shards, capacity, batch, min_backoff_ms, max_backoff_ms, timeout_ms, snappy, number_setting, switch_setting, host_of, path_of, names_setting, table_fault}
+use Rattle.rw_settings.specs.SentLabels.{external_fault}
 use Rattle.rw_settings.specs.Values.{Setting, of_number, of_text, names_text, switch_values}
 use Rattle.rw_settings.specs.declared.fault.SettingsFault.{SettingsFault}
 use Rattle.rw_settings.specs.declared.fault.SettingsFault.TheVariants.{OutOfRange}
@@ -32,7 +33,7 @@ unfoldable pub order_fault : Members → Option SettingsFault
 order_fault table = if is_ordered (send_fields table []) then None else Some OutOfRange
 
 abbrev pub send_fault : Members → Option SettingsFault
-send_fault table = lesser (table_fault send_keys table) (order_fault table)
+send_fault table = lesser (lesser (table_fault send_keys table) (order_fault table)) (external_fault table)
 
 -- the values in the order of the keys
 abbrev pub send_values : ConfigFields → List Setting

@@ -11,6 +11,7 @@ ghost use Rattle.rw_settings.specs.Notes.{noted, IsLeastNoted};
 ghost use Rattle.rw_settings.specs.Receiving.{receive_fault};
 ghost use Rattle.rw_settings.specs.RuleTables.{rule_fault_of, with_rules_fault};
 ghost use Rattle.rw_settings.specs.Sending.{order_fault, send_fault};
+ghost use Rattle.rw_settings.specs.SentLabels.{external_fault};
 ghost use Rattle.rw_settings.specs.Settings.{document_fault, settings_if, settings_in};
 ghost use Rattle.rw_settings.specs.Values.{part_fault, section, list_at};
 ghost use Rattle.rw_settings.specs.declared.fault.SettingsFault.TheVariants.{NotToml, WrongType, BadRule};
@@ -21,6 +22,7 @@ use crate::notes::{SettingsNote, note_keys, note_table, push_note};
 use crate::order_text::order_text;
 use crate::read::text_in;
 use crate::send_table::order_fault;
+use crate::sent_labels::{labels_fault, wrong_labels};
 use crate::values::{list_at, list_or_none, section, value_at};
 use regex::Regex;
 use std::alloc::{AllocError, Global};
@@ -41,6 +43,21 @@ fn note_order(alloc: Global, notes: &mut Vec<SettingsNote>, send: &Table) -> Res
     push_note(notes, fault, place, text)
 }
 
+/// Adds a note if a label that is added cannot be.
+#[tactic(auto, using(crate::proofs::NoteLemmas::lesser_of_none))]
+fn note_labels(alloc: Global, notes: &mut Vec<SettingsNote>, send: &Table) -> Result<(), AllocError>
+    ensures { OnOk result
+        (noted notes.new.items
+        ≡ lesser (noted notes.old.items) (external_fault (table_view send.now))) }
+{
+    let Some(fault) = labels_fault(send) else {
+        return Ok(());
+    };
+    let place = String::from_str(alloc, "send.labels")?;
+    let text = wrong_labels(alloc, send)?;
+    push_note(notes, fault, place, text)
+}
+
 /// Adds a note on each fault of the table `send`.
 #[tactic(auto, using(crate::proofs::NoteLemmas::lesser_assoc))]
 fn note_send(alloc: Global, notes: &mut Vec<SettingsNote>, send: &Table) -> Result<(), AllocError>
@@ -50,6 +67,7 @@ fn note_send(alloc: Global, notes: &mut Vec<SettingsNote>, send: &Table) -> Resu
 {
     note_table(alloc, notes, "send.", send, send_keys())?;
     note_order(alloc, notes, send)?;
+    note_labels(alloc, notes, send)?;
     Ok(())
 }
 

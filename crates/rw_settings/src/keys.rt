@@ -26,7 +26,7 @@ pub(crate) enum Kind {
     Text,
     /// A table of fields of requests: names and values.
     Fields,
-    /// A table, or a list of tables, which has keys of its own.
+    /// A table, or a list of tables, that has keys of its own and is judged by itself.
     Part,
 }
 
@@ -81,7 +81,11 @@ pub(crate) const HEADERS: Key = Key("headers", Kind::Fields);
 /// A file whose text is sent as `Authorization: Bearer TEXT` (default none).
 pub(crate) const BEARER_TOKEN_FILE: Key = Key("bearer_token_file", Kind::Text);
 
-static SEND: [Key; 14] = [
+/// [Labels](OPERATING.md#external-labels) that are added to each series that has none of their
+/// name, as the `external_labels` of a Prometheus. Their names are such as `names` says.
+pub(crate) const LABELS: Key = Key("labels", Kind::Part);
+
+static SEND: [Key; 15] = [
     HOST,
     SEND_PATH,
     SHARDS,
@@ -96,6 +100,7 @@ static SEND: [Key; 14] = [
     SEND_SNAPPY,
     HEADERS,
     BEARER_TOKEN_FILE,
+    LABELS,
 ];
 
 /// The path of the endpoint. Another one is answered with 404.

@@ -11,6 +11,7 @@ use crate::keys::{
     TIMEOUT_MS, send_keys,
 };
 use crate::printed_values::{Shown, names_text, push_lines, push_switch};
+use crate::sent_labels::labels_fault;
 use crate::table_faults::table_fault;
 use crate::values::{bounded_of, host_of, is_on, names_of, number_of, path_of};
 use rw_relabel::Rules;
@@ -67,7 +68,8 @@ pub(crate) fn order_fault(send: &Table) -> Option<SettingsFault>
 pub(crate) fn send_fault(send: &Table) -> Option<SettingsFault>
     ensures { result ≡ send_fault (table_view send.now) }
 {
-    lesser(table_fault(send, send_keys()), order_fault(send))
+    let fault = lesser(table_fault(send, send_keys()), order_fault(send));
+    lesser(fault, labels_fault(send))
 }
 
 /// Adds the table `send`.

@@ -6,6 +6,8 @@ use Rattle.std.proofs.lemmas.Bool.{eqb-true, and_parts}
 use Rattle.std.proofs.lemmas.List.{length-map, map-append}
 use Rattle.std.proofs.lemmas.List.Folds.{list_any-append}
 use Rattle.std.proofs.lemmas.Option.{same_Some, none-some}
+use Rattle.rw_types.specs.Beginnings.{Begins}
+use Rattle.rw_simulation.proofs.shared.PlainLogs.{begins-plain}
 use Rattle.rw_types.specs.declared.entry.Entry.{Entry}
 use Rattle.rw_types.specs.declared.place.Place.{Place}
 use Rattle.rw_types.specs.Gathering.{gather_from}
@@ -420,10 +422,13 @@ module _ {T : Type 0} (tells : T → Type 0) (seen : T → List Exchange) (is_fo
       }
 
 -- ---- from the start
-module _ {T : Type 0} (tells : T → Type 0) (seen : T → List Exchange) (is_for : ℕ → ℕ → T → Type 0) (c : Setup) (s : Shipping T) (r : Report T) (fed : List Fed) (h : HasStopped tells seen is_for s r) (was : Shards T) (p : PlacesAll s.log was) (set : IsSetAs c s.fleet.config) (choice : c.choice ≡ s.log.choice) (work : CanWork c) (fed_are : s.log.pieces ≡ map piece_of fed)
+module _ {T : Type 0} (tells : T → Type 0) (seen : T → List Exchange) (is_for : ℕ → ℕ → T → Type 0) (c : Setup) (s : Shipping T) (r : Report T) (fed : List Fed) (h : HasStopped tells seen is_for s r) (was : Shards T) (p : PlacesAll s.log was) (set : IsSetAs c s.fleet.config) (choice : c.choice ≡ s.log.choice) (plain : s.log.labels ≡ []) (work : CanWork c) (fed_are : s.log.pieces ≡ map piece_of fed)
     (all : AreAll was h.joined) (resolved : AreResolved was.ended) (number : IsShardCount (length was.current)) (first : first_number p.epochs was.current ≡ c.shards) where
   abbrev last : List (StoppedShard T)
   last = all.0
+
+  begun : Begins s.log.placed (entries s.log.pieces)
+  begun = begins-plain s.log plain h.read
 
   same : length (map lane_of last) ≡ length was.current
   same = same_length was.current (map lane_of last) all.2
@@ -448,14 +453,14 @@ module _ {T : Type 0} (tells : T → Type 0) (seen : T → List Exchange) (is_fo
   ComesHere = Comes tells seen is_for c s.fleet.config set work (no_more tells seen is_for) s.log.pieces (map lane_of last)
 
   at-last : AtLast c.choice (map lane_of last) ComesHere was.ended [] s.log.placed
-  at-last = turn-all (Sound tells seen is_for c s.fleet.config set work (no_more tells seen is_for)) c.choice s.log.pieces (map lane_of last) h.read.0 ComesHere (turn-run tells seen is_for c s.fleet.config set work (no_more tells seen is_for) s.log.pieces (map lane_of last)) p.epochs 0 [] was.ended [] s.log.placed
-      sound p.ended_is placed (turned-before p.epochs (map lane_of last) p.turned (subst IsShardCount (sym same) number)) h.read.1
+  at-last = turn-all (Sound tells seen is_for c s.fleet.config set work (no_more tells seen is_for)) c.choice s.log.pieces (map lane_of last) begun.0 ComesHere (turn-run tells seen is_for c s.fleet.config set work (no_more tells seen is_for) s.log.pieces (map lane_of last)) p.epochs 0 [] was.ended [] s.log.placed
+      sound p.ended_is placed (turned-before p.epochs (map lane_of last) p.turned (subst IsShardCount (sym same) number)) begun.1
       (subst (λ (i : ℕ). Reaches ⊥ c (start c) (BeginsEpoch c (past_of tells seen []) s.log.pieces 0 i [])) (sym (first-is p.epochs ∙ first)) (begun-run tells seen c s.log.pieces fed fed_are))
 
   whole : Reaches ⊥ c (start c) (Killed tells seen is_for c s.fleet.config set work (no_more tells seen is_for) was.ended s.log.pieces (at-last.now ++ at-last.later) last)
-  whole = go-on c (start c) _ _ at-last.at (λ w b. abandoned-run tells seen is_for c s.fleet.config set work (no_more tells seen is_for) at-last.epoch last known-last (subst (λ (m : ℕ). 1 ≤ m) (sym same ∙ length-map last lane_of) number.0) at-last.now at-last.later at-last.dealt h.read.0 was.ended s.log.pieces w
+  whole = go-on c (start c) _ _ at-last.at (λ w b. abandoned-run tells seen is_for c s.fleet.config set work (no_more tells seen is_for) at-last.epoch last known-last (subst (λ (m : ℕ). 1 ≤ m) (sym same ∙ length-map last lane_of) number.0) at-last.now at-last.later at-last.dealt begun.0 was.ended s.log.pieces w
       (subst (λ (m : ℕ). BeginsEpoch c (past_of tells seen was.ended) s.log.pieces at-last.epoch m at-last.now w) (length-map last lane_of) b)
-      (h.read.1 ∙ ap (λ (xs : List Entry). xs ++ h.read.0) at-last.are ∙ append_assoc at-last.now at-last.later h.read.0))
+      (begun.1 ∙ ap (λ (xs : List Entry). xs ++ begun.0) at-last.are ∙ append_assoc at-last.now at-last.later begun.0))
 
   over : Killed tells seen is_for c s.fleet.config set work (no_more tells seen is_for) was.ended s.log.pieces (at-last.now ++ at-last.later) last whole.world
   over = whole.holds
@@ -494,4 +499,4 @@ module _ {T : Type 0} (tells : T → Type 0) (seen : T → List Exchange) (is_fo
   )
 
 pub stops-abandoned : {T : Type 0} (tells : T → Type 0) (seen : T → List Exchange) (is_for : ℕ → ℕ → T → Type 0) (s : Shipping T) (r : Report T) → StopsAbandoned tells seen is_for s r
-stops-abandoned {T} tells seen is_for s r c fed h was p machine work fed_are all resolved number first left = whole-run tells seen is_for c s r fed h was p machine.0 machine.1 work fed_are all resolved number first left
+stops-abandoned {T} tells seen is_for s r c fed h was p machine work fed_are all resolved number first left = whole-run tells seen is_for c s r fed h was p machine.0 machine.1 machine.2 work fed_are all resolved number first left

@@ -34,7 +34,8 @@ use Rattle.rw_fleet.specs.declared.joined.StoppedShard.{StoppedShard}
 use Rattle.rw_fleet.specs.declared.joined.Finished.{Finished}
 use Rattle.rw_fleet.specs.Fleets.{EndBy}
 use Rattle.rw_fleet.proofs.shared.LaneLemmas.{same_length}
-use Rattle.rw_sender.specs.Feeders.{HasRead}
+use Rattle.rw_wal_tail.specs.Taking.{HasRead}
+use Rattle.rw_simulation.proofs.shared.PlainLogs.{read-plain}
 use Rattle.rw_sender.specs.Logs.{sent, sent_of, filtered}
 use Rattle.rw_sender.specs.Placement.{IsDealt, IsShardCount, AreTurned, Places, joined_epochs}
 use Rattle.rw_sender.specs.Reports.{IsAbandoned}
@@ -495,8 +496,8 @@ stops-as-run {T} tells seen is_for s r c fed h epochs machine work fed_are e p n
     placed = subst (λ (ch : Choice). Places 0 epochs (sent ch s.log.placed)) (sym machine.1) p
 
     by_outcome : (o : Outcome) → r.outcome ≡ o → HasEndedAs s h.joined o → (IsAbandoned o → ⊥) → IsRun tells seen c s r
-    by_outcome (outcome.Complete end) is ended whole = finish tells seen is_for c s r fed h machine.0 machine.1 work fed_are epochs e placed numbers turn ended.2 left None ended.1 (ap ending_of is ∙ ap Complete ended.0)
-    by_outcome (outcome.Damaged f) is ended whole = finish tells seen is_for c s r fed h machine.0 machine.1 work fed_are epochs e placed numbers turn ended.1 left (Some f) ended.0 (ap ending_of is)
+    by_outcome (outcome.Complete end) is ended whole = finish tells seen is_for c s r fed h machine.0 machine.1 work fed_are epochs e placed numbers turn ended.2 left None (read-plain s.log None machine.2 ended.1) (ap ending_of is ∙ ap Complete ended.0)
+    by_outcome (outcome.Damaged f) is ended whole = finish tells seen is_for c s r fed h machine.0 machine.1 work fed_are epochs e placed numbers turn ended.1 left (Some f) (read-plain s.log (Some f) machine.2 ended.0) (ap ending_of is)
     by_outcome (outcome.Abandoned count samples) is ended whole = absurd (whole tt)
 
 -- ---- the epochs that the shipper knows, and the last one

@@ -1,4 +1,5 @@
 pub mod Passed
 pub mod Pasts
+pub mod PlainLogs
 pub mod ReceivedRuns
 pub mod Seatings

@@ -40,9 +40,10 @@ pub record IsSetAs (c : Setup) (config : ConfigFields) : Type 0 where
   pub capacity : c.capacity ≡ config.capacity
   pub batch : c.batch ≡ config.batch
 
--- it is the machine of this shipper, which sends the same series
+-- it is the machine of this shipper, which sends the same series, and adds no external labels
 abbrev pub IsMachineOf : {T : Type 0} → Setup → Shipping T → Type 0
-IsMachineOf c s = IsSetAs c s.fleet.config × (c.choice ≡ s.log.choice)
+IsMachineOf c s =
+    IsSetAs c s.fleet.config × (c.choice ≡ s.log.choice) × (s.log.labels ≡ [])
 
 -- the later epochs have 1 to 1000 shards each
 abbrev pub AreNumbers : List (List ShardHistory) → Type 0

@@ -5,8 +5,9 @@ use crate::input::{Form, Input};
 use crate::inspect_command::LogCommand;
 use crate::output::{Output, open_output};
 use crate::program_end::{report_settings_fault, report_unread_input};
-use crate::settings::{dir_with, settings_in};
+use crate::settings::{dir_with, external_labels_in, settings_in};
 use rw_cli::{LogDir, SettingsFile};
+use rw_external_labels::ExternalLabels;
 use rw_log_commands::{run_body_with, run_log, run_log_dir, run_plan_with};
 use rw_replay::run_replay;
 use rw_settings::Settings;
@@ -80,13 +81,20 @@ impl<'a> InputCommand<'a> {
     }
 
     /// Prints the plan of a segment.
-    fn plan(&mut self, settings: Settings, hex: bool, may_compress: bool) -> ExitCode {
+    fn plan(
+        &mut self,
+        settings: Settings,
+        labels: ExternalLabels,
+        hex: bool,
+        may_compress: bool,
+    ) -> ExitCode {
         let mut reader = self.input.reader(self.rt);
         let outcome = run_plan_with(
             self.rt.alloc(),
             &mut reader,
             &mut self.output,
             settings,
+            labels,
             hex,
             may_compress,
         );
@@ -140,16 +148,20 @@ pub fn plan(
         Ok(settings) => settings,
         Err(fault) => return report_settings_fault(rt, fault),
     };
+    let labels = match external_labels_in(rt, file, settings.config.fields().names) {
+        Ok(labels) => labels,
+        Err(fault) => return report_settings_fault(rt, fault),
+    };
     let Some(dir) = dir else {
         let may_compress = may_compress || settings.may_compress;
         let form = Form::of_segment(hex, may_compress);
         return match InputCommand::open(rt, form, file.is_explained) {
-            Ok(mut command) => command.plan(settings, hex, may_compress),
+            Ok(mut command) => command.plan(settings, labels, hex, may_compress),
             Err(status) => status,
         };
     };
     let dir = dir_with(dir, &settings);
-    LogCommand::new(rt, dir, file.is_explained).plan(settings)
+    LogCommand::new(rt, dir, file.is_explained).plan(settings, labels)
 }
 
 /// Plays a script and prints the state at its end.

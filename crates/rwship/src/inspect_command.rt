@@ -7,6 +7,7 @@ use crate::log_files::{files_of, names_of, note_checkpoint, note_empty, note_gap
 use crate::output::{Output, has_output_failed, open_output, report_output_fault};
 use crate::program_end::{report_missing, report_unread_input};
 use rw_cli::LogDir;
+use rw_external_labels::ExternalLabels;
 use rw_follow::Queue;
 use rw_inspect::{LogFindings, fault_lines, find_entries, inspect, json_of, table_of};
 use rw_log_commands::plan_log;
@@ -136,7 +137,11 @@ impl<'a> LogCommand<'a> {
     }
 
     /// Prints the plan of the segments.
-    fn print_plan(&mut self, settings: Settings) -> Result<(), LogReadFault> {
+    fn print_plan(
+        &mut self,
+        settings: Settings,
+        labels: ExternalLabels,
+    ) -> Result<(), LogReadFault> {
         let LogFiles { files, names } = self.files()?;
         let mut log = Queue::new(files);
         let choice = settings.config.into_fields().into_choice();
@@ -145,6 +150,7 @@ impl<'a> LogCommand<'a> {
             &mut log,
             &mut self.output,
             choice,
+            labels,
             self.dir.may_compress,
         ) {
             Ok(Some(damage)) => Err(LogReadFault::of_damage(names, damage)),
@@ -189,11 +195,11 @@ impl<'a> LogCommand<'a> {
     }
 
     /// Prints the plan of the log.
-    pub fn plan(&mut self, settings: Settings) -> ExitCode {
+    pub fn plan(&mut self, settings: Settings, labels: ExternalLabels) -> ExitCode {
         if self.is_explained {
             note_checkpoint(self.rt, self.dir);
         }
-        let outcome = self.print_plan(settings);
+        let outcome = self.print_plan(settings, labels);
         self.end(outcome)
     }
 }

@@ -20,6 +20,7 @@ mod receive_command;
 mod refusal;
 mod refusal_lines;
 mod request_access;
+mod resume;
 mod send_command;
 mod settings;
 mod stop;

@@ -15,16 +15,18 @@ use crate::program_end::{
 };
 use crate::refusal::{ReceiverStops, report_receiver_stop};
 use crate::request_access::{RequestAccess, access_in};
-use crate::settings::{dir_with, settings_in};
+use crate::resume::{ResumePoint, gone_status, print_gone, resume_point};
+use crate::settings::{dir_with, external_labels_in, settings_in};
 use crate::stop::{Awaited, is_misplaced, note_left_file, report_stop, stop_signal};
 use crate::waiting::wait_for_start;
 use rw_cli::{Following, LogDir, ReadExtent, Sending, SettingsFile};
 use rw_follow::{Queue, StopSignal, Timed};
 use rw_log_folder::{Folder, FolderFault, Opened, SegmentFile, check_folder, watch_newest_segment};
 use rw_metrics::{Counters, SendCounters, show_stalls};
+use rw_resume::{After, Keeping, PositionFault, PositionFile};
 use rw_send::{
-    FollowFault, GiveUp, RefusalStop, RunFault, SendOptions, StopFlag, TcpConnect, UntilAborted,
-    run_follow,
+    ExternalLabels, FollowFault, GiveUp, KeepsSegments, LogOptions, RefusalStop, RunFault,
+    SendOptions, StopFlag, TcpConnect, UntilAborted, run_follow, run_kept,
 };
 use rw_settings::Settings;
 use rw_tcp::look_up;
@@ -32,11 +34,15 @@ use rw_text::{Address, ToolFault};
 use rw_types::write_all;
 use std::alloc::{AllocError, Global};
 use std::io::{Error, ErrorKind, IsTerminal};
+use std::mem::replace;
 use std::net::SocketAddr;
 use std::process::ExitCode;
 use std::sync::{Arc, Wait};
 use std::thread::{self, Threads};
 use std::time::{Clock, Duration};
+
+/// How many milliseconds pass between two looks at a log that is read to its present end.
+const POLL_MS: u64 = 10;
 
 /// The report of a log of which nothing could be read.
 const NOTHING_READ: &[u8] = b"filtered 0\nreport abandoned 0\n";
@@ -47,6 +53,19 @@ enum ShippedLog {
     Whole(Vec<Opened<SegmentFile<HostRuntime>>>, UntilAborted),
     /// The folder while it grows, and the watch that ends it.
     Growing(Folder<HostRuntime>, Timed<HostRuntime>),
+    /// The folder from a position on, and the watch that ends it and keeps the position.
+    Resumed(ResumedLog),
+}
+
+/// A log from a position on.
+#[derive(Drop)]
+struct ResumedLog {
+    /// The definitions before the position, as segments.
+    definitions: Vec<Vec<u8>>,
+    folder: Folder<HostRuntime>,
+    watch: Keeping<Timed<HostRuntime>, PositionFile<HostRuntime>>,
+    has_nothing: bool,
+    is_gone: bool,
 }
 
 /// All that shipping needs besides settings. It is made before the settings are given away, since
@@ -65,6 +84,8 @@ struct Shipment {
 struct Noted {
     has_nothing: bool,
     has_gap: bool,
+    /// Whether segments are gone that were to be shipped next.
+    is_gone: bool,
 }
 
 /// A sender: what it runs on, what it is asked for, and where it prints its report.
@@ -81,6 +102,8 @@ struct Sender<'a, R> {
     is_explained: bool,
     /// What is added to requests.
     access: Option<RequestAccess>,
+    /// The labels that are added to each series, until the work begins.
+    labels: ExternalLabels,
     output: Output,
 }
 
@@ -115,10 +138,12 @@ fn fault_of(
     Ok(fault)
 }
 
-/// Returns why a run over a growing folder ended, with the file of a fault.
+/// Returns why a run over a growing folder ended, after this many segments that are not in it, with
+/// the file of a fault.
 fn fault_in(
     alloc: Global,
     folder: Folder<HostRuntime>,
+    before: u64,
     ended: RunFault,
 ) -> Result<LogReadFault, AllocError> {
     let mut fault = LogReadFault::from(ended.fault);
@@ -126,7 +151,7 @@ fn fault_in(
         fault.file = folder.into_unread();
         return Ok(fault);
     };
-    if let Some(name) = folder.name_of(place.segment) {
+    if let Some(name) = folder.name_of(place.segment.saturating_sub(before)) {
         fault.file = Some(String::from_str(alloc, name)?);
         fault.offset = place.offset;
     }
@@ -247,6 +272,55 @@ impl<R: Threads + Wait + Clock + Copy + Send + 'static> Sender<'_, R> {
         Ok(Timed::new(*self.rt, signal, poll, patience, reshard))
     }
 
+    /// Returns a watch of a log from a position on, which keeps the position: while the log grows,
+    /// or to its present end.
+    fn keeping(
+        &self,
+        signal: Arc<StopSignal, Global>,
+        counters: &Arc<SendCounters, Global>,
+    ) -> Result<Timed<HostRuntime>, AllocError> {
+        match &self.sending.reading {
+            ReadExtent::Follow(following) => self.watch(following, signal, counters),
+            ReadExtent::Whole => {
+                signal.finish();
+                let pause = Duration::from_millis(POLL_MS);
+                Ok(Timed::new(*self.rt, signal, pause, pause, pause))
+            }
+        }
+    }
+
+    /// Returns the log in the folder, to be read from a position on.
+    fn resumed(
+        &self,
+        point: ResumePoint,
+        signal: Arc<StopSignal, Global>,
+        counters: &Arc<SendCounters, Global>,
+    ) -> Result<ResumedLog, FolderFault> {
+        let alloc = self.rt.alloc();
+        let watch = self.keeping(signal, counters)?;
+        let path = String::from_str(alloc, self.dir.path)?;
+        let theirs = Arc::try_clone(counters)?;
+        let folder = match point.first {
+            Some(first) => Folder::from_segment(*self.rt, path, first, theirs),
+            None => Folder::from_checkpoint(*self.rt, path, theirs),
+        };
+        let ResumePoint {
+            file,
+            log,
+            first,
+            definitions,
+            gone,
+            has_nothing,
+        } = point;
+        Ok(ResumedLog {
+            definitions,
+            folder,
+            watch: Keeping::new(alloc, watch, file, log, first),
+            has_nothing,
+            is_gone: gone.is_some(),
+        })
+    }
+
     /// Returns the signal that stops the run, and stops its workers too if that is at once. That of
     /// a log that is there whole is set by nobody outside.
     fn signal(&self, stop: &StopFlag) -> Result<Arc<StopSignal, Global>, AllocError> {
@@ -259,12 +333,16 @@ impl<R: Threads + Wait + Clock + Copy + Send + 'static> Sender<'_, R> {
         }
     }
 
-    /// Returns the log in the folder, to be read as it is or while it grows.
+    /// Returns the log in the folder, to be read from a position on, as it is or while it grows.
     fn segments(
         &self,
+        point: Option<ResumePoint>,
         signal: Arc<StopSignal, Global>,
         counters: &Arc<SendCounters, Global>,
     ) -> Result<ShippedLog, FolderFault> {
+        if let Some(point) = point {
+            return Ok(ShippedLog::Resumed(self.resumed(point, signal, counters)?));
+        }
         match &self.sending.reading {
             ReadExtent::Whole => {
                 let files = files_of(self.rt, self.dir, Some(counters))?;
@@ -373,6 +451,7 @@ impl<R: Threads + Wait + Clock + Copy + Send + 'static> Sender<'_, R> {
         &self,
         addresses: Vec<SocketAddr>,
         settings: &Settings,
+        point: Option<ResumePoint>,
         counters: &Arc<SendCounters, Global>,
     ) -> Result<Shipment, FolderFault> {
         self.check_folder()?;
@@ -383,7 +462,7 @@ impl<R: Threads + Wait + Clock + Copy + Send + 'static> Sender<'_, R> {
         let stops = self.stops(settings, &signal, &stop)?;
         let connect = self.connect_to(addresses, settings, theirs)?;
         let connect = self.with_options(connect, &stops)?;
-        let log = self.segments(signal, &counters)?;
+        let log = self.segments(point, signal, &counters)?;
         Ok(Shipment {
             log,
             connect,
@@ -399,9 +478,10 @@ impl<R: Threads + Wait + Clock + Copy + Send + 'static> Sender<'_, R> {
         &mut self,
         addresses: Vec<SocketAddr>,
         settings: &Settings,
+        point: Option<ResumePoint>,
     ) -> Result<Shipment, LogReadFault> {
         let counters = self.begin_counting()?;
-        match self.shipment(addresses, settings, &counters) {
+        match self.shipment(addresses, settings, point, &counters) {
             Ok(shipment) => Ok(shipment),
             Err(fault) => {
                 if !matches!(fault, FolderFault::OutOfMemory) {
@@ -434,6 +514,24 @@ impl<R: Threads + Wait + Clock + Copy + Send + 'static> Sender<'_, R> {
         }
     }
 
+    /// Returns where the sender goes on, if it is to go on where it was, and reports which segments
+    /// are gone. If that fails, it reports why, and returns the exit status.
+    fn point(&self) -> Result<Option<ResumePoint>, ExitCode> {
+        let Some(path) = self.sending.resume else {
+            return Ok(None);
+        };
+        let (rt, dir) = (self.rt, self.dir);
+        match resume_point(rt, dir, path, self.is_explained) {
+            Ok(point) => {
+                if let Some(gone) = point.gone {
+                    print_gone(rt, dir, gone);
+                }
+                Ok(Some(point))
+            }
+            Err(status) => Err(status),
+        }
+    }
+
     /// Looks the receiver up and prepares to ship. If that fails, it reports why, and returns the
     /// exit status.
     fn start(&mut self, settings: &Settings) -> Result<Shipment, ExitCode> {
@@ -444,8 +542,9 @@ impl<R: Threads + Wait + Clock + Copy + Send + 'static> Sender<'_, R> {
         if self.wants_notes() {
             note_checkpoint(rt, dir);
         }
+        let point = self.point()?;
         match look_up(rt, rt.alloc(), to.name(), to.port) {
-            Ok(addresses) => match self.prepare(addresses, settings) {
+            Ok(addresses) => match self.prepare(addresses, settings, point) {
                 Ok(shipment) => Ok(shipment),
                 Err(fault) => Err(log_fault(rt, dir, &fault, self.is_explained)),
             },
@@ -456,13 +555,24 @@ impl<R: Threads + Wait + Clock + Copy + Send + 'static> Sender<'_, R> {
     /// Reports that the folder has no segment, or lacks some between others, if somebody may read
     /// that.
     fn note_segments(&self, log: &ShippedLog) -> Noted {
+        let (dir, is_asked_for) = (self.dir, self.wants_notes());
+        if let ShippedLog::Resumed(log) = log {
+            if log.has_nothing && matches!(self.sending.reading, ReadExtent::Whole) {
+                note_empty(self.rt, dir, is_asked_for || self.sending.fails_on_empty);
+            }
+            return Noted {
+                has_nothing: log.has_nothing,
+                has_gap: false,
+                is_gone: log.is_gone,
+            };
+        }
         let ShippedLog::Whole(files, _) = log else {
             return Noted {
                 has_nothing: false,
                 has_gap: false,
+                is_gone: false,
             };
         };
-        let (dir, is_asked_for) = (self.dir, self.wants_notes());
         if files.is_empty() {
             note_empty(self.rt, dir, is_asked_for || self.sending.fails_on_empty);
         }
@@ -470,6 +580,53 @@ impl<R: Threads + Wait + Clock + Copy + Send + 'static> Sender<'_, R> {
         Noted {
             has_nothing: files.is_empty(),
             has_gap: note_gaps(self.rt, dir, files, tells_gaps),
+            is_gone: false,
+        }
+    }
+
+    /// Ships a log from a position on, keeps the position, and prints the report.
+    fn ship_resumed(
+        &mut self,
+        settings: Settings,
+        log: ResumedLog,
+        options: SendOptions<'_, TcpConnect<HostRuntime>>,
+    ) -> Result<(), LogReadFault> {
+        let (threads, alloc, output) = (self.threads, self.rt.alloc(), &mut self.output);
+        let ResumedLog {
+            definitions,
+            folder,
+            mut watch,
+            ..
+        } = log;
+        let before = definitions.len() as u64;
+        let mut segments = After::new(definitions, folder);
+        let outcome = run_kept::<R, _, _, _, KeepsSegments, _>(
+            threads,
+            alloc,
+            settings,
+            &mut segments,
+            options,
+            &mut watch,
+            output,
+        );
+        match outcome {
+            Ok(()) => match watch.fault() {
+                Some(fault) => Err(self.report_unkept(fault)),
+                None => Ok(()),
+            },
+            Err(ended) => Err(fault_in(alloc, segments.into_then(), before, ended)?),
+        }
+    }
+
+    /// Reports that the position could not be kept, and returns that fault.
+    fn report_unkept(&self, fault: PositionFault) -> LogReadFault {
+        let path = self.sending.resume.unwrap_or("FILE");
+        let _ = eprintln!(self.rt;
+            "rwship: the position was not kept in {path}: {fault}; next: see that its folder can be written"
+        );
+        match fault {
+            PositionFault::OutOfMemory => LogReadFault::from(ToolFault::OutOfMemory),
+            PositionFault::Failed => LogReadFault::from(ToolFault::Device),
         }
     }
 
@@ -492,6 +649,7 @@ impl<R: Threads + Wait + Clock + Copy + Send + 'static> Sender<'_, R> {
                     Err(ended) => Err(fault_of(alloc, &files, names, ended)?),
                 }
             }
+            ShippedLog::Resumed(log) => self.ship_resumed(settings, log, options),
             ShippedLog::Growing(mut folder, mut watch) => {
                 match run_follow(
                     threads,
@@ -503,7 +661,7 @@ impl<R: Threads + Wait + Clock + Copy + Send + 'static> Sender<'_, R> {
                     output,
                 ) {
                     Ok(()) => Ok(()),
-                    Err(ended) => Err(fault_in(alloc, folder, ended)?),
+                    Err(ended) => Err(fault_in(alloc, folder, 0, ended)?),
                 }
             }
         }
@@ -567,6 +725,7 @@ impl<R: Threads + Wait + Clock + Copy + Send + 'static> Sender<'_, R> {
             return status;
         }
         match outcome {
+            Ok(()) if noted.is_gone => gone_status(),
             Ok(()) if noted.has_nothing && sending.fails_on_empty => empty_status(),
             Ok(()) if dropped > 0 && sending.fails_on_drop => report_dropped(rt, dropped),
             Ok(()) if skipped > 0 && sending.fails_on_skip => report_skipped(rt, skipped),
@@ -605,11 +764,15 @@ impl<R: Threads + Wait + Clock + Copy + Send + 'static> Sender<'_, R> {
         } = shipment;
         let noted = self.note_segments(&log);
         self.log_start();
+        let reading = LogOptions {
+            may_compress: self.dir.may_compress,
+            labels: replace(&mut self.labels, ExternalLabels::none()),
+        };
         let options = SendOptions {
             connect,
             counters: &counters,
             max_batch_bytes: self.sending.max_batch_bytes,
-            may_compress: self.dir.may_compress,
+            reading,
             stop,
         };
         let outcome = self.ship_log(settings, log, options);
@@ -624,6 +787,13 @@ impl<R: Threads + Wait + Clock + Copy + Send + 'static> Sender<'_, R> {
             Err(status) => status,
         }
     }
+}
+
+/// Returns how a folder is read: from its newest checkpoint on if the position is kept.
+fn resumed_dir<'a>(dir: LogDir<'a>, sending: &Sending<'_>) -> LogDir<'a> {
+    let mut dir = dir;
+    dir.from_checkpoint = dir.from_checkpoint || sending.resume.is_some();
+    dir
 }
 
 /// Ships a folder by the settings in a file.
@@ -651,15 +821,20 @@ pub fn send<'a, R: Threads + Wait + Clock + Copy + Send + 'static>(
                 Ok(access) => access,
                 Err(status) => return status,
             };
+            let labels = match external_labels_in(rt, file, settings.config.fields().names) {
+                Ok(labels) => labels,
+                Err(fault) => return report_settings_fault(rt, fault),
+            };
             let settings = destination.settings_for(settings);
             let mut sender = Sender {
                 rt,
                 threads,
                 sending,
-                dir: dir_with(sending.dir, &settings),
+                dir: resumed_dir(dir_with(sending.dir, &settings), sending),
                 to: destination.address(),
                 is_explained: file.is_explained,
                 access,
+                labels,
                 output: open_output(rt),
             };
             sender.send(settings)

@@ -5,11 +5,13 @@ ghost use Rattle.rw_settings.specs.Settings as toml;
 ghost use Rattle.rw_settings.specs.SettingsText.{settings_text};
 
 use rw_cli::{LogDir, SettingsFile};
+use rw_external_labels::ExternalLabels;
 use rw_settings::{
     SentFields, Settings, SettingsFault, SettingsNote, explain_settings, print_settings,
-    read_sent_fields, read_settings,
+    read_external_labels, read_sent_fields, read_settings,
 };
 use rw_text::ToolFault;
+use rw_types::Names;
 use std::io::ErrorKind;
 use std::{fs, io};
 
@@ -83,6 +85,20 @@ pub fn sent_fields_in(rt: &HostRuntime, file: SettingsFile<'_>) -> Result<SentFi
     let text = text_of(rt, file)?;
     match read_sent_fields(rt.alloc(), &text) {
         Ok(sent) => Ok(sent),
+        Err(fault) => Err(refused(rt, &text, fault, file.is_explained)),
+    }
+}
+
+/// Returns the labels that the settings that are asked for add to each series; `names` says which
+/// names are accepted.
+pub fn external_labels_in(
+    rt: &HostRuntime,
+    file: SettingsFile<'_>,
+    names: Names,
+) -> Result<ExternalLabels, Unset> {
+    let text = text_of(rt, file)?;
+    match read_external_labels(rt.alloc(), &text, names) {
+        Ok(labels) => Ok(labels),
         Err(fault) => Err(refused(rt, &text, fault, file.is_explained)),
     }
 }

@@ -4,7 +4,7 @@ use crate::receiver::{Bounds, answers};
 use rw_follow::StopRequest;
 use rw_log_commands::run_log;
 use rw_metrics::SendCounters;
-use rw_send::{SendOptions, StopFlag, TcpConnect, run_send};
+use rw_send::{LogOptions, SendOptions, StopFlag, TcpConnect, run_send};
 use rw_sender::Connect;
 use rw_settings::read_settings;
 use rw_tcp::look_up;
@@ -61,7 +61,7 @@ fn send<R: Threads + Wait + Clock + Copy + Send + 'static, C: Connect + Drop>(
         connect,
         counters: &counters,
         max_batch_bytes: None,
-        may_compress: false,
+        reading: LogOptions::without_labels(false),
         stop,
     };
     match read_settings(alloc, SETTINGS) {

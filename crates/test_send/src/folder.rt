@@ -9,7 +9,7 @@ use crate::shipped::settings_of;
 use http::StatusCode;
 use rw_log_folder::{FolderFault, Opened, SegmentFile, segment_files};
 use rw_metrics::SendCounters;
-use rw_send::{SendOptions, StopFlag, run_send};
+use rw_send::{LogOptions, SendOptions, StopFlag, run_send};
 use rw_text::ToolFault;
 use rw_types::{Room, Source, read_to_end};
 use std::alloc::{AllocError, Global};
@@ -179,7 +179,7 @@ fn send_listed<R: Threads + Wait + Clock + Copy + Send + 'static>(
         connect: ready(threads),
         counters: &counters,
         max_batch_bytes: None,
-        may_compress: false,
+        reading: LogOptions::without_labels(false),
         stop,
     };
     Ok(run_send(threads, alloc, settings, segments, options, printed))

@@ -8,7 +8,7 @@ use Change::{Dir, Goes, Grows, Nothing};
 use rw_follow::{SegmentError, StopRequest, Watch};
 use rw_log_folder::Folder;
 use rw_metrics::SendCounters;
-use rw_send::{FollowFault, RunFault, SendOptions, StopFlag, run_follow};
+use rw_send::{FollowFault, LogOptions, RunFault, SendOptions, StopFlag, run_follow};
 use rw_text::ToolFault;
 use rw_types::Room;
 use std::alloc::{AllocError, Global};
@@ -233,7 +233,7 @@ fn follow_sending<R: Threads + Wait + Clock + Copy + Send + 'static>(
         connect: ready(threads),
         counters: &counters,
         max_batch_bytes: None,
-        may_compress: false,
+        reading: LogOptions::without_labels(false),
         stop,
     };
     Ok(run_follow(

@@ -5,7 +5,7 @@ use crate::logs::{BEHIND, FALLS, NAMES, UP, segment};
 use rw_head::Capacity;
 use rw_metrics::{ReceiveCounters, SendCounters};
 use rw_receive::{BodyBounds, ServeUntil, Service, TakeOptions, run_receive};
-use rw_send::{SendOptions, StopFlag, TcpConnect, run_send};
+use rw_send::{LogOptions, SendOptions, StopFlag, TcpConnect, run_send};
 use rw_sender::Connect;
 use rw_settings::read_settings;
 use rw_tcp::look_up;
@@ -180,7 +180,7 @@ fn sends<R: Threads + Wait + Clock + Copy + Send + 'static, C: Connect + Drop>(
         connect,
         counters: &counters,
         max_batch_bytes: None,
-        may_compress: false,
+        reading: LogOptions::without_labels(false),
         stop,
     };
     match read_settings(alloc, row.settings) {

@@ -7,7 +7,7 @@ use crate::rows::none_is_wrong;
 use Part::{Changed, Cut, Fails, Many, Whole};
 use http::StatusCode;
 use rw_metrics::SendCounters;
-use rw_send::{SendOptions, StopFlag, run_send};
+use rw_send::{LogOptions, SendOptions, StopFlag, run_send};
 use rw_settings::read_settings;
 use rw_text::ToolFault;
 use rw_types::Room;
@@ -143,7 +143,7 @@ fn shipped<R: Threads + Wait + Clock + Copy + Send + 'static>(
         connect: receivers_of(rt, row.receivers)?,
         counters,
         max_batch_bytes: limit,
-        may_compress: false,
+        reading: LogOptions::without_labels(false),
         stop: StopFlag::new(alloc)?,
     };
     match read_settings(alloc, row.settings) {
@@ -616,7 +616,7 @@ fn ship_in_vain<R: Threads + Wait + Clock + Copy + Send + 'static>(
         connect: receivers_of(rt, AWAY)?,
         counters: &counters,
         max_batch_bytes: None,
-        may_compress: false,
+        reading: LogOptions::without_labels(false),
         stop,
     };
     match read_settings(alloc, NARROW) {

@@ -10,7 +10,7 @@ use rw_metrics::{
     receive_page, send_line,
 };
 use rw_metrics_server::serve_metrics;
-use rw_send::{SendOptions, StopFlag, run_send};
+use rw_send::{LogOptions, SendOptions, StopFlag, run_send};
 use rw_text::ToolFault;
 use rw_types::Room;
 use std::alloc::{AllocError, Global};
@@ -305,7 +305,7 @@ fn ship_skipped<R: Threads + Wait + Clock + Copy + Send + 'static>(
         connect: ready(rt),
         counters,
         max_batch_bytes: None,
-        may_compress: false,
+        reading: LogOptions::without_labels(false),
         stop: StopFlag::new(alloc)?,
     };
     let settings = settings_of(alloc, b"")?;

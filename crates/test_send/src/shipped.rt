@@ -9,7 +9,7 @@ use Part::{Cut, Gap, More, Next, Padded, Quiet, Rest};
 use http::StatusCode;
 use rw_follow::{Event, Listed, StopRequest, StopSignal, Timed, Watch};
 use rw_metrics::SendCounters;
-use rw_send::{FollowFault, RunFault, SendOptions, StopFlag, run_follow};
+use rw_send::{FollowFault, LogOptions, RunFault, SendOptions, StopFlag, run_follow};
 use rw_settings::{Settings, read_settings};
 use rw_text::ToolFault;
 use rw_types::Room;
@@ -188,7 +188,7 @@ fn does<R: Threads + Wait + Clock + Copy + Send + 'static>(
         connect: receivers_of(rt, StatusCode::NO_CONTENT),
         counters: &counters,
         max_batch_bytes: limit,
-        may_compress: false,
+        reading: LogOptions::without_labels(false),
         stop: StopFlag::new(alloc)?,
     };
     let answer = follow(
@@ -357,7 +357,7 @@ fn flushed<R: Threads + Wait + Clock + Copy + Send + 'static>(
         connect: receivers_of(rt, StatusCode::BAD_REQUEST),
         counters: &counters,
         max_batch_bytes: None,
-        may_compress: false,
+        reading: LogOptions::without_labels(false),
         stop: StopFlag::new(alloc)?,
     };
     follow(
@@ -415,7 +415,7 @@ fn follow_in_vain<R: Threads + Wait + Clock + Copy + Send + 'static>(
         },
         counters: &counters,
         max_batch_bytes: None,
-        may_compress: false,
+        reading: LogOptions::without_labels(false),
         stop,
     };
     follow(
@@ -558,7 +558,7 @@ fn has_its_shards<R: Threads + Wait + Clock + Copy + Send + 'static>(
         },
         counters: &counters,
         max_batch_bytes: None,
-        may_compress: false,
+        reading: LogOptions::without_labels(false),
         stop: StopFlag::new(alloc)?,
     };
     let answer = follow(
@@ -706,7 +706,7 @@ fn ship_blocks<R: Threads + Wait + Clock + Copy + Send + 'static>(
         connect: receivers_of(rt, StatusCode::NO_CONTENT),
         counters: &counters,
         max_batch_bytes: None,
-        may_compress,
+        reading: LogOptions::without_labels(may_compress),
         stop: StopFlag::new(alloc)?,
     };
     let mut events = VecDeque::new(alloc);

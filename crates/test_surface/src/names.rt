@@ -66,6 +66,7 @@ pub use rw_sender::Feeder;
 pub use rw_sender::FeederGone;
 pub use rw_sender::Finished;
 pub use rw_sender::Load;
+pub use rw_sender::LogOptions;
 pub use rw_sender::Lost;
 pub use rw_sender::MAX_FIELDS;
 pub use rw_sender::MAX_HEAD_BYTES;

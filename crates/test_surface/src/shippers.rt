@@ -1,9 +1,9 @@
 //! The upper half of the sender: shards, workers, shippers.
 
 use rw_sender::{
-    Attempt, Config, Connect, Cuts, FeedFault, Feeder, Finished, Load, Lost, Outcome, Pause, Reply,
-    ReplyRead, Report, ShardCore, Shipper, StopFlag, Target, Transport, Worker, WorkerReport,
-    read_reply, request_bytes,
+    Attempt, Config, Connect, Cuts, FeedFault, Feeder, Finished, Load, LogOptions, Lost, Outcome,
+    Pause, Reply, ReplyRead, Report, ShardCore, Shipper, StopFlag, Target, Transport, Worker,
+    WorkerReport, read_reply, request_bytes,
 };
 use std::sync::Wait;
 use std::thread::Threads;
@@ -43,7 +43,12 @@ pub fn of_feeders() {
     let _ = (Feeder::new, Feeder::feed, Feeder::read, Feeder::place);
     let _ = (Feeder::sent, Feeder::count, Feeder::dropped);
     let _ = (Feeder::filtered, Feeder::finish);
-    let _ = (Feeder::skipped_of, Feeder::newest, Feeder::fault_place);
+    let _ = (
+        Feeder::skipped_of,
+        Feeder::newest,
+        Feeder::fault_place,
+        Feeder::label,
+    );
     let _ = (Cuts::within, Cuts::reset, Cuts::count);
 }
 
@@ -51,7 +56,7 @@ pub fn of_feeders() {
 pub fn of_new_shippers<C: Connect + Drop, R: Threads + Wait + Copy + Send + 'static>() {
     let _ = C::transport;
     let _ = (Shipper::<C>::start::<R>, Shipper::<C>::start_within::<R>);
-    let _ = Shipper::<C>::start_compressed::<R>;
+    let _ = (Shipper::<C>::start_with::<R>, LogOptions::without_labels);
 }
 
 /// What a shipper is fed.

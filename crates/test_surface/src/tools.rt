@@ -41,9 +41,12 @@ pub fn of_folders<R: Files<File = File> + AllocGlobal + Copy>() {
         Folder::<R>::name_of,
         Folder::<R>::into_unread,
         Folder::<R>::from_checkpoint,
+        Folder::<R>::from_segment,
+        Folder::<R>::number,
         segment_files::<R>,
     );
     let _ = (SegmentFile::<R>::name, SegmentFile::<R>::gap_before);
+    let _ = (SegmentFile::<R>::number, SegmentFile::<R>::is_of_checkpoint);
 }
 
 /// The calls of what the engines are given.

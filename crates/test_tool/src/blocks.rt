@@ -2,6 +2,7 @@
 //! its body, its plan and its reports, with the option and without it.
 
 use crate::rows::holds;
+use rw_external_labels::ExternalLabels;
 use rw_inspect::{LogFindings, fault_lines, find_entries, inspect, json_of, table_of};
 use rw_log_commands::{run_body_with, run_plan_with};
 use rw_log_read::{Named, UnreadLog};
@@ -97,6 +98,7 @@ fn plan_of(
             &mut reader,
             &mut writer,
             settings,
+            ExternalLabels::none(),
             true,
             may_compress,
         ),

@@ -9,6 +9,8 @@ mod bodies;
 #[cfg(test)]
 mod decimals;
 #[cfg(test)]
+mod external_labels;
+#[cfg(test)]
 mod logs;
 #[cfg(test)]
 mod notes;

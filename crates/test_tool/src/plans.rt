@@ -1,9 +1,9 @@
 //! The plans of log segments.
 
 use crate::logs::fault;
-use crate::rows::none_is_wrong;
-use rw_log_commands::run_plan;
-use rw_settings::read_settings;
+use crate::rows::{holds, none_is_wrong};
+use rw_log_commands::{run_plan, run_plan_with};
+use rw_settings::{read_external_labels, read_settings};
 use rw_text::ToolFault;
 use rw_types::Room;
 use rw_wal_format::TailFault;
@@ -34,6 +34,32 @@ fn ended(
         Ok(settings) => run_plan(alloc, &mut reader, writer, settings, hex),
         Err(_) => Err(ToolFault::OutOfMemory),
     }
+}
+
+/// Returns how a run under these settings, with their external labels, ends.
+fn ended_with_labels(
+    alloc: Global,
+    text: &[u8],
+    input: &[u8],
+    writer: &mut Room,
+) -> Result<(), ToolFault> {
+    let mut reader = input;
+    let Ok(settings) = read_settings(alloc, text) else {
+        return Err(ToolFault::OutOfMemory);
+    };
+    match read_external_labels(alloc, text, settings.config.fields().names) {
+        Ok(external) => run_plan_with(alloc, &mut reader, writer, settings, external, false, false),
+        Err(_) => Err(ToolFault::OutOfMemory),
+    }
+}
+
+/// Returns whether the plan of log text under these settings, with their external labels, is this.
+fn plans_with_labels(alloc: Global, settings: &[u8], log: &str, plan: &str) -> bool {
+    let Ok(mut writer) = Room::new(alloc, 4096) else {
+        return false;
+    };
+    ended_with_labels(alloc, settings, &segment_of(alloc, log), &mut writer) == Ok(())
+        && writer.as_slice() == plan.as_bytes()
 }
 
 /// Returns whether a run under these settings ends so, and writes this.
@@ -245,4 +271,44 @@ fn wrong_row(alloc: Global, rows: &[Row]) -> Option<&'static str> {
 #[test]
 fn segments_and_digits(rt: HostRuntime) {
     none_is_wrong(&rt, wrong_row(rt.alloc(), rows()));
+}
+
+/// Rules that see labels which the log has not.
+const LABELS: &[u8] = b"[send.labels]\nenv = 'test'\nzone = 'eu'\n
+[[rule]]\naction = 'drop'\nsource_labels = ['env']\nregex = 'test'\n
+[[rule]]\naction = 'keep'\nsource_labels = ['zone']\nregex = 'eu'\n";
+
+const PLAN_WITH_LABELS: &str = "1 kept 0 {env=\"prod\",job=\"ab\",zone=\"eu\"}
+2 kept 1 {env=\"prod\",job=\"abc\",zone=\"eu\"}
+3 filtered {env=\"test\",job=\"a\",zone=\"eu\"}
+4 filtered {env=\"test\",job=\"a\",zone=\"eu\"}
+5 bad 3
+samples kept 2 filtered 1 bad 0 noseries 0
+";
+
+/// Two series that become one, and one without labels.
+const ALIKE: &str = r#"series 1 {job="a",zone="eu"}
+series 2 {job="a"}
+series 3 {}
+sample 1 1000 0
+sample 2 1000 0
+sample 3 1000 0
+"#;
+
+const PLAN_OF_ALIKE: &str = "1 kept 0 {job=\"a\",zone=\"eu\"}
+2 kept 0 {job=\"a\",zone=\"eu\"}
+3 kept 1 {zone=\"eu\"}
+samples kept 3 filtered 0 bad 0 noseries 0
+";
+
+#[test]
+fn external_labels(rt: HostRuntime) {
+    let alloc = rt.alloc();
+    holds(
+        &rt,
+        plans_with_labels(alloc, LABELS, FIVE, PLAN_WITH_LABELS),
+    );
+    let zone = b"[send.labels]\nzone = 'eu'".as_slice();
+    holds(&rt, plans_with_labels(alloc, zone, ALIKE, PLAN_OF_ALIKE));
+    holds(&rt, plans_with_labels(alloc, RULES, FIVE, PLAN_OF_FIVE));
 }

@@ -1,6 +1,7 @@
 //! Reports of two segments, and of one that is damaged.
 
 use crate::rows::{holds, none_is_wrong};
+use rw_external_labels::ExternalLabels;
 use rw_follow::Queue;
 use rw_inspect::{LogFindings, find_entries, inspect, json_of, table_of};
 use rw_log_commands::plan_log;
@@ -145,7 +146,14 @@ fn plan_of(
 ) -> Result<(Vec<u8>, Result<Option<Damage>, ToolFault>), AllocError> {
     let mut writer = Room::new(alloc, 4096)?;
     let mut log = Queue::new(both(alloc, first, second)?);
-    let outcome = plan_log(alloc, &mut log, &mut writer, Choice::legacy(alloc), false);
+    let outcome = plan_log(
+        alloc,
+        &mut log,
+        &mut writer,
+        Choice::legacy(alloc),
+        ExternalLabels::none(),
+        false,
+    );
     Ok((writer.into_bytes(), outcome))
 }
 

@@ -17,10 +17,27 @@ pub(crate) fn fault(alloc: Global, text: &[u8]) -> u8 {
 
 /// Texts with no fault or with one, and then with two at once, and the number that is returned, or
 /// 9.
-static FAULTS: [(&str, u8); 81] = [
+static FAULTS: [(&str, u8); 94] = [
     ("", 9),
     ("# nothing\n\n", 9),
     ("rule = []\n[send]\n[receive]\n", 9),
+    // labels that are added
+    ("[send.labels]", 9),
+    ("[send.labels]\ncluster = 'a b'\n_0 = '\u{e9}'", 9),
+    ("[send]\nlabels = { __name__ = 'a:b' }", 9),
+    ("[send]\nlabels = { __name__ = 'a b' }", 4),
+    ("[send.labels]\n0a = '1'", 4),
+    ("[send.labels]\n'a.b' = '1'", 4),
+    (
+        "[send]\nnames = 'utf8'\nlabels = { 'a.b' = '1', __name__ = 'a b' }",
+        9,
+    ),
+    ("[send]\nnames = 'utf8'\nlabels = { '' = '1' }", 4),
+    ("[send.labels]\na = ''", 4),
+    ("[send.labels]\na = 1", 3),
+    ("[send.labels]\na = '1'\nb = ['1']\n0 = ''", 3),
+    ("[send]\nlabels = ['a']", 3),
+    ("[receive.labels]\na = '1'", 2),
     // not TOML
     ("send", 1),
     ("[send]\nshards = 1\nshards = 1", 1),

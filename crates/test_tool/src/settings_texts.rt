@@ -182,7 +182,7 @@ enum Row {
     Noted(&'static str, &'static str),
 }
 
-static ROWS: [Row; 42] = [
+static ROWS: [Row; 48] = [
     // settings in another spelling
     Printed("", DEFAULTS),
     Printed(DEFAULTS, DEFAULTS),
@@ -265,6 +265,29 @@ receive.snappy: has type string; it takes true or false
         "[log]\ncompression = 'snappy'\ncompress = true",
         "log.compress: is not a known key; did you mean log.compression?
 log.compression: has type string; it takes true or false
+",
+    ),
+    Printed("[send.labels]\ncluster = 'eu'", DEFAULTS),
+    Noted(
+        "[send]\nlabels = 'a'",
+        "send.labels: has type string; it takes a table of names and values, each a string that is not empty\n",
+    ),
+    Noted(
+        "[send.labels]\na = '1'\nb = 2",
+        "send.labels: has \"b\", whose value is not a string; it takes a table of names and values, each a string that is not empty\n",
+    ),
+    Noted(
+        "[send.labels]\na = '1'\nb = ''",
+        "send.labels: has \"b\", whose value is empty; it takes a table of names and values, each a string that is not empty\n",
+    ),
+    Noted(
+        "[send.labels]\n__name__ = '1'",
+        "send.labels: has \"__name__\", whose value is not a metric name as 'names' says; it takes a table of names and values, each a string that is not empty\n",
+    ),
+    Noted(
+        "[send]\nshards = 60\n[send.labels]\n'a-b' = '1'",
+        "send: shards (60) must be at most max_shards (50, the default)
+send.labels: has \"a-b\", which is not a label name as 'names' says; it takes a table of names and values, each a string that is not empty
 ",
     ),
     Noted(

@@ -1,6 +1,6 @@
 -- Inner definitions beside those of RequestReading.antt: only invariants, private functions and
 -- proofs use them.
-use Rattle.std.specs.Prelude.{◌≡◌, ℕ, ◌<◌, ◌≤◌, List, [], length, drop, Option, None, Some}
+use Rattle.std.specs.Prelude.{◌≡◌, ℕ, ◌<◌, ◌≤◌, List, [], ◌++◌, length, drop, Option, None, Some}
 use Rattle.std.specs.Io.KnownBytes.{Consumes, IsAtEnd}
 use Rattle.httparse.specs.Grammar.{RequestHead, print_request}
 use Rattle.rw_endpoint.specs.Judgement.{finding_of}
@@ -29,3 +29,7 @@ HasRead path intake pending left End = IsPartOfHead pending × IsAtEnd left
 abbrev pub HasBody : Option (List ℕ) → Option (List ℕ) → ℕ → Option (List ℕ) → Type 0
 HasBody old new n (Some body) = Consumes old new body × (length body ≡ n)
 HasBody old new n None = (part : List ℕ) × Consumes old (Some []) part × (length part < n)
+
+-- Some bytes more were read, if it is recorded what was read: of these that is so.
+abbrev pub ReadsMore : Option (List ℕ) → Option (List ℕ) → (List ℕ → Type 0) → Type 0
+ReadsMore old new is_so = (past : List ℕ) → old ≡ Some past → (more : List ℕ) × (new ≡ Some (past ++ more)) × is_so more

@@ -24,5 +24,6 @@ pub record HasFed {T : Type 0} (old new : Shipping T) (log : List Piece) (answer
   pub whole : OnOk answer (length log ≤ fed)
   pub feeds : Feeds new answer
   pub choice : new.log.choice ≡ old.log.choice
+  pub labels : new.log.labels ≡ old.log.labels
   pub fleet : new.fleet ≡ record old.fleet { current = new.fleet.current }
   pub len : length new.fleet.current ≡ length old.fleet.current

@@ -23,11 +23,13 @@ use Rattle.rw_fleet.specs.declared.joined.Resolution.{Resolution}
 use Rattle.rw_fleet.specs.declared.joined.Resolution.TheVariants.{All, NotAll}
 use Rattle.rw_fleet.proofs.shared.LaneLemmas.{same_length}
 use Rattle.rw_series_cache.specs.declared.sample.RoutedSample.{RoutedSample}
-use Rattle.rw_sender.specs.Feeders.{Sorting, HasPlaced, HasRead, sent_by}
+use Rattle.rw_sender.specs.Feeders.{Sorting, HasPlaced, HasReadAll, sent_by}
 use Rattle.rw_series_cache.specs.Fates.{Fate, Drops, Filters, Sends, fate}
 use Rattle.rw_sender.specs.Logs.{Sent, kept_sample, sent_by_fate, sent_of, sent}
 use Rattle.rw_sender.specs.Placement.{shard_of, IsShardCount, IsPlacing, ArePlaced, AreKept}
-use Rattle.rw_wal_format.specs.Pieces.{Piece, may_compress, reading}
+use Rattle.rw_types.specs.Labels.{Labels}
+use Rattle.rw_external_labels.specs.External.{labelled}
+use Rattle.rw_wal_format.specs.Pieces.{Piece, begun_log, entries, fault, reading}
 use Rattle.rw_wal_format.specs.Segments.{segment_in}
 use Rattle.rw_wal_format.specs.declared.tail_fault.TailFault.{TailFault}
 use Rattle.rw_shard_core.specs.declared.outcome.Outcome.{Outcome}
@@ -70,6 +72,7 @@ module _ {T : Type 0} where
   pub goes_same : (limit : Option ℕ) (old new : Sorting) (was : Shards T) → new ≡ old → GoesOn limit old new was was
   goes_same limit old new was same = record {
     choice = ap (λ (s : Sorting). s.choice) same;
+    labels = ap (λ (s : Sorting). s.labels) same;
     pieces = ap (λ (s : Sorting). s.pieces) same;
     more = [];
     grown = ap (λ (s : Sorting). s.placed) same ∙ sym (append-nil old.placed);
@@ -84,6 +87,7 @@ module _ {T : Type 0} where
   goes_placed limit old held new was now same placed rest len kept marks =
       let after : HasPlaced old new = placed ∙ ap (λ (s : Sorting). record s { placed = s.placed ++ s.hand; hand = [] }) same in record {
         choice = ap (λ (s : Sorting). s.choice) after;
+        labels = ap (λ (s : Sorting). s.labels) after;
         pieces = ap (λ (s : Sorting). s.pieces) after;
         more = old.hand;
         grown = ap (λ (s : Sorting). s.placed) after;
@@ -96,6 +100,7 @@ module _ {T : Type 0} where
   pub goes_on : (limit : Option ℕ) (a b c : Sorting) (x y z : Shards T) → GoesOn limit a b x y → GoesOn limit b c y z → GoesOn limit a c x z
   goes_on limit a b c x y z h g = record {
     choice = g.choice ∙ h.choice;
+    labels = g.labels ∙ h.labels;
     pieces = g.pieces ∙ h.pieces;
     more = h.more ++ g.more;
     grown = g.grown ∙ ap (λ l. l ++ g.more) h.grown ∙ append_assoc a.placed h.more g.more;
@@ -112,6 +117,7 @@ module _ {T : Type 0} where
   pub goes_read : (limit : Option ℕ) (old new : Sorting) (e : Entry) (was : Shards T) → new ≡ record old { hand = e ∷ [] } → GoesOn limit old new was was
   goes_read limit old new e was is = record {
     choice = ap (λ (s : Sorting). s.choice) is;
+    labels = ap (λ (s : Sorting). s.labels) is;
     pieces = ap (λ (s : Sorting). s.pieces) is;
     more = [];
     grown = ap (λ (s : Sorting). s.placed) is ∙ sym (append-nil old.placed);
@@ -153,6 +159,7 @@ module _ {T : Type 0} where
   pub goes_marked : (limit : Option ℕ) (old new : Sorting) (was now : Shards T) → new ≡ old → now ≡ record was { current = now.current } → AreSame was.current now.current → (limit ≡ None → now ≡ was) → GoesOn limit old new was now
   goes_marked limit old new was now same rest samples none = record {
     choice = ap (λ (s : Sorting). s.choice) same;
+    labels = ap (λ (s : Sorting). s.labels) same;
     pieces = ap (λ (s : Sorting). s.pieces) same;
     more = [];
     grown = ap (λ (s : Sorting). s.placed) same ∙ sym (append-nil old.placed);
@@ -258,20 +265,20 @@ on_ok (Ok x) P e h = h
 on_ok (Err x) P e h = absurd (cc)
 
 -- nothing was fed yet
-pub read_begun : (log : Sorting) (choice : Choice) (ps : List Piece) → log ≡ record { choice = choice; pieces = ps; placed = []; hand = [] } → HasRead ps [] None → HasRead log.pieces log.placed None
-read_begun log choice ps is h = subst (λ (l : Sorting). HasRead l.pieces l.placed None) (sym is) h
-
--- the same at the start of a log that may have Snappy blocks
-pub read_marked : (ps : List Piece) → ps ≡ may_compress ∷ [] → HasRead ps [] None
+read_marked : (marked : Bool) → ◌≡◌ {A = List Entry} (entries (begun_log marked)) [] × (fault (begun_log marked) ≡ None)
 unfolding reading segment_in
-read_marked ps is = subst (λ (qs : List Piece). HasRead qs [] None) (sym is) (record { all = refl; fault_is = refl })
+read_marked true = (refl, refl)
+read_marked false = (refl, refl)
 
--- a reader to which nothing was fed has read nothing
-pub read_unfed : (ps : List Piece) → ps ≡ [] → HasRead ps [] None
-unfolding reading segment_in
-read_unfed ps is = subst (λ (qs : List Piece). HasRead qs [] None) (sym is) (record { all = refl; fault_is = refl })
+pub read_begun : (log : Sorting) (choice : Choice) (labels : Labels) (marked : Bool) (ps : List Piece) → ps ≡ begun_log marked → log ≡ record { choice = choice; labels = labels; pieces = ps; placed = []; hand = [] } → HasReadAll log None
+read_begun log choice labels marked ps begun is =
+    let none = read_marked marked in
+    subst (λ (l : Sorting). HasReadAll l None) (sym is) (record {
+      all = sym (ap (λ (qs : List Piece). labelled labels (entries qs)) begun ∙ ap (labelled labels) none.0);
+      fault_is = ap fault begun ∙ none.1;
+    })
 
-pub read_of : (log : Sorting) (f : Option Fault) (damage : Option TailFault) → IsRead log f damage → f ≡ None → HasRead log.pieces log.placed damage
+pub read_of : (log : Sorting) (f : Option Fault) (damage : Option TailFault) → IsRead log f damage → f ≡ None → HasReadAll log damage
 read_of log f damage h is = subst (λ (x : Option Fault). IsRead log x damage) is h
 
 -- the entries placed so far stay, with a piece more
@@ -295,12 +302,12 @@ module _ {T : Type 0} where
   abandons s js placed samples (outcome.Abandoned p l) h a b = (h.0 ∙ a, h.1 ∙ b)
   abandons s js placed samples (outcome.Damaged f) h a b = absurd h
 
-  ends_whole : (s : Shipping T) (js : List (StoppedShard T)) (placed : ℕ) (damage : Option TailFault) → placed ≡ length s.log.placed → HasRead s.log.pieces s.log.placed damage → AreResolved js → HasEndedAs s js (end_of placed damage)
+  ends_whole : (s : Shipping T) (js : List (StoppedShard T)) (placed : ℕ) (damage : Option TailFault) → placed ≡ length s.log.placed → HasReadAll s.log damage → AreResolved js → HasEndedAs s js (end_of placed damage)
   ends_whole s js placed None a read resolved = (a, read, resolved)
   ends_whole s js placed (Some f) a read resolved = (read, resolved)
 
   pub ends_so : (s : Shipping T) (js : List (StoppedShard T)) (is_hard : Bool) (resolution : Resolution) (placed : ℕ) (damage : Option TailFault) (samples : List ℕ) (o : Outcome) → placed ≡ length s.log.placed → samples ≡ abandoned_in js
-      → (resolution ≡ All → AreResolved js) → (is_hard ≡ false → HasRead s.log.pieces s.log.placed damage)
+      → (resolution ≡ All → AreResolved js) → (is_hard ≡ false → HasReadAll s.log damage)
       → (is_hard ≡ true → IsAbandonedAt placed samples o) → (resolution ≡ NotAll → IsAbandonedAt placed samples o) → (is_hard ≡ false → resolution ≡ All → o ≡ end_of placed damage) → HasEndedAs s js o
   ends_so s js true resolution placed damage samples o a b resolved read hard apart whole = abandons s js placed samples o (hard refl) a b
   ends_so s js false NotAll placed damage samples o a b resolved read hard apart whole = abandons s js placed samples o (apart refl) a b

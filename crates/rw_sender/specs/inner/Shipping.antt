@@ -6,7 +6,7 @@ use Rattle.rw_fleet.specs.Fleets.{Shards}
 use Rattle.rw_fleet.specs.declared.running_shard.Fault.{Fault}
 use Rattle.rw_types.specs.declared.entry.Entry.{Entry}
 use Rattle.rw_wal_format.specs.declared.tail_fault.TailFault.{TailFault}
-use Rattle.rw_sender.specs.Feeders.{Sorting, HasRead}
+use Rattle.rw_sender.specs.Feeders.{Sorting, HasReadAll}
 use Rattle.rw_sender.specs.Rooms.{Counting}
 use Rattle.rw_sender.specs.inner.Cutting.{AreCounted}
 use Rattle.rw_sender.specs.Placement.{IsShardCount, AreKept}
@@ -27,13 +27,14 @@ IsReckoned cuts fleet (Some f) = ⊤
 
 -- while it has not failed all entries were placed, and this is the fault after them
 abbrev pub IsRead : Sorting → Option Fault → Option TailFault → Type 0
-IsRead log None damage = HasRead log.pieces log.placed damage
+IsRead log None damage = HasReadAll log damage
 IsRead log (Some f) damage = ⊤
 
 -- more entries may have been placed, and their samples put: the rest is as it was, and without a
 -- limit no mark was put
 pub record GoesOn {T : Type 0} (limit : Option ℕ) (old new : Sorting) (was now : Shards T) : Type 0 where
   pub choice : new.choice ≡ old.choice
+  pub labels : new.labels ≡ old.labels
   pub pieces : new.pieces ≡ old.pieces
   pub more : List Entry
   pub grown : new.placed ≡ old.placed ++ more
@@ -45,5 +46,5 @@ pub record GoesOn {T : Type 0} (limit : Option ℕ) (old new : Sorting) (was now
 -- what one step of the feeder resulted in
 abbrev pub Steps : Sorting → Progress → Type 0
 Steps log Placed = log.hand ≡ []
-Steps log End = (log.hand ≡ []) × HasRead log.pieces log.placed None
-Steps log (progress.Damaged f) = (log.hand ≡ []) × HasRead log.pieces log.placed (Some f)
+Steps log End = (log.hand ≡ []) × HasReadAll log None
+Steps log (progress.Damaged f) = (log.hand ≡ []) × HasReadAll log (Some f)

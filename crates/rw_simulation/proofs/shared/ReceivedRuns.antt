@@ -39,7 +39,8 @@ use Rattle.rw_fleet.specs.Fleets.{Shards, AreAll, EndBy}
 use Rattle.rw_fleet.specs.declared.joined.StoppedShard.{StoppedShard}
 use Rattle.rw_fleet.specs.declared.joined.Finished.{Finished}
 use Rattle.rw_fleet.proofs.shared.LaneLemmas.{same_length}
-use Rattle.rw_sender.specs.Feeders.{HasRead}
+use Rattle.rw_wal_tail.specs.Taking.{HasRead}
+use Rattle.rw_simulation.proofs.shared.PlainLogs.{read-plain, begins-plain}
 use Rattle.rw_sender.specs.Logs.{Sent, sent, sent_of}
 use Rattle.rw_sender.specs.Placement.{IsDealt, IsShardCount, Places, joined_epochs}
 use Rattle.rw_sender.specs.Reports.{IsAbandoned, abandoned_in, parts_of}
@@ -704,10 +705,13 @@ receives-in-order {T} tells seen is_for s r c fed h p machine work fed_are numbe
     with-all found resolved read = held-whole tells seen is_for c s r fed h s.fleet p machine.0 machine.1 work fed_are h.all (resolved-front s.fleet.ended h.all.0 (subst AreResolved h.all.1 resolved)) number first exs arrivals heads told one [] (sym read.all ∙ sym (append-nil s.log.placed)) resolved by refl
 
     by_outcome : (o : Outcome) → r.outcome ≡ o → HasEndedAs s h.joined o → (IsAbandoned o → ⊥) → IsHeld s r (heads (length arrivals)).store
-    by_outcome (outcome.Complete end) is ended whole = with-all None ended.2 ended.1
-    by_outcome (outcome.Damaged f) is ended whole = with-all (Some f) ended.1 ended.0
+    by_outcome (outcome.Complete end) is ended whole = with-all None ended.2 (read-plain s.log None machine.2 ended.1)
+    by_outcome (outcome.Damaged f) is ended whole = with-all (Some f) ended.1 (read-plain s.log (Some f) machine.2 ended.0)
     by_outcome (outcome.Abandoned count samples) is ended whole = absurd (whole tt)
 
 pub receives-abandoned : {T : Type 0} (tells : T → Type 0) (seen : T → List Exchange) (is_for : ℕ → ℕ → T → Type 0) (s : Shipping T) (r : Report T) → ReceivesAbandoned tells seen is_for s r
 receives-abandoned tells seen is_for s r c fed h was p machine work fed_are all resolved number first stopped exs arrivals heads told one =
-    held-left tells seen is_for c s r fed h was p machine.0 machine.1 work fed_are all resolved number first exs arrivals heads told one h.read.0 h.read.1 stopped
+    held-left tells seen is_for c s r fed h was p machine.0 machine.1 work fed_are all resolved number first exs arrivals heads told one begun.0 begun.1 stopped
+  where
+    begun : Begins s.log.placed (entries s.log.pieces)
+    begun = begins-plain s.log machine.2 h.read

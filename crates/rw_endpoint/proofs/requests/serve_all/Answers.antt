@@ -6,6 +6,7 @@ use Rattle.rw_endpoint.specs.declared.serve_end.ServeEnd.{ServeEnd}
 use Rattle.rw_endpoint.specs.declared.serve_end.ServeEnd.TheVariants.{OutOfMemory}
 use Rattle.rw_endpoint.proofs.FrontLemmas.{shorter}
 use Rattle.rw_endpoint.proofs.ServingLemmas.{served_none, served_more, stopped_at_body}
+use Rattle.rw_endpoint.proofs.RecordedLemmas.{reads_none, so_far_none, so_far_more, so_far_ends, so_far_stops}
 use Rattle.rw_endpoint.proofs.requests.serve_all.Goals as goal
 
 pub loop-init : goal.loop-init
@@ -15,11 +16,12 @@ loop-init g c = record {
     [],
     input,
     w ∙ ap Some (sym (append-nil before)),
-    ap (λ (t : List ℕ). prepend_known t (g.R.Source.remaining c.args.reader.now)) c.new-pending.ensures ∙ ap (prepend_known []) e,
+    ap (λ (t : List ℕ). prepend_known t (g.T.ReadFrom.remaining c.args.reader.now)) c.new-pending.ensures ∙ ap (prepend_known []) e,
     served_none c.args.path.now c.args.intake g.A.Answer.answers input c.args.answer.now,
     omega arith,
     λ sound. (sound, omega arith),
   );
+  recorded = λ before w. reads_none _ _ (so_far_none c.args.path.now c.args.intake g.A.Answer.answers c.args.answer.now before _ _ w c.new-pending.ensures);
 }
 
 pub loop-preserved : goal.loop-preserved
@@ -41,6 +43,13 @@ loop-preserved g c =
                 let is = s.3 was.0 in
                 (is.0, simp length-append (omega (arith, was.1, is.1))),
           );
+      recorded = λ before w past e.
+          let h = c.loop.invariant.recorded before w past e in
+          let s = told.recorded (before ++ h.2.text) h.2.written (past ++ h.0) h.1 in (
+            h.0 ++ s.0,
+            s.1 ∙ ap Some (append_assoc past h.0 s.0),
+            so_far_more c.args.path.now c.args.intake g.A.Answer.answers c.args.answer.now before _ _ c.loop.pending _ c.loop.answer _ h.0 s.0 s.2.0 c.in-Ok.field-0 h.2 s.2.1 s.2.2,
+          );
     }
 
 pub returns-in-Err-clause-served : goal.returns-in-Err-clause-served
@@ -48,6 +57,15 @@ returns-in-Err-clause-served g c = λ input before e w.
     let h = c.loop.invariant.so_far input before e w in
     let s = c.in-Err.ensures.served h.1 (before ++ h.0) h.3 h.2 in
     (h.0 ++ s.0, s.1 ∙ ap Some (append_assoc before h.0 s.0), h.4.serves s.0 c.in-Err.how c.serve_one.new.answer (ends s.2))
+
+pub returns-in-Err-clause-recorded : goal.returns-in-Err-clause-recorded
+returns-in-Err-clause-recorded g c = λ before w past e.
+    let h = c.loop.invariant.recorded before w past e in
+    let s = c.in-Err.ensures.recorded (before ++ h.2.text) h.2.written (past ++ h.0) h.1 in (
+      h.0 ++ s.0,
+      s.1 ∙ ap Some (append_assoc past h.0 s.0),
+      so_far_ends c.args.path.now c.args.intake g.A.Answer.answers c.args.answer.now before _ _ c.loop.pending c.loop.answer c.serve_one.new.answer h.0 s.0 s.2.0 c.in-Err.how h.2 s.2.1 s.2.2,
+    )
 
 pub returns-in-Err-clause-device : goal.returns-in-Err-clause-device
 returns-in-Err-clause-device g c = λ is. c.in-Err.ensures.device (ap Err is)
@@ -78,6 +96,11 @@ returns-clause-served g c = λ input before e w.
       subst (λ (t : List ℕ). Serves c.args.path.now c.args.intake g.A.Answer.answers input c.args.answer.now t c.loop.answer OutOfMemory)
           (append-nil h.0) (h.4.serves [] OutOfMemory c.loop.answer (ends (refl, refl))),
     )
+
+pub returns-clause-recorded : goal.returns-clause-recorded
+returns-clause-recorded g c = λ before w past e.
+    let h = c.loop.invariant.recorded before w past e in
+    (h.0, h.1, so_far_stops c.args.path.now c.args.intake g.A.Answer.answers c.args.answer.now before _ c.loop.pending c.loop.answer h.0 h.2)
 
 pub returns-clause-certain : goal.returns-clause-certain
 returns-clause-certain g c = λ input before e w short is.

@@ -11,6 +11,7 @@ loop-piece-init g c =
       read = c.requires.read;
       pieces = sym (append-nil _);
       choice = refl;
+      labels = refl;
       fleet = refl;
       len = refl;
       left = sym into.0;
@@ -29,9 +30,10 @@ loop-piece-preserved g c =
     let e = c.feed.ensures in record {
       fault = (subst (Feeds now) c.in-Ok.is (e.fed i.fault)).1;
       read = (subst (Feeds now) c.in-Ok.is (e.fed i.fault)).0;
-      pieces = grown c.args.shipper.now before now c.args.log.items more _ piece left i.pieces i.choice i.fleet i.len e.choice e.rest e.len (subst (Joins before.log now.log (piece_of piece)) c.in-Ok.is (e.pieces i.fault));
+      pieces = grown c.args.shipper.now before now c.args.log.items more _ piece left i.pieces i.choice i.labels i.fleet i.len e.choice e.labels e.rest e.len (subst (Joins before.log now.log (piece_of piece)) c.in-Ok.is (e.pieces i.fault));
       choice = e.choice ∙ i.choice;
-      fleet = fleet_on c.args.shipper.now before now c.args.log.items more _ piece left i.pieces i.choice i.fleet i.len e.choice e.rest e.len;
+      labels = e.labels ∙ i.labels;
+      fleet = fleet_on c.args.shipper.now before now c.args.log.items more _ piece left i.pieces i.choice i.labels i.fleet i.len e.choice e.labels e.rest e.len;
       len = e.len ∙ i.len;
       left = left ∙ sym (append_assoc more (piece ∷ []) _);
       counted = omega (arith, i.counted, step.1, ap length step.0);
@@ -46,5 +48,5 @@ returns-in-Err g c =
     let now = c.feed.new.self in
     let before = c.loop-piece.shipper in
     let e = c.feed.ensures in
-    fails c.args.shipper.now before now c.args.log.items more _ piece (i.left ∙ ap (λ l. more ++ l) step.0) i.pieces i.choice i.fleet i.len e.choice e.rest e.len
+    fails c.args.shipper.now before now c.args.log.items more _ piece (i.left ∙ ap (λ l. more ++ l) step.0) i.pieces i.choice i.labels i.fleet i.len e.choice e.labels e.rest e.len
     c.in-Err.fault (subst (Feeds now) c.in-Err.is (e.fed i.fault)) (subst (Joins before.log now.log (piece_of piece)) c.in-Err.is (e.pieces i.fault))

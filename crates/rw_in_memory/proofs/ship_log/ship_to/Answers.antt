@@ -1,13 +1,13 @@
-use Rattle.std.proofs.Common.{◌≡◌, [], refl}
+use Rattle.std.proofs.Common.{◌≡◌, [], false, refl}
 use Rattle.rw_shard_core.specs.Configs.{choice_of}
 use Rattle.rw_in_memory.proofs.ShippedLemmas.{if_ok, shipped_so}
 use Rattle.rw_in_memory.specs.Shipped.{IsGathered, IsShippedTo}
 use Rattle.rw_in_memory.specs.declared.ship_log.Shipped.{Shipped}
 use Rattle.rw_in_memory.proofs.ship_log.ship_to.Goals as goal
-use Rattle.rw_sender.proofs.shared.ShippingLemmas.{read_begun, read_unfed}
+use Rattle.rw_sender.proofs.shared.ShippingLemmas.{read_begun}
 
 pub feed_all-fed-requires-clause-read : goal.feed_all-fed-requires-clause-read
-feed_all-fed-requires-clause-read g c = λ lifetimes live. read_begun c.in_ok-shipper.shipper.log (choice_of c.args.config) [] c.in_ok-shipper.ensures.log (read_unfed [] refl)
+feed_all-fed-requires-clause-read g c = λ lifetimes live. read_begun c.in_ok-shipper.shipper.log (choice_of c.args.config) [] false [] refl c.in_ok-shipper.ensures.log
 
 pub returns : goal.returns
 returns g c =

@@ -4,7 +4,7 @@ use Rattle.rw_log_commands.proofs.TakingLemmas.{same_error, says_log, says_so, s
 use Rattle.rw_log_commands.proofs.plan.plan_segment.Goals as goal
 
 pub returns-in-None-clause-ok : goal.returns-in-None-clause-ok
-returns-in-None-clause-ok g c = plans_segment _ c.args.may_compress _ _ _ _ (c.in_ok-plan_log.ensures.ok (ap Ok c.in-None.is) _ (begins_one _))
+returns-in-None-clause-ok g c = plans_segment _ _ c.args.may_compress _ _ _ _ (c.in_ok-plan_log.ensures.ok (ap Ok c.in-None.is) _ (begins_one _))
 
 pub returns-in-Some-clause-log : goal.returns-in-Some-clause-log
 returns-in-Some-clause-log g c = λ f is.
@@ -12,4 +12,4 @@ returns-in-Some-clause-log g c = λ f is.
 
 pub returns-in_err-plan_log-clause-device : goal.returns-in_err-plan_log-clause-device
 returns-in_err-plan_log-clause-device g c = λ is.
-    plan_failed _ c.args.may_compress _ _ _ _ _ _ _ _ (c.in_err-plan_log.ensures.device (ap Err (same_error _ _ _ c.from_residual.ensures.1 is)))
+    plan_failed _ _ c.args.may_compress _ _ _ _ _ _ _ _ (c.in_err-plan_log.ensures.device (ap Err (same_error _ _ _ c.from_residual.ensures.1 is)))

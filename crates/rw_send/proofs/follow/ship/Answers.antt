@@ -1,4 +1,4 @@
-use Rattle.std.proofs.Common.{[], length, Bool, refl, ap, ◌∙◌, subst}
+use Rattle.std.proofs.Common.{◌≡◌, [], length, Bool, refl, ap, ◌∙◌, subst}
 use Rattle.rw_sender.specs.Feeders.{Sorting}
 use Rattle.rw_sender.proofs.shared.ShippingLemmas.{failed_so}
 use Rattle.rw_send.specs.Logs.{Seen, seen_of}
@@ -35,6 +35,8 @@ returns g c = λ start h.
     let least = c.of-sharding.ensures.fewest in
     let greatest = c.of-sharding.ensures.most in
     let started = c.in_ok-shipper.shipper in
+    let choice : shipper.log.choice ≡ started.log.choice = λ i. (live.kept.0 i).0 in
+    let labels : shipper.log.labels ≡ started.log.labels = λ i. (live.kept.0 i).1 in
     let begun = ap (λ (l : Sorting). l.pieces) c.in_ok-shipper.ensures.log in
     let opened = c.in_ok-shipper.ensures.opened in
     record {
@@ -43,7 +45,8 @@ returns g c = λ start h.
       short = subst (λ (b : Bool). IsShortLog b shipper.log.pieces) (marked_begun _ _ begun) live.short;
       report = record {
         shipping = shipper;
-        choice = live.kept.0 ∙ ap (λ (l : Sorting). l.choice) c.in_ok-shipper.ensures.log;
+        choice = choice ∙ ap (λ (l : Sorting). l.choice) c.in_ok-shipper.ensures.log;
+        labels_are = labels ∙ ap (λ (l : Sorting). l.labels) c.in_ok-shipper.ensures.log;
         config = live.kept.1 ∙ c.in_ok-shipper.ensures.config;
         limit_is = λ sound. live.limit sound ∙ c.in_ok-shipper.ensures.limit;
         pieces_are = refl;

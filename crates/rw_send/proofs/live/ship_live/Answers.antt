@@ -1,19 +1,23 @@
-use Rattle.std.proofs.Common.{length, Ok, Err, inl, refl, sym, ap, ◌∙◌, subst, rules}
+use Rattle.std.proofs.Common.{[], length, Result, Ok, Err, IfErr, inl, refl, sym, ap, ◌∙◌, subst, rules}
 use Rattle.rw_follow.specs.Meals.{Meal}
 use Rattle.rw_follow.specs.Turns.{given_by}
 use Rattle.rw_send.specs.Logs.{seen_of}
 use Rattle.rw_send.specs.Segments.{meal_of}
 use Rattle.rw_send.specs.Steps.{HasLapped}
-use Rattle.rw_send.specs.inner.Turns.{IsDone, IsUndone}
+use Rattle.rw_send.specs.declared.feed_error.FeedError.{FeedError}
+use Rattle.rw_send.specs.inner.FeedErrors.{HasDamage}
+use Rattle.rw_send.specs.inner.Turns.{IsCut, IsDone, IsUndone}
 use Rattle.rw_send.proofs.EpochLemmas.{last_same}
 use Rattle.rw_send.proofs.EpochSizeLemmas.{sizes_on}
-use Rattle.rw_send.proofs.FeedErrorLemmas.{count_so, err_so, on_err}
+use Rattle.rw_send.proofs.FeedErrorLemmas.{count_so, err_so, failed_is, on_err}
 use Rattle.rw_send.proofs.IntactLemmas.{intact_at_first, sound_at_first}
+use Rattle.rw_send.proofs.KeepLemmas.{soon_reshards}
 use Rattle.rw_send.proofs.LapLemmas.{come_to, idle_halted, idle_on, lapped}
 use Rattle.rw_send.proofs.LoopLemmas.{almost, cut_broken, cut_halted, damage_broken, damage_halted}
 use Rattle.rw_send.proofs.MealLemmas.{meal_begun}
 use Rattle.rw_send.proofs.ShortLemmas.{short_begun}
 use Rattle.rw_send.proofs.StepLemmas.{between, stays}
+use Rattle.rw_send.proofs.TurnLemmas.{failed_not, goes_so, same_ok, unset_reshards}
 use Rattle.rw_send.proofs.live.ship_live.Goals as goal
 
 pub loop-init : goal.loop-init
@@ -42,8 +46,10 @@ pub loop-preserved : goal.loop-preserved
 loop-preserved g c =
     let was = c.loop.invariant in
     let turn = c.in_ok-turn.ensures in
+    let soon = c.in_ok-next.ensures in
     let step = c.in_ok-sharding.ensures in
-    let keeps = step.reshards.keeps in
+    let whole = soon_reshards c.in_ok-turn.turn c.turn.new.buf c.loop.sharding c.in_ok-next.next c.loop.shipper c.keep_if_due.new.shipper c.step.new.shipper _ soon.kept soon.config step.reshards in
+    let keeps = whole.keeps in
     record {
       kept = (keeps.kept.0 ∙ was.kept.0, keeps.kept.1 ∙ was.kept.1);
       limit = keeps.limit keeps.live ∙ was.limit;
@@ -56,19 +62,21 @@ loop-preserved g c =
       sizes = sizes_on c.args.sharding.fewest c.args.sharding.most c.loop.sharding.fewest c.loop.sharding.most c.args.shipper.now.fleet c.loop.shipper.fleet c.step.new.shipper.fleet was.range was.sizes (keeps.sizes keeps.live);
       laps = λ q.
           let hushed = turn.hushed (was.quiet q) in
-          let due = c.is_reshard_due-is_due.ensures.quiet hushed in
-          let goes = step.goes due.1 in
+          let due = c.is_reshard_due-is_due.ensures.quiet (soon.quiet hushed) in
+          let goes = goes_so c.in_ok-turn.turn c.turn.new.buf c.loop.sharding c.in_ok-next.next c.loop.shipper c.keep_if_due.new.shipper c.step.new.shipper _
+          (same_ok c.in_ok-next.next c.loop.sharding (soon.done hushed)) (soon.same hushed) (step.goes due.1) in
           lapped c.args.sharding.fewest c.args.sharding.most c.in_ok-turn.turn c.turn.new.buf c.args.shipper.now c.loop.shipper c.step.new.shipper (was.laps q)
           (between (λ fewest most. IsDone fewest most c.in_ok-turn.turn c.loop.shipper c.step.new.shipper) was.range.0 was.range.1 goes.done)
           (λ e. turn.unasked (was.quiet q) (ap Ok e)) goes.fed;
       idle = λ q.
           let hushed = turn.hushed (was.quiet q) in
-          let due = c.is_reshard_due-is_due.ensures.quiet hushed in
-          let goes = step.goes due.1 in
+          let due = c.is_reshard_due-is_due.ensures.quiet (soon.quiet hushed) in
+          let goes = goes_so c.in_ok-turn.turn c.turn.new.buf c.loop.sharding c.in_ok-next.next c.loop.shipper c.keep_if_due.new.shipper c.step.new.shipper _
+          (same_ok c.in_ok-next.next c.loop.sharding (soon.done hushed)) (soon.same hushed) (step.goes due.1) in
           idle_on c.loop.sharding.fewest c.loop.sharding.most c.in_ok-turn.turn c.turn.new.buf c.args.shipper.now c.loop.shipper c.step.new.shipper (was.idle q) goes.done
           (λ e. turn.unasked (was.quiet q) (ap Ok e)) turn.piece (λ n e. turn.some n (ap Ok e)) goes.fed;
-      quiet = λ q. (c.is_reshard_due-is_due.ensures.quiet (turn.hushed (was.quiet q))).0;
-      given = λ start h. subst (λ (m : Meal). g.S.Segments.gave c.turn.new.segments start m) (sym step.reshards.fed) (turn.given start (meal_of c.loop.shipper.log.pieces) (was.given start h));
+      quiet = λ q. (c.is_reshard_due-is_due.ensures.quiet (soon.quiet (turn.hushed (was.quiet q)))).0;
+      given = λ start h. subst (λ (m : Meal). g.S.Segments.gave c.turn.new.segments start m) (sym whole.fed) (turn.given start (meal_of c.loop.shipper.log.pieces) (was.given start h));
       followed = turn.followed;
       fails = λ f h. was.fails f (turn.later f h);
       resolved = λ done. keeps.resolved (was.resolved done);
@@ -80,8 +88,10 @@ pub returns-in_err-sharding : goal.returns-in_err-sharding
 returns-in_err-sharding g c =
     let was = c.loop.invariant in
     let turn = c.in_ok-turn.ensures in
+    let soon = c.in_ok-next.ensures in
     let step = c.in_err-sharding.ensures in
-    let keeps = step.reshards.keeps in
+    let whole = soon_reshards c.in_ok-turn.turn c.turn.new.buf c.loop.sharding c.in_ok-next.next c.loop.shipper c.keep_if_due.new.shipper c.step.new.shipper _ soon.kept soon.config step.reshards in
+    let keeps = whole.keeps in
     let is_err = c.from_residual-in_err-sharding.ensures.1 in
     record {
       kept = (keeps.kept.0 ∙ was.kept.0, keeps.kept.1 ∙ was.kept.1);
@@ -90,16 +100,18 @@ returns-in_err-sharding g c =
       sizes = λ sound. sizes_on c.args.sharding.fewest c.args.sharding.most c.loop.sharding.fewest c.loop.sharding.most c.args.shipper.now.fleet c.loop.shipper.fleet c.step.new.shipper.fleet was.range was.sizes (keeps.sizes sound);
       laps = λ q start h.
           let hushed = turn.hushed (was.quiet q) in
-          let due = c.is_reshard_due-is_due.ensures.quiet hushed in
-          let goes = step.goes due.1 in
+          let due = c.is_reshard_due-is_due.ensures.quiet (soon.quiet hushed) in
+          let goes = goes_so c.in_ok-turn.turn c.turn.new.buf c.loop.sharding c.in_ok-next.next c.loop.shipper c.keep_if_due.new.shipper c.step.new.shipper _
+          (same_ok c.in_ok-next.next c.loop.sharding (soon.done hushed)) (soon.same hushed) (step.goes due.1) in
           come_to c.args.sharding.fewest c.args.sharding.most c.in_ok-turn.turn c.turn.new.buf (g.S.Segments.gave c.turn.new.segments start) c.args.shipper.now c.loop.shipper c.step.new.shipper (was.laps q)
           (between (λ fewest most. IsUndone fewest most c.in_ok-turn.turn c.loop.shipper c.step.new.shipper) was.range.0 was.range.1 goes.halted)
           (λ e. turn.unasked (was.quiet q) (ap Ok e)) goes.part (turn.given start (meal_of c.loop.shipper.log.pieces) (was.given start h));
       lapped = on_err _ _ _ is_err;
       idle = λ q start h none.
           let hushed = turn.hushed (was.quiet q) in
-          let due = c.is_reshard_due-is_due.ensures.quiet hushed in
-          let goes = step.goes due.1 in
+          let due = c.is_reshard_due-is_due.ensures.quiet (soon.quiet hushed) in
+          let goes = goes_so c.in_ok-turn.turn c.turn.new.buf c.loop.sharding c.in_ok-next.next c.loop.shipper c.keep_if_due.new.shipper c.step.new.shipper _
+          (same_ok c.in_ok-next.next c.loop.sharding (soon.done hushed)) (soon.same hushed) (step.goes due.1) in
           idle_halted c.loop.sharding.fewest c.loop.sharding.most c.in_ok-turn.turn c.turn.new.buf c.args.shipper.now c.loop.shipper c.step.new.shipper goes.halted
           (λ e. turn.unasked (was.quiet q) (ap Ok e)) turn.piece (λ n e. turn.some n (ap Ok e)) (none (given_by c.in_ok-turn.turn c.turn.new.buf (meal_of c.loop.shipper.log.pieces)) (turn.given start (meal_of c.loop.shipper.log.pieces) (was.given start h)));
       last = λ done. keeps.last (was.resolved done);
@@ -107,14 +119,46 @@ returns-in_err-sharding g c =
       but_last = keeps.but_last was.but_last;
       live = on_err _ _ _ is_err;
       begins = λ start h. almost (g.S.Segments.gave c.turn.new.segments start) c.in_ok-turn.turn c.turn.new.buf (meal_of c.loop.shipper.log.pieces) (meal_of c.step.new.shipper.log.pieces)
-          (turn.given start (meal_of c.loop.shipper.log.pieces) (was.given start h)) step.reshards.part;
+          (turn.given start (meal_of c.loop.shipper.log.pieces) (was.given start h)) whole.part;
       whole = on_err _ _ _ is_err;
       signed = on_err _ _ _ is_err;
-      damaged = err_so _ _ _ is_err (damage_halted c.in_ok-turn.turn c.loop.shipper c.step.new.shipper _ step.reshards.halts);
+      damaged = err_so _ _ _ is_err (damage_halted c.in_ok-turn.turn c.loop.shipper c.step.new.shipper _ whole.halts);
       cut = err_so _ _ _ is_err (λ start h.
           cut_halted c.loop.shipper c.step.new.shipper
           (seen_of (g.S.Segments.gave c.turn.new.segments start) (g.S.Segments.had_all c.turn.new.segments start) (g.S.Segments.lacks c.turn.new.segments) (g.S.Segments.may_fail c.args.segments.now))
-          _ c.in_ok-turn.turn c.turn.new.buf _ step.reshards.halts (turn.given start (meal_of c.loop.shipper.log.pieces) (was.given start h)) turn.piece (λ n e. turn.some n (ap Ok e)));
+          _ c.in_ok-turn.turn c.turn.new.buf _ whole.halts (turn.given start (meal_of c.loop.shipper.log.pieces) (was.given start h)) turn.piece (λ n e. turn.some n (ap Ok e)));
+    }
+
+pub returns-in_err-next : goal.returns-in_err-next
+returns-in_err-next g c =
+    let was = c.loop.invariant in
+    let turn = c.in_ok-turn.ensures in
+    let set = c.in_err-next.ensures in
+    let shipper = c.keep_if_due.new.shipper in
+    let whole = unset_reshards c.in_ok-turn.turn c.turn.new.buf c.loop.sharding c.loop.shipper shipper set.placed set.unset.log set.unset.limit set.unset.fleet set.config set.failed was.shards in
+    let keeps = whole.keeps in
+    let is_err = c.from_residual-in_err-next.ensures.1 in
+    let failed = failed_is _ _ is_err set.err in
+    record {
+      kept = (keeps.kept.0 ∙ was.kept.0, keeps.kept.1 ∙ was.kept.1);
+      limit = λ sound. keeps.limit sound ∙ was.limit;
+      number = keeps.number;
+      sizes = λ sound. sizes_on c.args.sharding.fewest c.args.sharding.most c.loop.sharding.fewest c.loop.sharding.most c.args.shipper.now.fleet c.loop.shipper.fleet shipper.fleet was.range was.sizes (keeps.sizes sound);
+      laps = λ q start h. absurd (failed_not c.loop.sharding _ (set.done (turn.hushed (was.quiet q))));
+      lapped = on_err _ _ _ is_err;
+      idle = λ q start h none. absurd (failed_not c.loop.sharding _ (set.done (turn.hushed (was.quiet q))));
+      last = λ done. keeps.last (was.resolved done);
+      short = keeps.short _ was.short;
+      but_last = keeps.but_last was.but_last;
+      live = on_err _ _ _ is_err;
+      begins = λ start h. almost (g.S.Segments.gave c.turn.new.segments start) c.in_ok-turn.turn c.turn.new.buf (meal_of c.loop.shipper.log.pieces) (meal_of shipper.log.pieces)
+          (turn.given start (meal_of c.loop.shipper.log.pieces) (was.given start h)) whole.part;
+      whole = on_err _ _ _ is_err;
+      signed = on_err _ _ _ is_err;
+      damaged = subst (λ (r : Result (Unit {0}) FeedError). IfErr r (HasDamage shipper)) failed tt;
+      cut = subst (λ (r : Result (Unit {0}) FeedError). IfErr r (λ e. (start : g.S.Segments.Start) → g.S.Segments.gave c.args.segments.now start (meal_of []) → IsCut shipper
+          (seen_of (g.S.Segments.gave c.turn.new.segments start) (g.S.Segments.had_all c.turn.new.segments start) (g.S.Segments.lacks c.turn.new.segments) (g.S.Segments.may_fail c.args.segments.now))
+          (g.W.Watch.said c.keep_if_due.new.watch) e)) failed (λ start h. inl set.failed);
     }
 
 pub returns-in_err-turn-clause-cut : goal.returns-in_err-turn-clause-cut

@@ -1,12 +1,17 @@
 use Rattle.std.proofs.Common.{subst}
 use Rattle.rw_sender.specs.declared.feeder.Next.{Next}
 use Rattle.rw_sender.specs.Feeders.{ReadsNext}
-use Rattle.rw_sender.proofs.shared.ShippingLemmas.{goes_same}
+use Rattle.rw_sender.proofs.shared.ShippingLemmas.{goes_same, goes_read}
 use Rattle.rw_sender.proofs.CutLemmas.{goes_cut_self}
 use Rattle.rw_sender.proofs.place.place_next.Goals as goal
 
 pub returns-in_default-clause-goes : goal.returns-in_default-clause-goes
 returns-in_default-clause-goes g c = goes_same _ c.args.feeder.now c.read.new.self c.args.fleet.now c.in_default.ensures.err
+
+pub returns-in_default-label-clause-goes : goal.returns-in_default-label-clause-goes
+returns-in_default-label-clause-goes g c =
+    let read = subst (λ (n : Next). ReadsNext c.args.feeder.now c.read.new.self n) c.in-Entry.is c.in-Ok.ensures.ok in
+    goes_read _ c.args.feeder.now c.read.new.self _ c.args.fleet.now read
 
 pub returns-in-End-clause-goes : goal.returns-in-End-clause-goes
 returns-in-End-clause-goes g c =

@@ -5,9 +5,9 @@ use Rattle.rw_sent_held.proofs.RestartLemmas.{is_run}
 use Rattle.rw_sent_held.proofs.laws.a_send_is_such_a_sender.Goals as goal
 
 pub returns-clause-sent : goal.returns-clause-sent
-returns-clause-sent g c config limit lefts now sures quiet said r answer sent =
-    is_run g.T.Transport.tells g.T.Transport.seen g.T.Transport.is_for config limit (StopsAtOnce (readers lefts now sures) said (meal_of sent.pieces) answer) sent.pieces r sent.report c.a_stopped_shipper_is_such_a_sender.ensures.abandoned c.many_runs_hold_one_log.ensures.holds
+returns-clause-sent g c config limit lefts now sures quiet said r answer reading sent =
+    is_run g.T.Transport.tells g.T.Transport.seen g.T.Transport.is_for config limit reading.labels (StopsAtOnce (readers lefts now sures) said (meal_of sent.pieces) answer) sent.pieces r sent.report c.a_stopped_shipper_is_such_a_sender.ensures.abandoned c.many_runs_hold_one_log.ensures.holds
 
 pub returns-clause-followed : goal.returns-clause-followed
-returns-clause-followed g c config limit start before after quiet said r answer sent =
-    is_run g.T.Transport.tells g.T.Transport.seen g.T.Transport.is_for config limit (StopsAtOnce (seen_of (g.S.Segments.gave after start) (g.S.Segments.had_all after start) (g.S.Segments.lacks after) (g.S.Segments.may_fail before)) said (meal_of sent.pieces) answer) sent.pieces r sent.report c.a_stopped_shipper_is_such_a_sender.ensures.abandoned c.many_runs_hold_one_log.ensures.holds
+returns-clause-followed g c config limit start before after quiet said r answer reading sent =
+    is_run g.T.Transport.tells g.T.Transport.seen g.T.Transport.is_for config limit reading.labels (StopsAtOnce (seen_of (g.S.Segments.gave after start) (g.S.Segments.had_all after start) (g.S.Segments.lacks after) (g.S.Segments.may_fail before)) said (meal_of sent.pieces) answer) sent.pieces r sent.report c.a_stopped_shipper_is_such_a_sender.ensures.abandoned c.many_runs_hold_one_log.ensures.holds

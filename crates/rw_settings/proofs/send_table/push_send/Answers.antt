@@ -1,7 +1,7 @@
 use Rattle.std.proofs.Common.{◌≡◌, [], ◌∷◌, ◌++◌, false, codes, string_bytes, sym, ap, ◌∙◌, append_assoc, arith}
 use Rattle.std.proofs.lemmas.List.Folds.{concat-append}
 use Rattle.std.specs.List.{concat}
-use Rattle.rw_settings.specs.Keys.{send_keys, snappy, headers, bearer_token_file}
+use Rattle.rw_settings.specs.Keys.{send_keys, snappy, headers, bearer_token_file, external_labels}
 use Rattle.rw_settings.specs.Sending.{send_values}
 use Rattle.rw_settings.specs.SettingsText.{lines_of, send_text}
 use Rattle.rw_settings.specs.Values.{switch_values}
@@ -17,7 +17,7 @@ returns c =
     let old = string_bytes c.args.out.now in
     let send = c.args.send.now in
     let front = lines_of send_keys (send_values (record send { snappy = false })) in
-    let back = lines_of (snappy ∷ headers ∷ bearer_token_file ∷ []) (switch_values send.snappy) in
+    let back = lines_of (snappy ∷ headers ∷ bearer_token_file ∷ external_labels ∷ []) (switch_values send.snappy) in
     let whole : old ++ (codes "[send]\n" ++ concat (front ++ back)) ≡ ((old ++ codes "[send]\n") ++ concat front) ++ concat back =
     ap (λ t. old ++ (codes "[send]\n" ++ t)) (concat-append front back) ∙ sym (append_assoc old (codes "[send]\n") (concat front ++ concat back))
     ∙ sym (append_assoc (old ++ codes "[send]\n") (concat front) (concat back)) in

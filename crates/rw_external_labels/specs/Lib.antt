@@ -1,0 +1,4 @@
+pub mod External
+pub mod Laws
+pub mod Rows
+pub mod inner

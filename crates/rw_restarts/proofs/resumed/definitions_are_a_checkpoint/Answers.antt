@@ -1,0 +1,8 @@
+use Rattle.rw_restarts.proofs.ResumedLemmas.{is_checkpoint, says_same}
+use Rattle.rw_restarts.proofs.resumed.definitions_are_a_checkpoint.Goals as goal
+
+pub returns-clause-labels : goal.returns-clause-labels
+returns-clause-labels c = says_same
+
+pub returns-clause-checkpoint : goal.returns-clause-checkpoint
+returns-clause-checkpoint c = is_checkpoint

@@ -1,0 +1,4 @@
+mod ContinuationLemmas
+mod CopyLemmas
+pub mod DefinitionLemmas
+mod WrittenLemmas

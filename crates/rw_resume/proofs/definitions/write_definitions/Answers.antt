@@ -1,0 +1,14 @@
+use Rattle.std.proofs.Common.{[], List, ℕ, Vec, refl, sym, subst, arith}
+use Rattle.std.specs.declared.alloc.Global.{Global}
+use Rattle.rw_resume.specs.Logs.{texts_of}
+use Rattle.rw_resume.specs.inner.Written.{AreWhole}
+use Rattle.rw_resume.proofs.WrittenLemmas.{none_whole}
+use Rattle.rw_resume.proofs.definitions.write_definitions.Goals as goal
+
+pub loop-rest-init : goal.loop-rest-init
+loop-rest-init c = record {
+  some = omega arith;
+  entries = [];
+  whole = subst (λ (xs : List (Vec ℕ Global)). AreWhole (texts_of xs) []) (sym c.new-texts.ensures.items) none_whole;
+  all = refl;
+}

@@ -1,0 +1,20 @@
+//! How a sender that is started again goes on where an earlier one was: the file that has its
+//! position, which segments are read, and the definitions before them.
+#![tactic(auto)]
+
+mod after;
+mod continuation;
+mod definitions;
+mod keeping;
+mod position;
+mod position_call;
+mod position_file;
+mod position_files;
+
+pub use after::{After, Numbered};
+pub use continuation::{Continuation, find_continuation};
+pub use definitions::{Definitions, write_definitions};
+pub use keeping::Keeping;
+pub use position::{Position, read_position};
+pub use position_file::PositionFile;
+pub use position_files::{PositionFault, PositionFiles, write_position};
