@@ -129,14 +129,15 @@ fn ask_sorted<R: Wait, L: Holding<H>, H: Admit>(
 }
 
 /// Counts what was not taken of a body that the head was asked for and did not acknowledge, and has
-/// the reply say why if that is wanted.
+/// the reply say why if that is wanted. Returns whether samples of it were taken, as far as that is
+/// known.
 fn count_refused(
     context: &ServerContext<'_>,
     trace: &RequestTrace<'_>,
     body: &[u8],
     asked: &SeatAnswer,
     taken: &Option<Vec<u8>>,
-) {
+) -> bool {
     let (alloc, limits) = (context.alloc, context.limits);
     let refusal = match taken {
         Some(text) => trace.note_part(asked.status, refused_part(alloc, limits, body, text)),
@@ -145,9 +146,13 @@ fn count_refused(
             Some(trace.note_refused(asked.status, reason, body))
         }
     };
-    if let (Some(refusal), true) = (refusal, context.takes.explains && asked.status == 400) {
+    let Some(refusal) = refusal else {
+        return false;
+    };
+    if context.takes.explains && asked.status == 400 {
         trace.explain(explanation(alloc, limits, refusal, body, taken));
     }
+    refusal.taken > 0
 }
 
 /// Counts how a body was answered, and what was not taken of it.
@@ -166,9 +171,13 @@ fn count_answer(
         trace.note_acknowledged(body);
         return;
     }
-    match &answered.sorted {
+    let is_taken_partly = match &answered.sorted {
         Some(text) => count_refused(context, trace, text, asked, taken),
         None => count_refused(context, trace, body, asked, taken),
+    };
+    if is_taken_partly {
+        // One with sorted labels has only its samples.
+        context.counters.skip_parts(body);
     }
 }
 

@@ -1,9 +1,12 @@
 //! Why a body was refused.
 
-ghost use Rattle.std.specs.Prelude.{◌≡◌, Some, Err};
+ghost use Rattle.std.specs.Prelude.{◌≡◌, Some, Err, IfOk, IfErr, map};
 ghost use Rattle.rw_metrics.specs.declared.refusals.RefusalReason.TheVariants.{Body};
+ghost use Rattle.rw_receive.specs.Refusing.{label_reason};
+ghost use Rattle.rw_types.specs.Labels.{text_label};
 ghost use Rattle.rw_write_request.specs.Read.{read};
 ghost use Rattle.rw_write_request.specs.declared.fault.WireFault.{WireFault};
+ghost use Rattle.rw_write_request.specs.declared.fault.WireFault.TheVariants.{OutOfMemory};
 
 use rw_head::Limits;
 use rw_metrics::RefusalReason;
@@ -12,11 +15,17 @@ use rw_types::{LabelFault, LabelSet};
 use rw_write_request::{WireFault, check_message, label_count, message_part, read_labels};
 use std::alloc::Global;
 
-/// Returns why a head with these limits refuses these labels: `Ok(None)` if it does not.
+/// Returns why a head with these limits refuses these labels: `Ok(None)` if it does not. Valid
+/// labels that are too many or too long for any label set are over the limits of every head. An
+/// error means that memory ran out.
 pub(crate) fn fault_of_texts(
     limits: &Limits,
     labels: Vec<(String, String)>,
-) -> Result<Option<RefusalReason>, WireFault> {
+) -> Result<Option<RefusalReason>, WireFault>
+    ensures reason { IfOk result (λ reason. reason
+        ≡ label_reason limits.now (map text_label labels.items)) }
+    ensures memory { IfErr result (λ f. f ≡ OutOfMemory) }
+{
     Ok(match LabelSet::of_texts(limits.names, labels) {
         Ok(labels) => {
             let max_labels = limits.max_labels.get() as usize;
@@ -27,6 +36,7 @@ pub(crate) fn fault_of_texts(
             }
         }
         Err(LabelFault::OutOfMemory) => return Err(WireFault::OutOfMemory),
+        Err(LabelFault::TooMany | LabelFault::TooLong) => Some(RefusalReason::Limits),
         Err(_) => Some(RefusalReason::Labels),
     })
 }
