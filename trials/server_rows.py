@@ -196,20 +196,18 @@ class ServerRows:
             return trial.judge(log, Log(1, 2, 1_000, self.now_ms, "newer", odd=()), may_lose=may_lose)
         return steps
 
-    def resumed(self, *more, may_drop=True):
-        """Steps that ship a log of two segments with --resume, and then ship it again: at most the last segment is sent twice."""
+    def resumed(self, **how):
+        """Steps that ship a log with --resume again and again as it grows: nothing is sent twice, so nothing is refused."""
         def steps(trial):
-            log, options = self.log(), ("--snappy", "--resume", f"{trial.room}/position", *more)
-            folder, half = f"{trial.room}/shipped", len(log.samples) // 2
-            log.write(trial.program, folder)
-            for segment, part in (1, log.after(half)), (0, log):
-                part.write(trial.program, f"{trial.room}/part", half)
-                os.replace(f"{trial.room}/part/00000000", f"{folder}/{segment:08d}")
-            ran = [trial.report(folder, options=options) for _ in range(2)]
+            log, folder, ran = self.log(), f"{trial.room}/shipped", []
+            count, options = len(log.samples), ("--snappy", "--resume", f"{trial.room}/position")
+            for upto in (count // 3, count // 3, count // 2, count // 2 + 1, count):
+                log.write(trial.program, folder, upto)
+                ran.append(trial.report(folder, options=options, **how))
             trial.held = trial.server.holds()
-            said = f"{[len(it.dropped) for it in ran]} of {len(log.samples)} samples listed as dropped"
-            if any(it.status for it in ran) or ran[0].dropped or len(ran[1].dropped) > (half if may_drop else 0):
-                raise Different(f"{said}, statuses {[it.status for it in ran]}: {ran[1].said[-400:]!r}")
+            said = f"{[len(it.dropped) for it in ran]} of {count} samples listed as dropped"
+            if any(it.status or it.dropped for it in ran):
+                raise Different(f"{said}, statuses {[it.status for it in ran]}: {ran[-1].said[-400:]!r}")
             over_folder.same_samples("the server holds", trial.held, trial.server.keeps(log.held()))
             return f"{said}; all held"
         return steps
@@ -290,8 +288,8 @@ def run_prometheus(rows, program, room):
     it.run("3 hours of log beside a newer sample, with a window", it.beside_newer(3), WINDOW)
     it.run("a sample of each batch is too old, with a window", it.one_too_old(), WINDOW)
     if has_option(program, "--resume"):
-        it.run("a second run, --resume", it.resumed())
-        it.run("a second run, --resume, with a window", it.resumed(may_drop=False), WINDOW)
+        it.run("five runs over a log that grows, --resume", it.resumed())
+        it.run("five runs over a log that grows, --resume, every third request answered 503", it.resumed(), refuses_every=3)
     it.run("bodies of at most 2,000 bytes", it.once(options=("--snappy", "--max-batch-bytes", "2000")))
     it.run("samples older than the window, --give-up", it.beside_newer(1, 48, may_lose=True, options=("--snappy", "--give-up", "2s")), WINDOW)
     rows.run("Prometheus: the log of a server that has written a checkpoint", from_checkpoint, program, room)

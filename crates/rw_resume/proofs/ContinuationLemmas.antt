@@ -1,7 +1,7 @@
 -- The least number that is not below another one.
 use Rattle.std.proofs.Common.{◌≡◌, ℕ, suc, ◌<◌, ◌≤◌, List, [], ◌∷◌, ◌++◌, Option, None, Some, inl, inr, sym, subst, arith}
 use Rattle.std.proofs.lemmas.List.Elements.{All-push, All-weaker, Contains-append_left, Contains-push}
-use Rattle.std.specs.List.{All, Contains}
+use Rattle.std.specs.List.{Contains}
 use Rattle.rw_resume.specs.Continuations.{IsContinuation, IsHole, IsLeastFrom}
 use Rattle.rw_resume.specs.declared.continuation.Continuation.{Continuation}
 use Rattle.rw_resume.specs.declared.continuation.Continuation.TheVariants.{There, Gone, Ended}

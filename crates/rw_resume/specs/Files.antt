@@ -1,6 +1,6 @@
 -- What a crash may leave of the file with a position, by what was asked of the operating system.
 -- That the operating system keeps to this is a premise.
-use Rattle.std.specs.Prelude.{◌≡◌, ◌⊎◌, ℕ, Bool, true, false, List, [], ◌∷◌, ◌++◌, fold, Option, None, Some}
+use Rattle.std.specs.Prelude.{◌≡◌, ◌⊎◌, ℕ, Bool, true, false, List, [], ◌∷◌, ◌++◌, fold, Option, Some}
 use Rattle.std.specs.List.{Contains}
 use Rattle.rw_resume.specs.declared.position_call.PositionCall.{PositionCall}
 use Rattle.rw_resume.specs.declared.position_call.PositionCall.TheVariants.{Write, Spoil, Sync, Rename, SyncFolder}

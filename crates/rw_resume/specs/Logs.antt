@@ -64,3 +64,8 @@ IsReadBoth (text ∷ later) offset is_read = length text ≤ offset
 abbrev pub number_past : Segments → Option ℕ → Option ℕ
 number_past [] number = number
 number_past (text ∷ later) number = None
+
+-- it is read from its beginning
+abbrev pub base_past : Segments → ℕ → ℕ
+base_past [] base = base
+base_past (text ∷ later) base = 0

@@ -1,2 +1,3 @@
 -- Inner definitions: only models, invariants, private functions and proofs use them.
+pub mod Passing
 pub mod Written

@@ -16,9 +16,17 @@ pub trait Numbered: Segments {
     /// The number of the current segment, if it has one.
     ghost number: { Self → Option ℕ };
 
+    /// How many bytes of the current segment come before those that are read of it.
+    ghost base: { Self → ℕ };
+
     /// Returns the number of the current segment, or `None` if it has none or none is read.
     fn number(&self) -> Option<u64>
         ensures { result ≡ number self.now };
+
+    /// Returns how many bytes of the current segment come before those that are read of it: 0 but
+    /// for one that is begun in its middle.
+    fn base(&self) -> u64
+        ensures { result ≡ base self.now };
 }
 
 /// Segments in memory that are left, the current one first, and how much of it was read.
@@ -38,7 +46,7 @@ impl Model for Texts {
 
 /// Copies what a text has from an offset on to the front of the buffer, as much as fits, and
 /// returns how much that is.
-fn copy_from(text: &[u8], offset: usize, buf: &mut [u8]) -> usize
+pub(crate) fn copy_from(text: &[u8], offset: usize, buf: &mut [u8]) -> usize
     ensures room { length buf.new ≡ length buf.old }
     ensures bound { result ≤ length buf.new }
     ensures fits { 0 < result → offset + result ≤ length text.now }
@@ -184,9 +192,11 @@ impl<S: Segments + Drop> Segments for After<S> {
 }
 
 impl<S: Numbered + Drop> Numbered for After<S> {
-    ghost use Rattle.rw_resume.specs.Logs.{number_past};
+    ghost use Rattle.rw_resume.specs.Logs.{base_past, number_past};
 
     ghost number = { λ a. number_past a.first.left (S.number a.then) };
+
+    ghost base = { λ a. base_past a.first.left (S.base a.then) };
 
     fn number(&self) -> Option<u64> {
         if self.first.are_read() {
@@ -194,12 +204,25 @@ impl<S: Numbered + Drop> Numbered for After<S> {
         }
         None
     }
+
+    fn base(&self) -> u64 {
+        if self.first.are_read() {
+            return self.then.base();
+        }
+        0
+    }
 }
 
 impl<R: Files<File = File> + AllocGlobal + Copy> Numbered for Folder<R> {
     ghost number = { λ f. f.number };
 
+    ghost base = { λ _. 0 };
+
     fn number(&self) -> Option<u64> {
         Folder::number(self)
+    }
+
+    fn base(&self) -> u64 {
+        0
     }
 }

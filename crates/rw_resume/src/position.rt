@@ -16,8 +16,8 @@ pub struct Position {
     pub log: String,
     /// The number of the segment that comes next.
     pub segment: u64,
-    /// How many entries of that segment are before the position.
-    pub entries: u64,
+    /// How many bytes of that segment come before the position.
+    pub bytes: u64,
 }
 
 /// Appends a name, a space, a value, and a line feed.
@@ -51,7 +51,7 @@ impl Position {
         text.extend_from_slice(b"rwship position 1\n")?;
         push_line(&mut text, "log", self.log.as_str())?;
         push_number_line(&mut text, "segment", self.segment)?;
-        push_number_line(&mut text, "entries", self.entries)?;
+        push_number_line(&mut text, "bytes", self.bytes)?;
         text.extend_from_slice(b"end\n")?;
         Ok(text)
     }
@@ -77,14 +77,14 @@ fn likely_position(alloc: Global, text: &str) -> Result<Option<Position>, AllocE
     let Some(segment) = number_after(lines.next(), "segment ") else {
         return Ok(None);
     };
-    let Some(entries) = number_after(lines.next(), "entries ") else {
+    let Some(bytes) = number_after(lines.next(), "bytes ") else {
         return Ok(None);
     };
     let log = String::from_str(alloc, log)?;
     Ok(Some(Position {
         log,
         segment,
-        entries,
+        bytes,
     }))
 }
 

@@ -16,9 +16,9 @@ use Rattle.rw_send.proofs.EpochSizeLemmas.{sizes_on}
 use Rattle.rw_send.proofs.FeedErrorLemmas.{count_so}
 use Rattle.rw_send.proofs.TurnLemmas.{all_halt_from, range_on}
 
-pub either_named : {A : Type 0} (number : Option ℕ) (text : ℕ → List ℕ) (n : ℕ) (found : Option (List ℕ)) → number ≡ Some n → A ⊎ (found ≡ Some (text n)) → A ⊎ Names number text found
-either_named number text n found is (inl before) = inl before
-either_named number text n found is (inr new) = inr (n, is, new)
+pub either_named : {A : Type 0} (number : Option ℕ) (text : ℕ → ℕ → List ℕ) (n bytes all : ℕ) (found : Option (List ℕ)) → number ≡ Some n → bytes ≡ all → A ⊎ (found ≡ Some (text n bytes)) → A ⊎ Names number (λ n. text n all) found
+either_named number text n bytes all found is e (inl before) = inl before
+either_named number text n bytes all found is e (inr new) = inr (n, is, new ∙ ap (λ (b : ℕ). Some (text n b)) e)
 
 module _ {T : Type 0} where
   pub soon_reshards : (t : Turn) (buf : List ℕ) (sharding next : Sharding) (old mid new : Shipping T) (r : Result Sharding FeedError) → IsSoon sharding old mid next → mid.fleet.config ≡ old.fleet.config

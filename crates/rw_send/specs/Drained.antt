@@ -1,5 +1,8 @@
 -- A shipper of which all that was fed is resolved.
-use Rattle.std.specs.Prelude.{◌≡◌, ◌⊎◌, None, length}
+use Rattle.std.specs.Prelude.{◌≡◌, ◌⊎◌, ℕ, ◌≤◌, None, length}
+use Rattle.rw_follow.specs.Meals.{Meal}
+use Rattle.rw_follow.specs.declared.follower.Turn.{Turn}
+use Rattle.rw_follow.specs.declared.follower.Turn.TheVariants as turn
 use Rattle.rw_fleet.specs.ShardHistories.{AreFresh}
 use Rattle.rw_fleet.specs.Work.{AreResolved}
 use Rattle.rw_sender.specs.Shipping.{Shipping, HasCompared}
@@ -25,3 +28,17 @@ pub record IsSoon {T : Type 0} (sharding : Sharding) (old new : Shipping T) (nex
   pub range : (next.fewest ≡ sharding.fewest) × (next.most ≡ sharding.most)
   pub start : (next.placed ≡ sharding.placed) × (next.resolved ≡ sharding.resolved)
   pub live : new.fault ≡ None
+
+-- How many bytes of the current segment were fed, if this was fed before the turn: none of the one
+-- that a turn begins.
+abbrev pub begun_at : Turn → Meal → ℕ
+begun_at (turn.Piece n) meal = length meal.begun
+begun_at turn.Over meal = 0
+begun_at turn.Flush meal = length meal.begun
+begun_at turn.Nothing meal = length meal.begun
+begun_at turn.Finished meal = length meal.begun
+begun_at turn.Aborted meal = length meal.begun
+
+-- a count of this many, unless they are more than 64 bits can count
+abbrev pub IsCount : ℕ → ℕ → Type 0
+IsCount n len = (n ≡ len) ⊎ ((n ≡ 18446744073709551615) × (18446744073709551615 ≤ len))

@@ -1,10 +1,12 @@
 //! Keeps how far a log was shipped, at the end of each segment.
 
-ghost use Rattle.std.specs.Prelude.{◌≡◌, ◌⊎◌, List, ℕ, Option, true, false, None, Ok, Err, IfOk, IsSome, OnErr, OnOk, length};
+ghost use Rattle.std.specs.Prelude.{◌≡◌, ◌⊎◌, ◌+◌, List, ℕ, Option, true, false, None, Some, Ok, Err, IfOk, IfSome, IsSome, OnErr, OnOk, length};
+ghost use Rattle.rw_follow.specs.Meals.{Meal};
 ghost use Rattle.rw_resume.specs.Files.{MayLeave};
 ghost use Rattle.rw_resume.specs.Positions.{Names};
 ghost use Rattle.rw_sender.specs.Shipping.{PlacesAll};
-ghost use Rattle.rw_send.specs.Drained.{IsDrained, IsSoon};
+ghost use Rattle.rw_send.specs.Drained.{IsCount, IsDrained, IsSoon, begun_at};
+ghost use Rattle.rw_send.specs.Segments.{meal_of};
 ghost use Rattle.rw_send.specs.Steps.{IsUnset};
 ghost use Rattle.rw_send.specs.declared.feed_error.FeedError.TheVariants.{Failed};
 
@@ -28,19 +30,26 @@ pub trait Keeper<S: Segments, C: Connect + Drop, W: Watch> {
     /// The number of the current segment of a log, if it has one.
     ghost number: { S → Option ℕ };
 
-    /// The text of the position before the segment of this number.
-    ghost text: { W → ℕ → List ℕ };
+    /// How many bytes of that segment come before those that are read of it.
+    ghost base: { S → ℕ };
 
-    /// Returns whether the position before the current segment is to be kept.
-    fn is_keep_due(watch: &W, segments: &S) -> bool
+    /// The text of the position after this many bytes of the segment of this number.
+    ghost text: { W → ℕ → ℕ → List ℕ };
+
+    /// Returns whether the position at this turn is to be kept: after `fed` bytes of those that are
+    /// read of the current segment.
+    fn is_keep_due(watch: &W, segments: &S, turn: Turn, fed: u64) -> bool
         ensures quiet { W.is_quiet watch.now ≡ true → result ≡ false };
 
-    /// Keeps the position before the current segment. All that was fed must be resolved.
-    fn keep(watch: &mut W, segments: &S, shipper: &Shipper<C>)
+    /// Keeps that position. All that was fed must be resolved, and `fed` bytes of it must be of the
+    /// current segment.
+    fn keep(watch: &mut W, segments: &S, turn: Turn, fed: u64, shipper: &Shipper<C>)
         requires drained { IsDrained shipper.now }
+        requires fed { fed ≡ begun_at turn (meal_of shipper.now.log.pieces) }
         ensures file { (c : Option (List ℕ)) → MayLeave (file watch.new) c
             → MayLeave (file watch.old) c
-            ⊎ Names (number segments.now) (text watch.old) c }
+            ⊎ Names (number segments.now) (λ n. text watch.old n (base segments.now + fed)) c }
+        ensures said { W.said watch.new ≡ W.said watch.old }
         ensures quiet { W.is_quiet watch.old ≡ true → W.is_quiet watch.new ≡ true };
 }
 
@@ -55,20 +64,37 @@ impl<S: Segments, C: Connect + Drop, W: Watch> Keeper<S, C, W> for KeepsNone {
 
     ghost number = { λ _. None };
 
-    ghost text = { λ _ _. [] };
+    ghost base = { λ _. 0 };
 
-    fn is_keep_due(_watch: &W, _segments: &S) -> bool {
+    ghost text = { λ _ _ _. [] };
+
+    fn is_keep_due(_watch: &W, _segments: &S, _turn: Turn, _fed: u64) -> bool {
         false
     }
 
-    fn keep(_watch: &mut W, _segments: &S, _shipper: &Shipper<C>) {}
+    fn keep(_watch: &mut W, _segments: &S, _turn: Turn, _fed: u64, _shipper: &Shipper<C>) {}
 }
 
-/// Keeps the position at the beginning of each segment.
-pub struct KeepsSegments;
+/// Keeps the position at the beginning of each segment, within one if it is time and nothing more
+/// can be read now, and at the end.
+pub struct KeepsPlaces;
 
-impl<S: Numbered, C: Connect + Drop, W: Watch, F: PositionFiles> Keeper<S, C, Keeping<W, F>>
-    for KeepsSegments {
+/// Returns the current segment of a log, and how many bytes of it come before the position if this
+/// many were fed of those that are read of it.
+fn place_in<S: Numbered>(segments: &S, fed: u64) -> Option<(u64, u64)>
+    ensures { IfSome result (λ at. (S.number segments.now ≡ Some at.0)
+        × (at.1 ≡ S.base segments.now + fed)) }
+{
+    let number = segments.number()?;
+    let bytes = segments.base().checked_add(fed)?;
+    Some((number, bytes))
+}
+
+impl<S: Numbered, C: Connect + Drop, K: Clock, W: Watch, F: PositionFiles> Keeper<
+    S,
+    C,
+    Keeping<K, W, F>,
+> for KeepsPlaces {
     ghost use Rattle.std.specs.Prelude.{string_bytes};
     ghost use Rattle.rw_resume.specs.Positions.{text_at};
 
@@ -76,15 +102,33 @@ impl<S: Numbered, C: Connect + Drop, W: Watch, F: PositionFiles> Keeper<S, C, Ke
 
     ghost number = { λ s. S.number s };
 
-    ghost text = { λ k n. text_at (string_bytes k.log) n };
+    ghost base = { λ s. S.base s };
 
-    fn is_keep_due(watch: &Keeping<W, F>, segments: &S) -> bool {
-        watch.is_new(segments.number())
+    ghost text = { λ k n bytes. text_at (string_bytes k.log) n bytes };
+
+    fn is_keep_due(watch: &Keeping<K, W, F>, segments: &S, turn: Turn, fed: u64) -> bool {
+        let Some((number, bytes)) = place_in(segments, fed) else {
+            return false;
+        };
+        if !watch.is_new(number, bytes) {
+            return false;
+        }
+        match turn {
+            Turn::Over | Turn::Finished => true,
+            Turn::Nothing | Turn::Flush => watch.is_time(),
+            Turn::Piece(_) | Turn::Aborted => false,
+        }
     }
 
-    fn keep(watch: &mut Keeping<W, F>, segments: &S, _shipper: &Shipper<C>) {
-        if let Some(number) = segments.number() {
-            watch.keep(number);
+    fn keep(
+        watch: &mut Keeping<K, W, F>,
+        segments: &S,
+        _turn: Turn,
+        fed: u64,
+        _shipper: &Shipper<C>,
+    ) {
+        if let Some((number, bytes)) = place_in(segments, fed) {
+            watch.keep(number, bytes);
         }
     }
 }
@@ -113,8 +157,17 @@ fn drain<R: Threads + Wait + Clock + Copy + Send + 'static, C: Connect + Drop>(
     Ok(next)
 }
 
-/// If a segment is over, and the position before the next one is to be kept: waits until all that
-/// was put is resolved, and keeps it.
+/// Returns how many bytes of the current segment were fed, if this many were before a turn was
+/// returned: none if the turn says that a segment is over.
+fn begun_at(turn: Turn, fed: u64) -> u64
+    ensures { (meal : Meal) → IsCount fed (length meal.begun)
+        → IsCount result (begun_at turn meal) }
+{
+    if turn == Turn::Over { 0 } else { fed }
+}
+
+/// If the position at this turn is to be kept: waits until all that was put is resolved, and keeps
+/// it. `fed` bytes of the segment before the turn were fed.
 pub(crate) fn keep_if_due<
     R: Threads + Wait + Clock + Copy + Send + 'static,
     S: Segments,
@@ -126,11 +179,13 @@ pub(crate) fn keep_if_due<
     shipper: &mut Shipper<C>,
     sharding: Sharding,
     turn: Turn,
+    fed: u64,
     segments: &S,
     watch: &mut W,
 ) -> Result<Sharding, FeedError>
     requires shards { length shipper.old.fleet.current ≡ sharding.shards }
     requires live { shipper.old.fault ≡ None }
+    requires fed { IsCount fed (length (meal_of shipper.old.log.pieces).begun) }
     ensures kept { IfOk result (IsSoon sharding shipper.old shipper.new) }
     ensures unset { OnErr result (IsUnset shipper.old shipper.new) }
     ensures config { shipper.new.fleet.config ≡ shipper.old.fleet.config }
@@ -139,13 +194,15 @@ pub(crate) fn keep_if_due<
     ensures failed { OnErr result (IsSome shipper.new.fault) }
     ensures same { W.is_quiet watch.old ≡ true → shipper.new ≡ shipper.old }
     ensures done { W.is_quiet watch.old ≡ true → result ≡ Ok sharding }
+    ensures said { W.said watch.new ≡ W.said watch.old }
     ensures quiet { W.is_quiet watch.old ≡ true → W.is_quiet watch.new ≡ true }
 {
     shipper.conforms();
-    if turn != Turn::Over || !P::is_keep_due(watch, segments) {
+    let begun = begun_at(turn, fed);
+    if begun == u64::MAX || !P::is_keep_due(watch, segments, turn, begun) {
         return Ok(sharding);
     }
     let next = drain(rt, shipper, sharding)?;
-    P::keep(watch, segments, shipper);
+    P::keep(watch, segments, turn, begun, shipper);
     Ok(next)
 }

@@ -21,7 +21,7 @@ pub use counters::FeedContext;
 pub use feed_error::FeedError;
 pub use follow::{run_follow, run_kept};
 pub use follow_fault::{FollowFault, RunFault};
-pub use keeper::{Keeper, KeepsSegments};
+pub use keeper::{Keeper, KeepsPlaces};
 pub use options::SendOptions;
 pub use rw_external_labels::ExternalLabels;
 pub use rw_sender::LogOptions;

@@ -1,12 +1,14 @@
 //! Feeds a log to a shipper, as it grows or to its end.
 
 ghost use Rattle.std.specs.Prelude.{◌≡◌, ◌<◌, ◌≤◌, ℕ, List, [], length, true, false, None, IfErr, IfOk, OnOk, vec_len};
-ghost use Rattle.rw_follow.specs.Turns.{FitsBuffer};
+ghost use Rattle.rw_follow.specs.Meals.{Meal};
+ghost use Rattle.rw_follow.specs.Turns.{FitsBuffer, given_by};
 ghost use Rattle.rw_follow.specs.declared.follower.Turn.TheVariants as Turn;
 ghost use Rattle.rw_follow.specs.declared.signal.StopRequest.TheVariants as StopRequest;
 ghost use Rattle.rw_fleet.specs.Work.{AreResolved};
 ghost use Rattle.rw_fleet.specs.Loads.{IsLoad};
 ghost use Rattle.rw_fleet.specs.declared.load.Load.{Load};
+ghost use Rattle.rw_send.specs.Drained.{IsCount};
 ghost use Rattle.rw_send.specs.Logs.{GaveNothing, IsAlmostRead, seen_of};
 ghost use Rattle.rw_wal_format.specs.Pieces.{is_marked};
 ghost use Rattle.rw_send.specs.Segments.{IsShortLog, AreSoundButLast, fed_of, meal_of};
@@ -154,6 +156,18 @@ fn count_turn<C: Connect + Drop>(
     update_counters(context.counters, shipper);
 }
 
+/// Returns how many bytes of the current segment were fed with one more turn.
+fn fed_with(fed: u64, turn: Turn) -> u64
+    ensures { (buf : List ℕ) (meal : Meal) → FitsBuffer turn (length buf)
+        → IsCount fed (length meal.begun) → IsCount result (length (given_by turn buf meal).begun) }
+{
+    match turn {
+        Turn::Piece(count) => fed.saturating_add(count as u64),
+        Turn::Over => 0,
+        Turn::Flush | Turn::Nothing | Turn::Finished | Turn::Aborted => fed,
+    }
+}
+
 /// Feeds a log until the watch asks to stop.
 pub(crate) fn ship_live<
     R: Threads + Wait + Clock + Copy + Send + 'static,
@@ -206,18 +220,20 @@ pub(crate) fn ship_live<
 {
     let mut sharding = sharding;
     let mut follower = Follower::new();
+    let mut fed = 0;
     context.counters.set_shards(sharding.shards);
     for _ in rt.forever() {
         let turn = follower.turn(segments, watch, buf)?;
-        if let Turn::Finished = turn {
-            return Ok(());
-        }
         if let Turn::Aborted = turn {
             return Err(FeedError::Aborted);
         }
-        let next = keep_if_due::<R, S, C, W, P>(rt, shipper, sharding, turn, segments, watch)?;
+        let next = keep_if_due::<R, S, C, W, P>(rt, shipper, sharding, turn, fed, segments, watch)?;
+        if let Turn::Finished = turn {
+            return Ok(());
+        }
         let is_due = watch.is_reshard_due();
         sharding = step(rt, context.alloc, shipper, next, is_due, turn, buf)?;
+        fed = fed_with(fed, turn);
         count_turn(context, shipper, sharding.shards, turn);
     }
     unreachable!()

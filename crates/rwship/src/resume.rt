@@ -7,19 +7,30 @@ use crate::log_fault::{LogReadFault, log_fault};
 use crate::program_end::{cut_off_status, print_device_error, report_result};
 use rw_cli::LogDir;
 use rw_kept_log::AppendError;
-use rw_log_folder::{Gap, Opened, SegmentFile, log_files};
+use rw_log_folder::{Folder, FolderFault, Gap, Opened, SegmentFile, log_files};
 use rw_log_read::{Named, read_named};
+use rw_metrics::SendCounters;
 use rw_resume::{
-    Continuation, Definitions, Position, PositionFile, find_continuation, read_position,
-    write_definitions,
+    After, Continuation, Definitions, Midway, Passed, Position, PositionFile, find_continuation,
+    front_for, pass_over, read_position, write_definitions,
 };
 use rw_text::ToolFault;
+use rw_types::ReadFault;
 use std::alloc::{AllocError, Global};
 use std::fs;
+use std::path::Path;
 use std::process::ExitCode;
+use std::sync::Arc;
 
 /// The exit status for a file that names no position of the log.
 const NOT_OF_LOG: u8 = 1;
+
+/// Segments that are gone, and how many bytes of the first one were shipped.
+#[derive(Clone, Copy)]
+pub struct Gone {
+    segments: Gap,
+    bytes: u64,
+}
 
 /// Where a sender goes on.
 #[derive(Drop)]
@@ -30,10 +41,12 @@ pub struct ResumePoint {
     pub log: String,
     /// The segment that is read first, or `None` to read from the newest checkpoint on.
     pub first: Option<u64>,
-    /// The definitions before it, as segments.
+    /// How many bytes of that segment come before the position.
+    pub bytes: u64,
+    /// The definitions before that segment, as segments.
     pub definitions: Vec<Vec<u8>>,
     /// The segments that are gone before it.
-    pub gone: Option<Gap>,
+    pub gone: Option<Gone>,
     /// Whether the folder has no segment.
     pub has_nothing: bool,
 }
@@ -199,41 +212,196 @@ impl Resuming<'_> {
         if let Some(damage) = read.damage {
             return Err(LogReadFault::of_damage(names, damage));
         }
-        texts_of(alloc, &found)
+        Ok(texts_of(alloc, &found)?)
     }
 }
 
 /// Returns definitions as segments.
-fn texts_of(alloc: Global, found: &Definitions) -> Result<Vec<Vec<u8>>, LogReadFault> {
+fn texts_of(alloc: Global, found: &Definitions) -> Result<Vec<Vec<u8>>, AllocError> {
     match write_definitions(alloc, found.found()) {
         Ok(segments) => Ok(segments),
         Err(AppendError::OutOfMemory | AppendError::SegmentFull | AppendError::RecordTooLong) => {
-            Err(LogReadFault::from(ToolFault::OutOfMemory))
+            Err(AllocError)
         }
     }
 }
 
+/// A log from a position on.
+#[derive(Drop)]
+pub struct ResumedSegments {
+    /// The definitions before it, and then the segments of the folder.
+    pub segments: After<Midway<Folder<HostRuntime>>>,
+    /// How many segments there are with definitions.
+    pub before: u64,
+    /// How many bytes of the first segment of the folder come before those that are read of it.
+    pub base: u64,
+    /// The position, if the folder is read from a segment on: its number, and how many bytes of it
+    /// come before.
+    pub place: Option<(u64, u64)>,
+}
+
+/// Where a log is read from, once the bytes before a position were passed over.
+#[derive(Drop)]
+struct Begun {
+    folder: Midway<Folder<HostRuntime>>,
+    definitions: Vec<Vec<u8>>,
+    bytes: u64,
+    base: u64,
+}
+
+/// Opens the folder with a log, from its newest checkpoint on or from a segment on.
+#[derive(Clone, Copy)]
+struct Opening<'a> {
+    rt: &'a HostRuntime,
+    dir: LogDir<'a>,
+    counters: &'a Arc<SendCounters, Global>,
+}
+
+impl Opening<'_> {
+    /// Returns the folder from this segment on, or from its newest checkpoint on.
+    fn folder(&self, first: Option<u64>) -> Result<Folder<HostRuntime>, AllocError> {
+        let path = String::from_str(self.rt.alloc(), self.dir.path)?;
+        let counters = Arc::try_clone(self.counters)?;
+        Ok(match first {
+            Some(first) => Folder::from_segment(*self.rt, path, first, counters),
+            None => Folder::from_checkpoint(*self.rt, path, counters),
+        })
+    }
+
+    /// Passes this many bytes of a segment over, if what comes after them can be read.
+    fn begin_within(&self, first: Option<u64>, bytes: u64) -> Result<Option<Begun>, FolderFault> {
+        let alloc = self.rt.alloc();
+        let Some(front) = front_for(alloc, bytes)? else {
+            return Ok(None);
+        };
+        let mut folder = self.folder(first)?;
+        let mut found = Definitions::new(alloc);
+        match pass_over(alloc, &mut folder, bytes, self.dir.may_compress, &mut found) {
+            Ok(Passed::Record) => {
+                let base = bytes.saturating_sub(front.len() as u64);
+                Ok(Some(Begun {
+                    folder: Midway::new(front, bytes, folder),
+                    definitions: texts_of(alloc, &found)?,
+                    bytes,
+                    base,
+                }))
+            }
+            Ok(Passed::Within | Passed::Short(_)) => Ok(None),
+            Err(ReadFault::OutOfMemory) => Err(FolderFault::OutOfMemory),
+            Err(ReadFault::Failed) => match folder.into_unread() {
+                Some(name) => Err(FolderFault::Closed(name)),
+                None => Err(FolderFault::Unreadable),
+            },
+        }
+    }
+
+    /// Returns the folder from a position on. If nothing can be read from there on, it is read from
+    /// the beginning of the segment.
+    fn begin(&self, first: Option<u64>, bytes: u64) -> Result<Begun, FolderFault> {
+        if bytes > 0 {
+            if let Some(begun) = self.begin_within(first, bytes)? {
+                return Ok(begun);
+            }
+        }
+        let alloc = self.rt.alloc();
+        Ok(Begun {
+            folder: Midway::new(Vec::new(alloc), 0, self.folder(first)?),
+            definitions: Vec::new(alloc),
+            bytes: 0,
+            base: 0,
+        })
+    }
+}
+
+/// Returns the log in a folder from a position on: after this many bytes of the segment of this
+/// number, or from the newest checkpoint on. These are the definitions before that segment.
+pub fn resumed_segments(
+    rt: &HostRuntime,
+    dir: LogDir<'_>,
+    first: Option<u64>,
+    bytes: u64,
+    definitions: Vec<Vec<u8>>,
+    counters: &Arc<SendCounters, Global>,
+) -> Result<ResumedSegments, FolderFault> {
+    let Begun {
+        folder,
+        definitions: within,
+        bytes,
+        base,
+    } = (Opening { rt, dir, counters }).begin(first, bytes)?;
+    let mut texts = definitions;
+    for text in within {
+        texts.reserve(1)?;
+        texts.push_reserved(text);
+    }
+    let before = texts.len() as u64;
+    let place = match first {
+        Some(first) => Some((first, bytes)),
+        None => None,
+    };
+    Ok(ResumedSegments {
+        segments: After::new(texts, folder),
+        before,
+        base,
+        place,
+    })
+}
+
 /// Reports which segments are gone.
-pub fn print_gone(rt: &HostRuntime, dir: LogDir<'_>, gone: Gap) {
+pub fn print_gone(rt: &HostRuntime, dir: LogDir<'_>, gone: Gone) {
     let path = dir.path;
-    let Gap { first, last } = gone;
-    let _ = if first < last {
-        eprintln!(rt;
+    let Gone {
+        segments: Gap { first, last },
+        bytes,
+    } = gone;
+    let _ = match (first < last, bytes > 0) {
+        (true, false) => eprintln!(rt;
             "rwship: segments {first} to {last} are gone from {path}, and were not shipped"
-        )
-    } else {
-        eprintln!(rt; "rwship: segment {first} is gone from {path}, and was not shipped")
+        ),
+        (false, false) => {
+            eprintln!(rt; "rwship: segment {first} is gone from {path}, and was not shipped")
+        }
+        (true, true) => eprintln!(rt;
+            "rwship: segments {first} to {last} are gone from {path}; of the first, {bytes} bytes were shipped"
+        ),
+        (false, true) => eprintln!(rt;
+            "rwship: segment {first} is gone from {path}; {bytes} bytes of it were shipped"
+        ),
     };
 }
 
 impl Resuming<'_> {
-    /// Returns where the sender goes on if the file names this segment.
+    /// Fails if a segment has fewer bytes than come before the position.
+    fn check_len(&self, files: &Files, segment: u64, bytes: u64) -> Result<(), NoPoint> {
+        for file in files {
+            let file = file.place();
+            if file.number() == segment && !file.is_of_checkpoint() {
+                let path = Path::new(self.dir.path).join(self.rt.alloc(), file.name())?;
+                if let Ok(metadata) = fs::metadata(self.rt, path.as_path()) {
+                    let len = metadata.len();
+                    if len < bytes {
+                        let what = format!(in self.rt.alloc();
+                            "names byte {bytes} of segment {segment}, which has {len} bytes"
+                        )?;
+                        return Err(self.refuse(&what));
+                    }
+                }
+            }
+        }
+        Ok(())
+    }
+
+    /// Returns where the sender goes on if the file names this position.
     fn point_at(
         &self,
         file: PositionFile<HostRuntime>,
-        log: String,
-        segment: u64,
+        position: Position,
     ) -> Result<ResumePoint, NoPoint> {
+        let Position {
+            log,
+            segment,
+            bytes,
+        } = position;
         let files = self.files()?;
         let numbers = numbers_of(self.rt.alloc(), &files)?;
         let (gone, first) = match find_continuation(
@@ -251,14 +419,22 @@ impl Resuming<'_> {
                 Some(last.saturating_add(1)),
             ),
         };
+        if gone.is_none() {
+            self.check_len(&files, segment, bytes)?;
+        }
         let definitions = match first {
             Some(first) => self.definitions(files, first)?,
             None => Vec::new(self.rt.alloc()),
+        };
+        let (bytes, gone) = match gone {
+            Some(segments) => (0, Some(Gone { segments, bytes })),
+            None => (bytes, None),
         };
         Ok(ResumePoint {
             file,
             log,
             first,
+            bytes,
             definitions,
             gone,
             has_nothing: false,
@@ -270,11 +446,12 @@ impl Resuming<'_> {
         let log = self.log()?;
         let file = PositionFile::new(*self.rt, self.path)?;
         match self.position(&file, &log)? {
-            Some(position) => self.point_at(file, log, position.segment),
+            Some(position) => self.point_at(file, position),
             None => Ok(ResumePoint {
                 file,
                 log,
                 first: None,
+                bytes: 0,
                 definitions: Vec::new(self.rt.alloc()),
                 gone: None,
                 has_nothing: self.files()?.is_empty(),

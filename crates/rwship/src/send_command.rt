@@ -15,7 +15,9 @@ use crate::program_end::{
 };
 use crate::refusal::{ReceiverStops, report_receiver_stop};
 use crate::request_access::{RequestAccess, access_in};
-use crate::resume::{ResumePoint, gone_status, print_gone, resume_point};
+use crate::resume::{
+    ResumePoint, ResumedSegments, gone_status, print_gone, resume_point, resumed_segments,
+};
 use crate::settings::{dir_with, external_labels_in, settings_in};
 use crate::stop::{Awaited, is_misplaced, note_left_file, report_stop, stop_signal};
 use crate::waiting::wait_for_start;
@@ -23,15 +25,16 @@ use rw_cli::{Following, LogDir, ReadExtent, Sending, SettingsFile};
 use rw_follow::{Queue, StopSignal, Timed};
 use rw_log_folder::{Folder, FolderFault, Opened, SegmentFile, check_folder, watch_newest_segment};
 use rw_metrics::{Counters, SendCounters, show_stalls};
-use rw_resume::{After, Keeping, PositionFault, PositionFile};
+use rw_resume::{Keeping, PositionFault, PositionFile};
 use rw_send::{
-    ExternalLabels, FollowFault, GiveUp, KeepsSegments, LogOptions, RefusalStop, RunFault,
+    ExternalLabels, FollowFault, GiveUp, KeepsPlaces, LogOptions, RefusalStop, RunFault,
     SendOptions, StopFlag, TcpConnect, UntilAborted, run_follow, run_kept,
 };
 use rw_settings::Settings;
 use rw_tcp::look_up;
 use rw_text::{Address, ToolFault};
 use rw_types::write_all;
+use rw_wal_tail::FaultPlace;
 use std::alloc::{AllocError, Global};
 use std::io::{Error, ErrorKind, IsTerminal};
 use std::mem::replace;
@@ -43,6 +46,9 @@ use std::time::{Clock, Duration};
 
 /// How many milliseconds pass between two looks at a log that is read to its present end.
 const POLL_MS: u64 = 10;
+
+/// The time between two positions within a segment.
+const KEEP_MS: u64 = 60_000;
 
 /// The report of a log of which nothing could be read.
 const NOTHING_READ: &[u8] = b"filtered 0\nreport abandoned 0\n";
@@ -60,10 +66,8 @@ enum ShippedLog {
 /// A log from a position on.
 #[derive(Drop)]
 struct ResumedLog {
-    /// The definitions before the position, as segments.
-    definitions: Vec<Vec<u8>>,
-    folder: Folder<HostRuntime>,
-    watch: Keeping<Timed<HostRuntime>, PositionFile<HostRuntime>>,
+    read: ResumedSegments,
+    watch: Keeping<HostRuntime, Timed<HostRuntime>, PositionFile<HostRuntime>>,
     has_nothing: bool,
     is_gone: bool,
 }
@@ -138,20 +142,32 @@ fn fault_of(
     Ok(fault)
 }
 
-/// Returns why a run over a growing folder ended, after this many segments that are not in it, with
-/// the file of a fault.
+/// Returns the place in a folder of which the first segment comes after `before` others, and has
+/// `base` bytes before those that are read of it.
+fn place_in_folder(place: FaultPlace, before: u64, base: u64) -> FaultPlace {
+    FaultPlace {
+        segment: place.segment.saturating_sub(before),
+        offset: if place.segment == before {
+            place.offset.saturating_add(base)
+        } else {
+            place.offset
+        },
+    }
+}
+
+/// Returns why a run over a growing folder ended, with the file of a fault.
 fn fault_in(
     alloc: Global,
     folder: Folder<HostRuntime>,
-    before: u64,
-    ended: RunFault,
+    fault: FollowFault,
+    place: Option<FaultPlace>,
 ) -> Result<LogReadFault, AllocError> {
-    let mut fault = LogReadFault::from(ended.fault);
-    let Some(place) = ended.place else {
+    let mut fault = LogReadFault::from(fault);
+    let Some(place) = place else {
         fault.file = folder.into_unread();
         return Ok(fault);
     };
-    if let Some(name) = folder.name_of(place.segment.saturating_sub(before)) {
+    if let Some(name) = folder.name_of(place.segment) {
         fault.file = Some(String::from_str(alloc, name)?);
         fault.offset = place.offset;
     }
@@ -296,26 +312,22 @@ impl<R: Threads + Wait + Clock + Copy + Send + 'static> Sender<'_, R> {
         signal: Arc<StopSignal, Global>,
         counters: &Arc<SendCounters, Global>,
     ) -> Result<ResumedLog, FolderFault> {
-        let alloc = self.rt.alloc();
+        let rt = self.rt;
         let watch = self.keeping(signal, counters)?;
-        let path = String::from_str(alloc, self.dir.path)?;
-        let theirs = Arc::try_clone(counters)?;
-        let folder = match point.first {
-            Some(first) => Folder::from_segment(*self.rt, path, first, theirs),
-            None => Folder::from_checkpoint(*self.rt, path, theirs),
-        };
         let ResumePoint {
             file,
             log,
             first,
+            bytes,
             definitions,
             gone,
             has_nothing,
         } = point;
+        let read = resumed_segments(rt, self.dir, first, bytes, definitions, counters)?;
+        let every = Duration::from_millis(KEEP_MS);
         Ok(ResumedLog {
-            definitions,
-            folder,
-            watch: Keeping::new(alloc, watch, file, log, first),
+            watch: Keeping::new(rt.alloc(), *rt, watch, file, log, read.place, every),
+            read,
             has_nothing,
             is_gone: gone.is_some(),
         })
@@ -593,14 +605,17 @@ impl<R: Threads + Wait + Clock + Copy + Send + 'static> Sender<'_, R> {
     ) -> Result<(), LogReadFault> {
         let (threads, alloc, output) = (self.threads, self.rt.alloc(), &mut self.output);
         let ResumedLog {
-            definitions,
-            folder,
+            read,
             mut watch,
             ..
         } = log;
-        let before = definitions.len() as u64;
-        let mut segments = After::new(definitions, folder);
-        let outcome = run_kept::<R, _, _, _, KeepsSegments, _>(
+        let ResumedSegments {
+            mut segments,
+            before,
+            base,
+            ..
+        } = read;
+        let outcome = run_kept::<R, _, _, _, KeepsPlaces, _>(
             threads,
             alloc,
             settings,
@@ -614,7 +629,14 @@ impl<R: Threads + Wait + Clock + Copy + Send + 'static> Sender<'_, R> {
                 Some(fault) => Err(self.report_unkept(fault)),
                 None => Ok(()),
             },
-            Err(ended) => Err(fault_in(alloc, segments.into_then(), before, ended)?),
+            Err(ended) => {
+                let folder = segments.into_then().into_then();
+                let place = match ended.place {
+                    Some(place) => Some(place_in_folder(place, before, base)),
+                    None => None,
+                };
+                Err(fault_in(alloc, folder, ended.fault, place)?)
+            }
         }
     }
 
@@ -661,7 +683,7 @@ impl<R: Threads + Wait + Clock + Copy + Send + 'static> Sender<'_, R> {
                     output,
                 ) {
                     Ok(()) => Ok(()),
-                    Err(ended) => Err(fault_in(alloc, folder, 0, ended)?),
+                    Err(ended) => Err(fault_in(alloc, folder, ended.fault, ended.place)?),
                 }
             }
         }

@@ -1,6 +1,7 @@
 use Rattle.std.proofs.Common.{[], length, Result, Ok, Err, IfErr, inl, refl, sym, ap, ◌∙◌, subst, rules}
 use Rattle.rw_follow.specs.Meals.{Meal}
 use Rattle.rw_follow.specs.Turns.{given_by}
+use Rattle.rw_send.specs.Drained.{IsCount}
 use Rattle.rw_send.specs.Logs.{seen_of}
 use Rattle.rw_send.specs.Segments.{meal_of}
 use Rattle.rw_send.specs.Steps.{HasLapped}
@@ -40,6 +41,7 @@ loop-init g c = record {
   resolved = search rules;
   room = search rules;
   small = search rules;
+  counted = inl (sym (ap (λ (m : Meal). length m.begun) (meal_begun c.args.shipper.now.log.pieces c.requires.begun)));
 }
 
 pub loop-preserved : goal.loop-preserved
@@ -82,6 +84,7 @@ loop-preserved g c =
       resolved = λ done. keeps.resolved (was.resolved done);
       room = search rules;
       small = search rules;
+      counted = subst (λ (m : Meal). IsCount c.fed_with-fed.result (length m.begun)) (sym whole.fed) (c.fed_with-fed.ensures c.turn.new.buf (meal_of c.loop.shipper.log.pieces) turn.piece was.counted);
     }
 
 pub returns-in_err-sharding : goal.returns-in_err-sharding

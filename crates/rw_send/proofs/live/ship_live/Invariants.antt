@@ -3,6 +3,7 @@ use Rattle.rw_fleet.specs.Work.{AreResolved}
 use Rattle.rw_types.specs.declared.transfer.ReadFault.{ReadFault}
 use Rattle.rw_follow.specs.Meals.{no_meal}
 use Rattle.rw_wal_format.specs.Pieces.{is_marked}
+use Rattle.rw_send.specs.Drained.{IsCount}
 use Rattle.rw_send.specs.Segments.{IsShortLog, AreSoundButLast, meal_of}
 use Rattle.rw_send.specs.Steps.{HasLapped, KeepsSetup}
 use Rattle.rw_send.specs.inner.EpochSizes.{KeepsEpochSizes}
@@ -29,4 +30,5 @@ invariant-loop g l = record {
   resolved : AreResolved l.fn.shipper.fleet.ended → AreResolved l.shipper.fleet.ended;
   room : 0 < length l.buf;
   small : length l.buf ≤ 65536;
+  counted : IsCount l.fed (length (meal_of l.shipper.log.pieces).begun);
 }

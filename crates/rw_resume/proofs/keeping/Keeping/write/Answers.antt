@@ -6,12 +6,12 @@ pub returns-clause-either : goal.returns-clause-either
 returns-clause-either g c = λ left may.
     elim (c.write_position.ensures.either left may) [
       | inl old ↦ inl old
-      | inr is ↦ inr (is ∙ ap Some (c.deref.ensures.value ∙ c.in-Ok.ensures ∙ ap (λ (log : List ℕ). text_at log c.args.segment) c.as_str.ensures.value))
+      | inr is ↦ inr (is ∙ ap Some (c.deref.ensures.value ∙ c.in-Ok.ensures ∙ ap (λ (log : List ℕ). text_at log c.args.segment c.args.bytes) c.as_str.ensures.value))
     ]
 
 pub returns-clause-any_moment : goal.returns-clause-any_moment
 returns-clause-any_moment g c = λ left might.
     elim (c.write_position.ensures.any_moment left might) [
       | inl old ↦ inl old
-      | inr is ↦ inr (is ∙ ap Some (c.deref.ensures.value ∙ c.in-Ok.ensures ∙ ap (λ (log : List ℕ). text_at log c.args.segment) c.as_str.ensures.value))
+      | inr is ↦ inr (is ∙ ap Some (c.deref.ensures.value ∙ c.in-Ok.ensures ∙ ap (λ (log : List ℕ). text_at log c.args.segment c.args.bytes) c.as_str.ensures.value))
     ]
