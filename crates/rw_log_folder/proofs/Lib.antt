@@ -1,2 +1,3 @@
 pub mod GapLemmas
 pub mod NewestLemmas
+pub mod GrowingLemmas

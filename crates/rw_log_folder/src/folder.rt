@@ -1,11 +1,17 @@
 //! The segments of a folder to which a writer may still be writing.
 
-ghost use Rattle.std.specs.Prelude.{◌≡◌};
+ghost use Rattle.std.specs.Prelude.{◌≡◌, ◌<◌, None, Some, is_some, true, false, OnOk, OnErr, IfSome};
+ghost use Rattle.std.specs.List.{find};
+ghost use Rattle.rw_follow.specs.Meals.{Meal, no_meal};
+ghost use Rattle.rw_log_folder.specs.Reading.{is_after, key_of};
+ghost use Rattle.rw_log_folder.specs.GrowingFolders.{HasGiven, HasListed, HasOpened, HasTaken, IsPassed, WasListed, key_at, next, reading, state};
 
 use crate::checkpoint::first_files;
 use crate::files::{SegmentName, names_in, number_of};
+use crate::folder_call::FolderCall;
 use crate::folder_fault::FolderFault;
 use rw_follow::{Ahead, Segments};
+use rw_history::History;
 use rw_metrics::SendCounters;
 use rw_types::{ReadFault, Source, Std};
 use std::alloc::{AllocError, Global};
@@ -23,8 +29,8 @@ pub(crate) struct Current {
 }
 
 /// The segments of a log in a folder, as they come: the files whose names are one to eight decimal
-/// digits, by number, and of two names of one number the shorter first. No contract says what they
-/// contain.
+/// digits, by number, and of two names of one number the shorter first. Contracts see what the calls
+/// on the folder and its files have returned.
 #[derive(Drop)]
 pub struct Folder<R> {
     rt: R,
@@ -35,8 +41,10 @@ pub struct Folder<R> {
     previous: Option<SegmentName>,
     /// How many were opened.
     begun: u64,
-    /// The one after it, once it was seen.
+    /// The one after it, or the first one, by the last listing since the current one was opened.
     ahead: Option<SegmentName>,
+    /// Whether the one ahead could not be opened.
+    is_closed: bool,
     /// The number of the current segment, unless it is one of a checkpoint.
     number: Option<u64>,
     /// The number of the segment with which it begins, if no earlier one is read.
@@ -49,32 +57,44 @@ pub struct Folder<R> {
     gap: Option<u64>,
     /// Whether the current file could not be read.
     has_failed: bool,
-    /// The file that could not be opened.
+    /// The file of a checkpoint that could not be opened.
     closed: Option<String>,
     counters: Arc<SendCounters, Global>,
+    calls: History<FolderCall>,
 }
 
-/// Returns the path of a segment.
-fn path_of(alloc: Global, dir: &str, name: &str) -> Result<PathBuf, AllocError> {
-    Path::new(dir).join(alloc, name)
+/// Opens a file of a folder.
+fn open_file<R: Files<File = File> + AllocGlobal + Copy>(
+    rt: &R,
+    dir: &str,
+    name: &str,
+) -> Result<Std<File>, ReadFault> {
+    let path = Path::new(dir).join(rt.alloc(), name)?;
+    match fs::open(rt, path.as_path()) {
+        Ok(file) => Ok(Std::new(file)),
+        Err(_) => Err(ReadFault::Failed),
+    }
+}
+
+/// Returns whether a segment comes after the current one, or, without one, has this number or a
+/// greater one.
+fn comes_after(next: &SegmentName, current: &Option<Current>, first: u64) -> bool
+    ensures { result ≡ is_after first (key_at current.now) next.now }
+{
+    let Some(current) = current else {
+        return !(next.number < first);
+    };
+    let name = &current.segment;
+    name.number < next.number || name.number == next.number && name.name.len() < next.name.len()
 }
 
 /// Returns the first of the names in order that comes after this one, or without one the first of
 /// those from this number on.
-fn name_after(
-    names: Vec<SegmentName>,
-    current: &Option<Current>,
-    first: u64,
-) -> Option<SegmentName> {
+fn name_after(names: Vec<SegmentName>, current: &Option<Current>, first: u64) -> Option<SegmentName>
+    ensures { result ≡ find (is_after first (key_at current.now)) names.items }
+{
     for next in names {
-        let is_after = match current {
-            None => next.number >= first,
-            Some(current) => {
-                let name = &current.segment;
-                (next.number, next.name.len()) > (name.number, name.name.len())
-            }
-        };
-        if is_after {
+        if comes_after(&next, current, first) {
             return Some(next);
         }
     }
@@ -82,9 +102,18 @@ fn name_after(
 }
 
 impl<R: Files<File = File> + AllocGlobal + Copy> Folder<R> {
-    /// Returns the segments of the folder of this name, from the first one on. The counters count
-    /// each segment that is opened.
-    pub fn new(rt: R, dir: String, counters: Arc<SendCounters, Global>) -> Folder<R> {
+    /// Returns the segments of a folder, none of which was read.
+    fn unread(
+        rt: R,
+        dir: String,
+        first: u64,
+        from_checkpoint: bool,
+        counters: Arc<SendCounters, Global>,
+    ) -> Folder<R>
+        ensures first { (state result).first ≡ first }
+        ensures early { (state result).early ≡ from_checkpoint }
+        ensures unread { HasGiven (state result) no_meal }
+    {
         let opened = Vec::new(rt.alloc());
         Folder {
             rt,
@@ -93,39 +122,37 @@ impl<R: Files<File = File> + AllocGlobal + Copy> Folder<R> {
             previous: None,
             begun: 0,
             ahead: None,
+            is_closed: false,
             number: None,
-            first: 0,
-            from_checkpoint: false,
+            first,
+            from_checkpoint,
             opened,
             gap: None,
             has_failed: false,
             closed: None,
             counters,
+            calls: History::new(),
         }
+    }
+
+    /// Returns the segments of the folder of this name, from the first one on. The counters count
+    /// each segment that is opened.
+    pub fn new(rt: R, dir: String, counters: Arc<SendCounters, Global>) -> Folder<R>
+        ensures first { (state result).first ≡ 0 }
+        ensures early { (state result).early ≡ false }
+        ensures unread { HasGiven (state result) no_meal }
+    {
+        Folder::unread(rt, dir, 0, false, counters)
     }
 
     /// Returns the segments of the folder of this name, from its newest checkpoint on, if it has
     /// one when it is first read: the segments of that checkpoint, and then those of the folder
     /// that come after it. The files of the checkpoint and the first one after it are opened before
     /// the first byte is read.
-    pub fn from_checkpoint(rt: R, dir: String, counters: Arc<SendCounters, Global>) -> Folder<R> {
-        let opened = Vec::new(rt.alloc());
-        Folder {
-            rt,
-            dir,
-            current: None,
-            previous: None,
-            begun: 0,
-            ahead: None,
-            number: None,
-            first: 0,
-            from_checkpoint: true,
-            opened,
-            gap: None,
-            has_failed: false,
-            closed: None,
-            counters,
-        }
+    pub fn from_checkpoint(rt: R, dir: String, counters: Arc<SendCounters, Global>) -> Folder<R>
+        ensures unread { HasGiven (state result) no_meal }
+    {
+        Folder::unread(rt, dir, 0, true, counters)
     }
 
     /// Returns the segments of the folder of this name, from the one of this number on. If it is
@@ -135,10 +162,12 @@ impl<R: Files<File = File> + AllocGlobal + Copy> Folder<R> {
         dir: String,
         first: u64,
         counters: Arc<SendCounters, Global>,
-    ) -> Folder<R> {
-        let mut folder = Folder::new(rt, dir, counters);
-        folder.first = first;
-        folder
+    ) -> Folder<R>
+        ensures first { (state result).first ≡ first }
+        ensures early { (state result).early ≡ false }
+        ensures unread { HasGiven (state result) no_meal }
+    {
+        Folder::unread(rt, dir, first, false, counters)
     }
 
     /// Returns the number of the current segment, or `None` if it is one of a checkpoint or none is
@@ -150,7 +179,10 @@ impl<R: Files<File = File> + AllocGlobal + Copy> Folder<R> {
     }
 
     /// Makes a segment the current one.
-    fn go_to(&mut self, next: Current) {
+    fn go_to(&mut self, next: Current)
+        ensures { state self.new
+            ≡ record (state self.old) { current = Some (key_of next.segment); ahead = None } }
+    {
         self.number = number_of(next.segment.name.as_str());
         self.counters.begin_segment(next.segment.number);
         self.begun = self.begun.saturating_add(1);
@@ -159,11 +191,18 @@ impl<R: Files<File = File> + AllocGlobal + Copy> Folder<R> {
             None => None,
         };
         self.current = Some(next);
+        self.ahead = None;
     }
 
-    /// Makes the next one of the open files the current one.
-    fn take_opened(&mut self) {
+    /// Makes the next one of the open files the current one, if there is one.
+    fn take_opened(&mut self)
+        ensures some { 0 < (state self.old).opened → HasTaken (state self.old) (state self.new) }
+        ensures none { (state self.old).opened ≡ 0 → state self.new ≡ state self.old }
+    {
         if let Some(next) = self.opened.pop() {
+            let name = &next.segment;
+            self.calls
+                .push(&FolderCall::TookOpen(name.number, name.name.len()));
             self.go_to(next);
         }
     }
@@ -190,27 +229,54 @@ impl<R: Files<File = File> + AllocGlobal + Copy> Folder<R> {
         let Folder {
             current,
             has_failed,
+            ahead,
+            is_closed,
             closed,
             ..
         } = self;
-        match current {
-            Some(current) if has_failed => Some(current.segment.name),
+        match (current, ahead) {
+            (Some(current), _) if has_failed => Some(current.segment.name),
+            (_, Some(ahead)) if is_closed => Some(ahead.name),
             _ => closed,
         }
     }
 
-    /// Opens the file that is read first, if it is there.
-    fn begin(&mut self) -> Result<(), ReadFault> {
-        if !self.from_checkpoint {
-            return match self.next_name()? {
-                Some(next) if self.first > 0 && next.number > self.first => {
-                    self.gap = Some(self.first);
-                    Ok(())
-                }
-                Some(next) => self.open(next),
-                None => Ok(()),
-            };
+    /// Opens the file that is read first, if it is there and no other one is current.
+    fn begin(&mut self) -> Result<(), ReadFault>
+        ensures same { is_some (state self.old).current ≡ true
+            → state self.new ≡ state self.old }
+        ensures stays { (meal : Meal) → HasGiven (state self.old) meal
+            → HasGiven (state self.new) meal }
+        ensures listed { OnOk result ((state self.new).current ≡ None
+            → WasListed (state self.new).early (reading (state self.new)).listed) }
+    {
+        if self.current.is_some() {
+            return Ok(());
         }
+        self.gap = None;
+        if self.from_checkpoint {
+            return self.begin_at_checkpoint();
+        }
+        self.look_ahead()?;
+        match &self.ahead {
+            Some(next) if self.first > 0 && next.number > self.first => {
+                self.gap = Some(self.first);
+                Ok(())
+            }
+            Some(_) => self.open_ahead(),
+            None => Ok(()),
+        }
+    }
+
+    /// Opens the files of the checkpoint and the first one after it.
+    fn begin_at_checkpoint(&mut self) -> Result<(), ReadFault>
+        requires none { (state self.old).current ≡ None }
+        requires early { (state self.old).early ≡ true }
+        requires gap { (state self.old).gap ≡ None }
+        ensures stays { (meal : Meal) → HasGiven (state self.old) meal
+            → HasGiven (state self.new) meal }
+        ensures early { (state self.new).early ≡ true }
+    {
         match first_files(&self.rt, self.dir.as_str()) {
             Ok(files) => {
                 self.opened = files;
@@ -231,33 +297,68 @@ impl<R: Files<File = File> + AllocGlobal + Copy> Folder<R> {
         }
     }
 
-    /// Returns the segment after the current one that is there now.
-    fn next_name(&self) -> Result<Option<SegmentName>, ReadFault> {
-        match names_in(&self.rt, self.dir.as_str()) {
-            Ok(names) => Ok(name_after(names, &self.current, self.first)),
-            Err(FolderFault::OutOfMemory) => Err(ReadFault::OutOfMemory),
-            Err(_) => Err(ReadFault::Failed),
-        }
+    /// Lists the folder, and sees which segment comes after the current one.
+    fn look_ahead(&mut self) -> Result<(), ReadFault>
+        ensures listed { OnOk result (HasListed (state self.old) (state self.new)) }
+        ensures stays { OnErr result (state self.new ≡ state self.old) }
+    {
+        let names = match names_in(&self.rt, self.dir.as_str()) {
+            Ok(names) => names,
+            Err(FolderFault::OutOfMemory) => return Err(ReadFault::OutOfMemory),
+            Err(_) => return Err(ReadFault::Failed),
+        };
+        self.calls.push(&FolderCall::Listed(History::of(&names)));
+        self.ahead = name_after(names, &self.current, self.first);
+        self.is_closed = false;
+        Ok(())
     }
 
-    /// Opens a segment, which is the current one from then on.
-    fn open(&mut self, segment: SegmentName) -> Result<(), ReadFault> {
-        let path = path_of(self.rt.alloc(), self.dir.as_str(), segment.name.as_str())?;
-        match fs::open(&self.rt, path.as_path()) {
+    /// Lists the folder to see which segment comes after the current one. If a number is missing
+    /// before it, the listing may have missed a segment that was created meanwhile: it is listed
+    /// once more.
+    fn see_next(&mut self) -> Result<(), ReadFault>
+        requires gap { (state self.old).gap ≡ None }
+        ensures seen { OnOk result ((state self.new).ahead ≡ next (state self.new)) }
+        ensures at_end { (reading (state self.new)).at_end ≡ (reading (state self.old)).at_end }
+        ensures same { state self.new ≡ record (state self.old)
+            { calls = (state self.new).calls; ahead = (state self.new).ahead } }
+        ensures stays { (meal : Meal) → HasGiven (state self.old) meal
+            → HasGiven (state self.new) meal }
+    {
+        self.look_ahead()?;
+        if self.missing().is_some() {
+            return self.look_ahead();
+        }
+        Ok(())
+    }
+
+    /// Opens the segment that was seen, which is the current one from then on.
+    fn open_ahead(&mut self) -> Result<(), ReadFault>
+        ensures opened { OnOk result (HasOpened (state self.old) (state self.new)) }
+        ensures stays { OnErr result (state self.new ≡ state self.old) }
+    {
+        let Some(segment) = self.ahead.take() else {
+            return Err(ReadFault::Failed);
+        };
+        match open_file(&self.rt, self.dir.as_str(), segment.name.as_str()) {
             Ok(file) => {
-                let file = Std::new(file);
+                self.calls
+                    .push(&FolderCall::Opened(segment.number, segment.name.len()));
                 self.go_to(Current { segment, file });
                 Ok(())
             }
-            Err(_) => {
-                self.closed = Some(segment.name);
-                Err(ReadFault::Failed)
+            Err(fault) => {
+                self.ahead = Some(segment);
+                self.is_closed = fault == ReadFault::Failed;
+                Err(fault)
             }
         }
     }
 
     /// Returns the number that is missing before the segment that was seen.
-    fn missing(&self) -> Option<u64> {
+    fn missing(&self) -> Option<u64>
+        ensures { IfSome result (IsPassed (state self.now) (state self.now).ahead) }
+    {
         match (&self.current, &self.ahead) {
             (Some(current), Some(ahead)) => {
                 let next = current.segment.number.saturating_add(1);
@@ -274,20 +375,21 @@ impl<R: Files<File = File> + AllocGlobal + Copy> Folder<R> {
 
 impl<R: Files<File = File> + AllocGlobal + Copy> Segments for Folder<R> {
     ghost use Rattle.std.specs.Prelude.{⊤};
+    ghost use Rattle.rw_log_folder.specs.GrowingFolders.{HadAll, HasGiven, HasNext, IsLast, IsSegmentRead, Lacks, state};
 
     ghost Start = { ⊤ };
 
-    ghost gave = { λ _ _ _. ⊤ };
+    ghost gave = { λ f _ meal. HasGiven (state f) meal };
 
-    ghost had_all = { λ _ _ _. ⊤ };
+    ghost had_all = { λ f _ meal. HadAll (state f) meal };
 
-    ghost is_read = { λ _. ⊤ };
+    ghost is_read = { λ f. IsSegmentRead (state f) };
 
-    ghost is_followed = { λ _. ⊤ };
+    ghost is_followed = { λ f. HasNext (state f) };
 
-    ghost is_last = { λ _. ⊤ };
+    ghost is_last = { λ f. IsLast (state f) };
 
-    ghost lacks = { λ _ _. ⊤ };
+    ghost lacks = { λ f n. Lacks (state f) n };
 
     ghost may_fail = { λ _ _. ⊤ };
 
@@ -296,16 +398,18 @@ impl<R: Files<File = File> + AllocGlobal + Copy> Segments for Folder<R> {
     ghost is_sound = { λ _. ⊤ };
 
     fn read(&mut self, buf: &mut [u8]) -> Result<usize, ReadFault> {
-        if self.current.is_none() {
-            self.begin()?;
-        }
+        self.begin()?;
         let outcome = match &mut self.current {
             Some(current) => Source::read(&mut current.file, buf),
             None => return Ok(0),
         };
         self.has_failed = outcome.is_err();
         match outcome {
-            Ok(count) => Ok(count),
+            Ok(count) => {
+                self.calls
+                    .push(&FolderCall::Read(History::of(&buf[..count])));
+                Ok(count)
+            }
             Err(_) => Err(ReadFault::Failed),
         }
     }
@@ -314,17 +418,17 @@ impl<R: Files<File = File> + AllocGlobal + Copy> Segments for Folder<R> {
         if let Some(number) = self.gap {
             return Ok(Ahead::Missing(number));
         }
+        if self.current.is_none() {
+            // A segment that could not be opened is there.
+            return match &self.ahead {
+                Some(_) => Err(ReadFault::Failed),
+                None => Ok(Ahead::Nothing),
+            };
+        }
         if !self.opened.is_empty() {
             return Ok(Ahead::Segment);
         }
-        if self.current.is_none() {
-            return Ok(Ahead::Nothing);
-        }
-        self.ahead = self.next_name()?;
-        // The listing may have missed a segment that was created while it was read.
-        if self.missing().is_some() {
-            self.ahead = self.next_name()?;
-        }
+        self.see_next()?;
         match self.missing() {
             Some(number) => Ok(Ahead::Missing(number)),
             None if self.ahead.is_some() => Ok(Ahead::Segment),
@@ -337,9 +441,6 @@ impl<R: Files<File = File> + AllocGlobal + Copy> Segments for Folder<R> {
             self.take_opened();
             return Ok(());
         }
-        match self.ahead.take() {
-            Some(next) => self.open(next),
-            None => Err(ReadFault::Failed),
-        }
+        self.open_ahead()
     }
 }

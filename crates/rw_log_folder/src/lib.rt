@@ -8,6 +8,7 @@
 mod checkpoint;
 mod files;
 mod folder;
+mod folder_call;
 mod folder_fault;
 mod listing;
 mod newest_segment;
@@ -17,6 +18,7 @@ mod order;
 pub use checkpoint::{has_checkpoint, log_files};
 pub use files::{Gap, SegmentFile, SegmentName, check_folder, segment_files, segment_names};
 pub use folder::Folder;
+pub use folder_call::FolderCall;
 pub use folder_fault::FolderFault;
 pub use listing::{Checkpoint, Listing, LogFile, NumberedName};
 pub use newest_segment::watch_newest_segment;

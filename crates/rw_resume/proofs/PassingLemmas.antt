@@ -330,6 +330,6 @@ is_within {Start} gave given c count t start p none h = record {
     empty [] e = refl
     empty (x ∷ xs) e = absurd (omega (arith, e))
 
--- so many bytes were read
+-- these bytes were read
 pub has_read : {Start : Type 0} (gave given : Start → Meal → Type 0) (c : Bool) (count : ℕ) (t : Fed) (start : Start) → IsFed gave given count c t → gave start no_meal → HasReadBytes (given start) count
 has_read {Start} gave given c count t start p h = record { bytes = p.text; len = p.len; given = p.read start h }

@@ -7,7 +7,7 @@ use Rattle.rw_types.specs.declared.entry.Entry.{Entry}
 use Rattle.rw_wal_format.specs.Pieces.{page_size}
 use Rattle.rw_wal_format.specs.Segments.{segment_in}
 
--- this many bytes of the first segment were read, and nothing else
+-- the first `count` bytes of the first segment were read, and nothing else
 pub record HasReadBytes (gave : Meal → Type 0) (count : ℕ) : Type 0 where
   pub bytes : List ℕ
   pub len : length bytes ≡ count
@@ -48,7 +48,7 @@ pub record IsShown (front : List ℕ) (passed : ℕ) (said : Meal → Type 0) (m
   pub first : HasFirst passed more.whole more.begun
   pub meal_is : meal ≡ shown_of front passed more.whole more.begun
 
--- Of the front this many bytes were read, and of the log what is replaced.
+-- Of the front `shown` bytes were read, and of the log what is replaced.
 pub record IsFronted (front : List ℕ) (shown passed : ℕ) (said : Meal → Type 0) (meal : Meal) : Type 0 where
   pub some : shown < length front
   pub is_passed : HasReadBytes said passed

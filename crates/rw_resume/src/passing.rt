@@ -1,11 +1,12 @@
 //! The first bytes of a segment that were read by an earlier run.
 
-ghost use Rattle.std.specs.Prelude.{◌≡◌, ◌≢◌, ◌<◌, ◌≤◌, ◌++◌, ◌∷◌, [], ℕ, List, Bool, length, true, false, Ok, None, Some, IfOk};
+ghost use Rattle.std.specs.Prelude.{◌≡◌, ◌≢◌, ◌<◌, ◌≤◌, ◌++◌, ◌∷◌, [], ℕ, List, Bool, length, true, false, Ok, Err, None, Some, IfOk};
 ghost use Rattle.rw_follow.specs.Meals.{no_meal};
 ghost use Rattle.rw_resume.specs.Goings.{EndsRecord};
 ghost use Rattle.rw_resume.specs.Midway.{HasPassed, HasReadBytes, IsWithin};
 ghost use Rattle.rw_resume.specs.declared.passing.Passed.TheVariants as Passed;
 ghost use Rattle.rw_resume.specs.inner.Passing.{AreText, FeedsMore, IsDrained, IsFed, PassesTo};
+ghost use Rattle.rw_types.specs.declared.transfer.ReadFault.TheVariants.{Failed};
 ghost use Rattle.rw_wal_format.specs.Pieces.{page_size};
 ghost use Rattle.rw_wal_format.specs.Segments.{between, segment_in};
 ghost use Rattle.rw_wal_tail.specs.Places.{stop_offset_in};
@@ -61,6 +62,9 @@ fn feed_some<S: Segments>(
         FeedsMore (S.gave log.old) (S.gave log.new) tail.old tail.new n) }
     ensures most { IfOk result (λ n. n ≤ wanted) }
     ensures end { result ≡ Ok 0 → S.is_read log.new }
+    ensures failed { result ≡ Err Failed → S.has_failed log.new }
+    ensures fails { result ≡ Err Failed → S.may_fail log.old Failed }
+    ensures later { S.may_fail log.new Failed → S.may_fail log.old Failed }
 {
     let most = wanted.min(buf.len() as u64) as usize;
     let read = log.read(&mut buf[..most])?;
@@ -69,7 +73,7 @@ fn feed_some<S: Segments>(
 }
 
 /// Feeds `count` bytes to the reader, up to the first fault, and takes the entries among them.
-/// Returns `None` if there are that many, without a fault.
+/// Returns `None` if all of them were fed and have no fault.
 fn feed_all<S: Segments>(
     log: &mut S,
     buf: &mut [u8],
@@ -90,6 +94,8 @@ fn feed_all<S: Segments>(
         × S.is_read log.new
         × ((c : Bool) → AreText c [] tail.old.pieces
         → IsFed (S.gave log.old) (S.gave log.new) n c tail.new) }
+    ensures failed { result ≡ Err Failed → S.has_failed log.new }
+    ensures fails { result ≡ Err Failed → S.may_fail log.old Failed }
 {
     let mut passed = 0;
     while passed < count {
@@ -117,8 +123,7 @@ fn is_at(place: Option<FaultPlace>, offset: u64) -> bool
     }
 }
 
-/// Returns whether the bytes that were fed, of which there are `count`, do not end within an item
-/// of the segment.
+/// Returns whether the `count` bytes that were fed do not end within an item of the segment.
 fn item_ends(alloc: Global, tail: &Tail, count: u64) -> Result<bool, AllocError>
     ensures yes { result ≡ Ok true → (c : Bool) (text : List ℕ) → IsDrained c text tail.now
         → stop_offset_in c page_size (text ++ 255 ∷ []) ≡ count }
@@ -145,7 +150,7 @@ fn none_is_open(alloc: Global, tail: &mut Tail) -> Result<bool, AllocError>
     Ok(fault.is_none())
 }
 
-/// Returns whether a record ends with the bytes that were fed, of which there are `count`.
+/// Returns whether a record ends with the `count` bytes that were fed.
 fn record_ends(alloc: Global, tail: &mut Tail, count: u64) -> Result<bool, AllocError>
     ensures yes { result ≡ Ok true → (c : Bool) (text : List ℕ) → IsDrained c text tail.old
         → length text ≡ count → EndsRecord c page_size text }
@@ -160,7 +165,8 @@ fn record_ends(alloc: Global, tail: &mut Tail, count: u64) -> Result<bool, Alloc
 }
 
 /// Reads `count` bytes of the first segment of a log, of which nothing was read, and takes the
-/// definitions among their entries. It stops at the first fault.
+/// definitions among their entries. It stops at the first fault of the segment. Unless the result
+/// is `Record`, `definitions` may have taken only some of them.
 pub fn pass_over<S: Segments>(
     alloc: Global,
     log: &mut S,
@@ -177,6 +183,8 @@ pub fn pass_over<S: Segments>(
     ensures short { (n : ℕ) → result ≡ Ok (Passed.Short n) → (n < count) × S.is_read log.new
         × ((start : S.Start) → S.gave log.old start no_meal
         → HasReadBytes (S.gave log.new start) n) }
+    ensures failed { result ≡ Err Failed → S.has_failed log.new }
+    ensures fails { result ≡ Err Failed → S.may_fail log.old Failed }
 {
     let mut buf = vec![in alloc; 0; MOST_AT_ONCE]?;
     let mut tail = new_tail(alloc, may_compress)?;

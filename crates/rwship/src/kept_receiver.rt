@@ -156,7 +156,7 @@ fn next_step(error: &KeptLogError) -> Option<&'static str> {
         KeptLogError::Log(OpenError::NoReferenceLeft, None) => Some("choose another folder"),
         KeptLogError::Log(_, Some(fault)) => Some(step_after_cause(fault.cause, SEE_THE_DISK)),
         KeptLogError::RecordFollows(..) => Some(
-            "after a power failure this may be the end of a write, and otherwise it is damage, which acknowledged samples follow: copy that segment, then give --cut-at-fault to cut it there, and start the sender again at once, so that it ships once more what its log still has",
+            "after a power failure this may be the end of a write, and otherwise it is damage, which acknowledged samples follow: copy that segment, then give --cut-at-fault to cut it there, and start the sender again at once, without its FILE of --resume, so that it ships once more what its log still has",
         ),
         KeptLogError::Damaged(..) | KeptLogError::Log(..) => None,
     }
@@ -262,7 +262,7 @@ impl<'a> KeptFolder<'a> {
         };
         let whole = whole_len(&text, at as usize);
         let _ = eprintln!(rt;
-            "  next: copy {dir}/{number:08}, then cut it after its last whole record, 'truncate -s {whole} {dir}/{number:08}', and start the receiver and its sender again; of that segment, what came after the cut is lost unless the sender's log still has it"
+            "  next: copy {dir}/{number:08}, then cut it after its last whole record, 'truncate -s {whole} {dir}/{number:08}', and start the receiver and its sender again, the sender without its FILE of --resume; of that segment, what came after the cut is lost unless the sender's log still has it"
         );
     }
 
@@ -328,7 +328,7 @@ impl<'a> KeptFolder<'a> {
             );
         }
         let _ = eprintln!(rt;
-            "  next: if no crash and no failed write left them, they may hold acknowledged samples: start the sender again now, so that it ships them once more"
+            "  next: if no crash and no failed write left them, they may hold acknowledged samples: start the sender again now, without its FILE of --resume, so that it ships them once more"
         );
     }
 

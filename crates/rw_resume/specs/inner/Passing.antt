@@ -14,7 +14,7 @@ pub record AreText (c : Bool) (text : List ℕ) (pieces : List Piece) : Type 0 w
   pub read : (later : List Piece) → reading page_size (pieces ++ later) ≡ reading_in c page_size text later
   pub stop : (later : List Piece) → stop_after page_size 0 [] (pieces ++ later) ≡ stop_in c page_size 0 text later
 
--- this many bytes were read of a log, after what was read before, and fed
+-- n bytes were read of a log, after what was read before, and fed
 pub record FeedsMore {Start : Type 0} (gave given : Start → Meal → Type 0) (before after : Fed) (n : ℕ) : Type 0 where
   pub text : List ℕ
   pub read : (start : Start) (meal : Meal) → gave start meal → given start (with_piece meal text)
@@ -22,7 +22,7 @@ pub record FeedsMore {Start : Type 0} (gave given : Start → Meal → Type 0) (
   pub fed : after ≡ record before { pieces = before.pieces ++ bytes text ∷ [] }
   pub still : (taken : List Entry) → HasTaken before taken → HasTaken after taken
 
--- this many first bytes of a log were read and fed
+-- the first `count` bytes of a log were read and fed
 pub record IsFed {Start : Type 0} (gave given : Start → Meal → Type 0) (count : ℕ) (c : Bool) (t : Fed) : Type 0 where
   pub text : List ℕ
   pub len : length text ≡ count
@@ -35,7 +35,8 @@ pub record IsDrained (c : Bool) (text : List ℕ) (t : Fed) : Type 0 where
   pub taken : HasTaken t (segment_in c page_size text).entries
   pub sound : fault_at (segment_in c page_size text).stop ≡ None
 
--- this many first bytes of a log were read and fed, they have no fault, and their entries were taken
+-- the first `count` bytes of a log were read and fed, they have no fault, and their entries were
+-- taken
 pub record PassesTo {Start : Type 0} (gave given : Start → Meal → Type 0) (count : ℕ) (c : Bool) (t : Fed) (before after : List Entry) : Type 0 where
   pub is : IsFed gave given count c t
   pub drained : IsDrained c is.text t

@@ -8,6 +8,7 @@ loop-passed-init g c = record {
   most = omega arith;
   room = c.requires.room;
   passes = λ k h. passes_none (g.S.Segments.gave c.args.log.now) k c.args.tail.now c.args.definitions.now h c.requires.taken;
+  later = λ may. may;
 }
 
 pub returns-then-is_some-clause-within : goal.returns-then-is_some-clause-within
@@ -24,6 +25,7 @@ loop-passed-preserved g c = record {
       passes_more (g.S.Segments.gave c.args.log.now) (g.S.Segments.gave c.loop-passed.log) (g.S.Segments.gave c.feed_some.new.log) c.loop-passed.passed c.in_ok-read.read (c.loop-passed.passed + c.in_ok-read.read) k
       c.loop-passed.tail c.feed_some.new.tail c.take_all.new.tail c.args.definitions.now c.loop-passed.definitions c.take_all.new.taker
       (c.loop-passed.invariant.passes k h) c.in_ok-read.ensures.feeds (takes_no_fault _ _ _ _ _ c.in_ok-take_all.ensures.all (sym c.is_some.ensures ∙ c.if-is_some.false)) c.take_all.ensures.pieces refl;
+  later = λ may. c.loop-passed.invariant.later (c.feed_some.ensures.later may);
 }
 
 pub returns-clause-all : goal.returns-clause-all
