@@ -139,7 +139,8 @@ class ServerRows:
 
     def __init__(self, rows, program, room, kind, of_server):
         self.rows, self.program, self.room, self.kind, self.of_server = rows, program, room, kind, of_server
-        self.now_ms = int(time.time() * 1000)
+        # (a VictoriaMetrics does not export what is as new as the question)
+        self.now_ms = int(time.time() * 1000) - 10_000
 
     def run(self, name, steps, *words, **fates):
         """Runs a row over a new server, and a relay if requests or replies are to fail."""

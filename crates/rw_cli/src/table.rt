@@ -344,7 +344,7 @@ static SEND: Words = Words {
             name: "resume",
             takes: Takes::Path("FILE"),
             bonds: &[],
-            help: "Go on at the segment that FILE names, and keep there\nat the end of each segment which comes next; implies\n--checkpoint",
+            help: "Go on at the position that FILE names, and keep it\nthere; implies --checkpoint",
         },
         Opt {
             name: "give-up",

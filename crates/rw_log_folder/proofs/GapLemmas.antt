@@ -22,7 +22,7 @@ abbrev number : NumberedName → ℕ
 number s = s.number
 
 -- ---- names in order
-first_not_lt : (a b : Ordering) → is_lt (ordering_then a b) ≡ false → is_lt a ≡ false
+pub first_not_lt : (a b : Ordering) → is_lt (ordering_then a b) ≡ false → is_lt a ≡ false
 first_not_lt Less b e = e
 first_not_lt Equal b e = refl
 first_not_lt Greater b e = e
@@ -31,14 +31,14 @@ numbers_rise : (ns : List NumberedName) → IsSortedBy comes_before ns → IsNon
 numbers_rise ns up =
     IsNonDecreasingBy-from_sort number ns (λ k d low lt. first_not_lt _ _ (up k d low lt))
 
-tail_up : (s : NumberedName) (ss : List NumberedName) → IsNonDecreasingBy number (s ∷ ss) → IsNonDecreasingBy number ss
-tail_up s ss up i j d le lt = up (suc i) (suc j) d (omega arith) (omega arith)
+pub tail_up : {X : Type 0} (n : X → ℕ) (x : X) (xs : List X) → IsNonDecreasingBy n (x ∷ xs) → IsNonDecreasingBy n xs
+tail_up n x xs up i j d le lt = up (suc i) (suc j) d (omega arith) (omega arith)
 
-head_low : (s : NumberedName) (ss : List NumberedName) → IsNonDecreasingBy number (s ∷ ss) → All (λ (t : NumberedName). s.number ≤ t.number) ss
-head_low s ss up j d lt = up 0 (suc j) d (omega arith) (omega arith)
+pub head_low : {X : Type 0} (n : X → ℕ) (x : X) (xs : List X) → IsNonDecreasingBy n (x ∷ xs) → All (λ (t : X). n x ≤ n t) xs
+head_low n x xs up j d lt = up 0 (suc j) d (omega arith) (omega arith)
 
 -- ---- tests
-differ : (a n m : ℕ) → n < a → a ≤ m → (m == n) ≡ false
+pub differ : (a n m : ℕ) → n < a → a ≤ m → (m == n) ≡ false
 differ a n m h k = grind (arith, nat_tests)
 
 beyond : (m k a : ℕ) → ltb (m + 1) a ≡ false → (a == k) ≡ false → m < k → a < k
@@ -69,7 +69,7 @@ gap_here m s ss up far =
     let high : m + 1 < s.number = less (m + 1) s.number far in
     record {
       above = omega arith;
-      absent = ap (λ c. c || has_number ss (m + 1)) (differ s.number (m + 1) s.number high (omega arith)) ∙ none_at s.number (m + 1) ss high (head_low s ss up);
+      absent = ap (λ c. c || has_number ss (m + 1)) (differ s.number (m + 1) s.number high (omega arith)) ∙ none_at s.number (m + 1) ss high (head_low number s ss up);
       later = ap (λ c. c || has_above ss (m + 1)) far;
       least = λ k low lt. absurd (omega arith);
     }
@@ -93,7 +93,7 @@ or_zero (Some n) = n
 
 pub gap-some : (m n : ℕ) (ns : List NumberedName) → IsNonDecreasingBy number ns → All (λ (t : NumberedName). m ≤ t.number) ns → gap_after m ns ≡ Some n → IsGap m ns n
 gap-some m n [] up low e = absurd cc
-gap-some m n (s ∷ ss) up low e = by_test (ltb (m + 1) s.number) refl (gap-some s.number n ss (tail_up s ss up) (head_low s ss up)) e
+gap-some m n (s ∷ ss) up low e = by_test (ltb (m + 1) s.number) refl (gap-some s.number n ss (tail_up number s ss up) (head_low number s ss up)) e
   where
     by_test : (b : Bool) → ltb (m + 1) s.number ≡ b → (gap_after s.number ss ≡ Some n → IsGap s.number ss n) → cond b (Some (m + 1)) (gap_after s.number ss) ≡ Some n → IsGap m (s ∷ ss) n
     by_test true far on e = subst (IsGap m (s ∷ ss)) (ap or_zero e) (gap_here m s ss up far)
@@ -101,7 +101,7 @@ gap-some m n (s ∷ ss) up low e = by_test (ltb (m + 1) s.number) refl (gap-some
 
 pub gap-none : (m : ℕ) (ns : List NumberedName) → IsNonDecreasingBy number ns → gap_after m ns ≡ None → HasNoGap m ns
 gap-none m [] up e k lk later = absurd (true≢false (sym later))
-gap-none m (s ∷ ss) up e k lk later = by_test (ltb (m + 1) s.number) refl (λ rest. gap-none s.number ss (tail_up s ss up) rest) e
+gap-none m (s ∷ ss) up e k lk later = by_test (ltb (m + 1) s.number) refl (λ rest. gap-none s.number ss (tail_up number s ss up) rest) e
   where
     by_test : (b : Bool) → ltb (m + 1) s.number ≡ b → (gap_after s.number ss ≡ None → HasNoGap s.number ss) → cond b (Some (m + 1)) (gap_after s.number ss) ≡ None → has_number (s ∷ ss) k ≡ true
     by_test true far on e = absurd cc

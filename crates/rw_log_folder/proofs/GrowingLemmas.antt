@@ -1,11 +1,14 @@
 -- What each call on a folder adds to what was read of it.
-use Rattle.std.proofs.Common.{◌≡◌, ◌⊎◌, inl, inr, ℕ, ◌-◌, ◌<◌, ◌==◌, ◌&&◌, Bool, true, false, true≢false, List, [], ◌∷◌, ◌++◌, length, Option, None, Some, Ok, Err, OnOk, OnErr, is_some, string_len, take, append-nil, refl, sym, ap, ◌∙◌, subst, arith}
+use Rattle.std.proofs.Common.{◌≡◌, inr, ℕ, ◌==◌, ◌&&◌, Bool, true, true≢false, List, [], ◌∷◌, ◌++◌, Option, None, Some, Ok, Err, IfOk, OnOk, OnErr, is_some, string_len, take, append-nil, refl, sym, ap, ◌∙◌, subst, arith}
 use Rattle.std.proofs.lemmas.Bool.Decides.{nat_tests}
 use Rattle.std.proofs.lemmas.List.Sums.{fold_push}
 use Rattle.std.specs.declared.result.Result.{Result}
-use Rattle.rw_follow.specs.Meals.{Meal, with_next, with_piece}
-use Rattle.rw_log_folder.specs.Reading.{Reading, SegmentKey, is_named, is_next, key_of, meal_with, next_in, no_reading, reading_of, step}
-use Rattle.rw_log_folder.specs.GrowingFolders.{FolderState, HasGiven, HasListed, HasNext, HasOpened, HasTaken, IsBelow, IsGapOf, IsPassed, due, next, reading, with_ahead, with_listing, with_read, with_taken}
+use Rattle.std.specs.List.Sorted.{IsSortedBy}
+use Rattle.rw_follow.specs.Meals.{Meal, read_by, with_piece}
+use Rattle.rw_log_folder.specs.Folders.{comes_before}
+use Rattle.rw_log_folder.specs.Reading.{Reading, is_named, is_next, key_of, meal_with, next_in, no_reading, reading_of, step}
+use Rattle.rw_log_folder.specs.GrowingFolders.{FolderState, HasGiven, HasListed, HasOpened, IsBelow, IsByNumber, IsGapOf, due, next, reading, with_ahead, with_listing, with_read, with_taken}
+use Rattle.rw_log_folder.proofs.LackLemmas.{missing_passed}
 use Rattle.rw_log_folder.specs.declared.files.SegmentName.{SegmentName}
 use Rattle.rw_log_folder.specs.declared.folder_call.FolderCall.{FolderCall}
 use Rattle.rw_log_folder.specs.declared.folder_call.FolderCall.TheVariants.{Listed, Opened, TookOpen, Read}
@@ -22,12 +25,13 @@ no_gap : (s : FolderState) (g : Option ℕ) → g ≡ None → IsGapOf s g
 no_gap s g none = subst (IsGapOf s) (sym none) tt
 
 -- ---- a listing
-pub given_listed : (names : List SegmentName) (s : FolderState) (meal : Meal) → s.gap ≡ None → HasGiven s meal → HasGiven (with_listing names s) meal
-given_listed names s meal none h =
+pub given_listed : (names : List SegmentName) (s : FolderState) (meal : Meal) → IsSortedBy comes_before names → s.gap ≡ None → HasGiven s meal → HasGiven (with_listing names s) meal
+given_listed names s meal sorted none h =
     let e = reading_push s (Listed names) in
     record {
       given = h.given ∙ sym (ap (λ (r : Reading). r.meal) e);
       in_order = ap (λ (r : Reading). r.in_order) e ∙ h.in_order;
+      by_number = subst (λ (r : Reading). IsByNumber r.listed) (sym e) sorted;
       known = h.known ∙ sym (ap (λ (r : Reading). r.current) e);
       seen = sym (ap (λ (r : Reading). next_in s.first s.current r.listed) e);
       in_advance = h.in_advance;
@@ -41,8 +45,15 @@ pub seen_listed : (s new : FolderState) → HasListed s new → new.ahead ≡ ne
 seen_listed s new is = subst (λ (t : FolderState). t.ahead ≡ next t) (sym is.is)
     (sym (ap (λ (r : Reading). next_in s.first s.current r.listed) (reading_push s (Listed is.names))))
 
+by_number_listed : (s new : FolderState) → HasListed s new → IsByNumber (reading new).listed
+by_number_listed s new is = subst (λ (t : FolderState). IsByNumber (reading t).listed) (sym is.is)
+    (subst (λ (r : Reading). IsByNumber r.listed) (sym (reading_push s (Listed is.names))) is.by_number)
+
+fresh_listed : (s new : FolderState) → HasListed s new → (reading new).is_fresh ≡ true
+fresh_listed s new is = subst (λ (t : FolderState). (reading t).is_fresh ≡ true) (sym is.is) (ap (λ (r : Reading). r.is_fresh) (reading_push s (Listed is.names)))
+
 pub given_seen : (s new : FolderState) (meal : Meal) → HasListed s new → s.gap ≡ None → HasGiven s meal → HasGiven new meal
-given_seen s new meal is none h = subst (λ t. HasGiven t meal) (sym is.is) (given_listed is.names s meal none h)
+given_seen s new meal is none h = subst (λ t. HasGiven t meal) (sym is.is) (given_listed is.names s meal is.by_number none h)
 
 -- it may fail
 pub given_sought : {X E : Type 0} (r : Result X E) (s new : FolderState) (meal : Meal) → OnOk r (HasListed s new) → OnErr r (new ≡ s) → s.gap ≡ None → HasGiven s meal → HasGiven new meal
@@ -52,6 +63,14 @@ given_sought (Err e) s new meal ok err none h = subst (λ t. HasGiven t meal) (s
 pub seen_sought : {X E : Type 0} (r : Result X E) (s new : FolderState) → OnOk r (HasListed s new) → OnOk r (new.ahead ≡ next new)
 seen_sought (Ok x) s new ok = seen_listed s new ok
 seen_sought (Err e) s new ok = tt
+
+pub fresh_sought : {X E : Type 0} (r : Result X E) (s new : FolderState) → OnOk r (HasListed s new) → OnOk r ((reading new).is_fresh ≡ true)
+fresh_sought (Ok x) s new ok = fresh_listed s new ok
+fresh_sought (Err e) s new ok = tt
+
+pub by_number_sought : {X E : Type 0} (r : Result X E) (s new : FolderState) → OnOk r (HasListed s new) → OnOk r (IsByNumber (reading new).listed)
+by_number_sought (Ok x) s new ok = by_number_listed s new ok
+by_number_sought (Err e) s new ok = tt
 
 -- ---- the segment ahead is opened
 named : (name : SegmentName) → is_named (key_of name) name ≡ true
@@ -72,6 +91,7 @@ given_ahead name s meal none ahead h =
       given = ap (λ c. meal_with c meal) h.known ∙ ap (meal_with (reading s).current) h.given ∙ sym (ap (λ (r : Reading). r.meal) e);
       in_order = ap (λ (r : Reading). r.in_order) e
           ∙ and_true (reading s).in_order (is_next (key_of name) (next_in s.first (reading s).current (reading s).listed)) h.in_order (ap (is_next (key_of name)) due ∙ named name);
+      by_number = subst (λ (r : Reading). IsByNumber r.listed) (sym e) tt;
       known = sym (ap (λ (r : Reading). r.current) e);
       seen = sym (ap (λ (r : Reading). next_in s.first (Some (key_of name)) r.listed) e);
       in_advance = λ some. ((h.in_advance some).0, refl);
@@ -84,28 +104,30 @@ given_opened (Ok x) s new meal ok none h = subst (λ t. HasGiven t (meal_with s.
 given_opened (Err e) s new meal ok none h = tt
 
 -- ---- the first segment
-given_cleared : (s : FolderState) (meal : Meal) → HasGiven s meal → HasGiven (record s { gap = None }) meal
+pub given_cleared : (s : FolderState) (meal : Meal) → HasGiven s meal → HasGiven (record s { gap = None }) meal
 given_cleared s meal h = record {
   given = h.given;
   in_order = h.in_order;
+  by_number = h.by_number;
   known = h.known;
   seen = h.seen;
   in_advance = h.in_advance;
   gap = tt;
 }
 
-pub given_gap : (s new : FolderState) (name : SegmentName) (meal : Meal) → HasListed (record s { gap = None }) new → new.ahead ≡ Some name → s.current ≡ None → new.first < name.number
+pub given_gap : (s new : FolderState) (meal : Meal) → HasListed (record s { gap = None }) new → s.current ≡ None → IsBelow new.first new.ahead
     → HasGiven s meal → HasGiven (record new { gap = Some new.first }) meal
-given_gap s new name meal is ahead none below h0 =
+given_gap s new meal is none below h0 =
     let h = given_seen (record s { gap = None }) new meal is refl (given_cleared s meal h0) in
     let bare : new.current ≡ None = ap (λ (t : FolderState). t.current) is.is ∙ none in
     record {
       given = h.given;
       in_order = h.in_order;
+      by_number = h.by_number;
       known = h.known;
       seen = h.seen;
       in_advance = h.in_advance;
-      gap = (bare, inr (sym (ap (due new.first) bare), subst (IsBelow new.first) (sym ahead ∙ h.seen) below));
+      gap = (bare, inr (missing_passed new new.first h.by_number (sym (ap (due new.first) bare), subst (IsBelow new.first) h.seen below)));
     }
 
 pub given_first : {X E : Type 0} (r : Result X E) (s mid new : FolderState) (meal : Meal) → HasListed (record s { gap = None }) mid → OnOk r (HasOpened mid new) → OnErr r (new ≡ mid) → s.current ≡ None
@@ -130,6 +152,7 @@ given_taken name s meal none early given in_order known =
     record {
       given = ap (λ c. meal_with c meal) known ∙ ap (meal_with (reading s).current) given ∙ sym (ap (λ (r : Reading). r.meal) e);
       in_order = ap (λ (r : Reading). r.in_order) e ∙ and_true (reading s).in_order s.early in_order early;
+      by_number = subst (λ (r : Reading). IsByNumber r.listed) (sym e) tt;
       known = sym (ap (λ (r : Reading). r.current) e);
       seen = sym (ap (λ (r : Reading). next_in s.first (Some (key_of name)) r.listed) e);
       in_advance = λ some. (early, refl);
@@ -143,11 +166,17 @@ given_read bytes s meal some h =
     record {
       given = ap (λ m. with_piece m bytes) h.given ∙ sym (ap (λ (r : Reading). r.meal) e);
       in_order = ap (λ (r : Reading). r.in_order) e ∙ h.in_order;
+      by_number = subst (λ (r : Reading). IsByNumber r.listed) (sym e) h.by_number;
       known = h.known ∙ sym (ap (λ (r : Reading). r.current) e);
       seen = h.seen ∙ sym (ap (λ (r : Reading). next_in s.first s.current r.listed) e);
       in_advance = h.in_advance;
       gap = no_gap (with_read bytes s) s.gap (gap_none s s.gap some h.gap);
     }
+
+pub given_by : {E : Type 0} (r : Result ℕ E) (s : FolderState) (calls : List FolderCall) (buf : List ℕ) (meal : Meal) → is_some s.current ≡ true → IfOk r (λ n. calls ≡ s.calls ++ Read (take n buf) ∷ []) → OnErr r (calls ≡ s.calls)
+    → HasGiven s meal → HasGiven (record s { calls = calls }) (read_by r buf meal)
+given_by (Ok n) s calls buf meal some ok err h = subst (λ cs. HasGiven (record s { calls = cs }) (with_piece meal (take n buf))) (sym ok) (given_read (take n buf) s meal some h)
+given_by (Err e) s calls buf meal some ok err h = subst (λ cs. HasGiven (record s { calls = cs }) meal) (sym err) h
 
 -- and one that gives nothing
 pub given_nothing : (bytes : List ℕ) (s : FolderState) (meal : Meal) → HasGiven s meal → HasGiven s (with_piece meal (take 0 bytes))

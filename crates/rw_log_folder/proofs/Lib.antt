@@ -1,3 +1,4 @@
 pub mod GapLemmas
 pub mod NewestLemmas
 pub mod GrowingLemmas
+pub mod LackLemmas

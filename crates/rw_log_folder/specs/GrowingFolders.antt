@@ -1,6 +1,9 @@
 -- A folder to which a writer may still be writing, and what was read of it.
-use Rattle.std.specs.Prelude.{◌≡◌, ◌⊎◌, ℕ, suc, ◌-◌, ◌<◌, Bool, true, List, ◌∷◌, [], ◌++◌, length, Option, None, Some, is_some, string_len, ⊤}
+use Rattle.std.specs.Prelude.{◌≡◌, ◌⊎◌, ℕ, suc, ◌-◌, ◌<◌, ltb, ◌==◌, Bool, true, false, List, ◌∷◌, [], ◌++◌, length, Option, None, Some, is_some, string_len, ⊤}
+use Rattle.std.specs.List.{list_any}
+use Rattle.std.specs.List.Sorted.{IsSortedBy}
 use Rattle.rw_follow.specs.Meals.{Meal}
+use Rattle.rw_log_folder.specs.Folders.{comes_before}
 use Rattle.rw_log_folder.specs.Reading.{Reading, SegmentKey, key_of, next_in, reading_of}
 use Rattle.rw_log_folder.specs.declared.files.SegmentName.{SegmentName}
 use Rattle.rw_log_folder.specs.declared.folder.Current.{Current}
@@ -28,7 +31,7 @@ abbrev pub state : {R : Type 0} → Folder R → FolderState
 state f = record {
   first = f.first;
   early = f.from_checkpoint;
-  calls = f.calls;
+  calls = f.device;
   current = key_at f.current;
   ahead = f.ahead;
   opened = length f.opened.items;
@@ -55,15 +58,31 @@ IsBelow n (Some s) = n < s.number
 abbrev pub IsPassed : FolderState → Option SegmentName → ℕ → Type 0
 IsPassed s ahead n = (n ≡ due s.first s.current) × IsBelow n ahead
 
+-- these segments have none of this number, although they have one of a greater number
+abbrev pub IsLackedBy : Option (List SegmentName) → ℕ → Type 0
+IsLackedBy None n = ⊥
+IsLackedBy (Some names) n = (list_any (λ (s : SegmentName). s.number == n) names ≡ false)
+    × (list_any (λ (s : SegmentName). ltb n s.number) names ≡ true)
+
+-- the number that comes next is missing in the last listing
+abbrev pub IsMissingIn : FolderState → ℕ → Type 0
+IsMissingIn s n = (n ≡ due s.first s.current) × IsLackedBy (reading s).listed n
+
 -- a number is missing before the first segment by the last listing, or by those of a checkpoint
 abbrev pub IsGapOf : FolderState → Option ℕ → Type 0
 IsGapOf s None = ⊤
-IsGapOf s (Some n) = (s.current ≡ None) × ((s.early ≡ true) ⊎ IsPassed s (next s) n)
+IsGapOf s (Some n) = (s.current ≡ None) × ((s.early ≡ true) ⊎ IsMissingIn s n)
+
+-- a listing is in order
+abbrev pub IsByNumber : Option (List SegmentName) → Type 0
+IsByNumber None = ⊤
+IsByNumber (Some names) = IsSortedBy comes_before names
 
 -- this was read, each segment in its turn
 pub record HasGiven (s : FolderState) (meal : Meal) : Type 0 where
   pub given : meal ≡ (reading s).meal
   pub in_order : (reading s).in_order ≡ true
+  pub by_number : IsByNumber (reading s).listed
   -- and the folder knows what the calls say
   pub known : s.current ≡ (reading s).current
   pub seen : s.ahead ≡ next s
@@ -87,20 +106,26 @@ IsSegmentRead s = IsAtEnd s.early s.current (reading s)
 abbrev pub HasNext : FolderState → Type 0
 HasNext s = (is_some s.current ≡ true) × ((0 < s.opened) ⊎ (is_some (next s) ≡ true))
 
+-- the folder was listed since the last read, if there is a current segment
+abbrev pub IsFresh : FolderState → Type 0
+IsFresh s = is_some s.current ≡ true → (reading s).is_fresh ≡ true
+
 -- no segment comes after the current one, if there is one
 abbrev pub IsLast : FolderState → Type 0
-IsLast s = is_some s.current ≡ true → (s.opened ≡ 0) × (next s ≡ None)
+IsLast s = is_some s.current ≡ true
+    → (s.opened ≡ 0) × ((next s ≡ None) × ((reading s).is_fresh ≡ true))
 
--- this was read, and is all that there was by the last listing
+-- this was read, and is all that there was when the folder was listed after the last read
 pub record HadAll (s : FolderState) (meal : Meal) : Type 0 where
   pub given : HasGiven s meal
   pub at_end : IsSegmentRead s
   pub opened : s.opened ≡ 0
   pub last : next s ≡ None
+  pub fresh : IsFresh s
 
 -- the segment of this number is missing after the current one, or before the first one
 abbrev pub Lacks : FolderState → ℕ → Type 0
-Lacks s n = (s.gap ≡ Some n) ⊎ IsPassed s (next s) n
+Lacks s n = (s.gap ≡ Some n) ⊎ (IsMissingIn s n × IsFresh s)
 
 -- one more listing, which has these names
 abbrev pub with_listing : List SegmentName → FolderState → FolderState
@@ -111,6 +136,7 @@ with_listing names s = record s {
 
 pub record HasListed (old new : FolderState) : Type 0 where
   pub names : List SegmentName
+  pub by_number : IsSortedBy comes_before names
   pub is : new ≡ with_listing names old
 
 -- the segment ahead was opened, and is the current one

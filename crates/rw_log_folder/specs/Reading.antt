@@ -28,13 +28,14 @@ is_after first (Some key) s = ltb key.number s.number
     || ((key.number == s.number) && ltb key.length (string_len s.name))
 
 -- What is known by the calls so far: what was read, the current segment, whether the last read of
--- it gave nothing, what a listing has shown since it was opened, and whether each segment that was
--- opened by then was the one that came next.
+-- it gave nothing, the last listing since it was opened, whether that was the last call of all, and
+-- whether each segment that was opened by then was the one that came next.
 pub record Reading : Type 0 where
   pub meal : Meal
   pub current : Option SegmentKey
   pub at_end : Bool
   pub listed : Option (List SegmentName)
+  pub is_fresh : Bool
   pub in_order : Bool
 
 -- the first segment of the last listing that comes after the current one
@@ -60,6 +61,7 @@ opened key in_order r = record {
   current = Some key;
   at_end = false;
   listed = None;
+  is_fresh = false;
   in_order = r.in_order && in_order;
 }
 
@@ -70,16 +72,23 @@ is_empty (b ∷ bs) = false
 -- Only a log that is read from its checkpoint on has files that were opened in advance. No listing
 -- says which of them comes next.
 abbrev pub step : ℕ → Bool → Reading → FolderCall → Reading
-step first early r (Listed names) = record r { listed = Some names }
+step first early r (Listed names) = record r { listed = Some names; is_fresh = true }
 step first early r (Opened number len) =
     opened (key_with number len) (is_next (key_with number len) (next_of first r)) r
 step first early r (TookOpen number len) = opened (key_with number len) early r
 step first early r (Read bytes) =
-    record r { meal = with_piece r.meal bytes; at_end = is_empty bytes }
+    record r { meal = with_piece r.meal bytes; at_end = is_empty bytes; is_fresh = false }
 
 -- before the first call
 abbrev pub no_reading : Reading
-no_reading = record { meal = no_meal; current = None; at_end = false; listed = None; in_order = true }
+no_reading = record {
+  meal = no_meal;
+  current = None;
+  at_end = false;
+  listed = None;
+  is_fresh = false;
+  in_order = true;
+}
 
 -- After these calls, in order, of a log that is read from the segment of the number `first` on, or
 -- from its checkpoint on.

@@ -4,20 +4,16 @@ ghost use Rattle.std.specs.Prelude.{◌≡◌, ◌<◌, None, Some, is_some, tru
 ghost use Rattle.std.specs.List.{find};
 ghost use Rattle.rw_follow.specs.Meals.{Meal, no_meal};
 ghost use Rattle.rw_log_folder.specs.Reading.{is_after, key_of};
-ghost use Rattle.rw_log_folder.specs.GrowingFolders.{HasGiven, HasListed, HasOpened, HasTaken, IsPassed, WasListed, key_at, next, reading, state};
+ghost use Rattle.rw_log_folder.specs.GrowingFolders.{HasGiven, HasListed, HasOpened, HasTaken, IsBelow, IsByNumber, IsPassed, WasListed, key_at, next, reading, state};
 
-use crate::checkpoint::first_files;
-use crate::files::{SegmentName, names_in, number_of};
-use crate::folder_call::FolderCall;
+use crate::files::{SegmentName, number_of};
 use crate::folder_fault::FolderFault;
+use crate::recorded_folder::RecordedFolder;
 use rw_follow::{Ahead, Segments};
-use rw_history::History;
 use rw_metrics::SendCounters;
-use rw_types::{ReadFault, Source, Std};
-use std::alloc::{AllocError, Global};
-use std::fs;
+use rw_types::{ReadFault, Std};
+use std::alloc::Global;
 use std::fs::File;
-use std::path::{Path, PathBuf};
 use std::rt::Files;
 use std::sync::Arc;
 
@@ -29,12 +25,11 @@ pub(crate) struct Current {
 }
 
 /// The segments of a log in a folder, as they come: the files whose names are one to eight decimal
-/// digits, by number, and of two names of one number the shorter first. Contracts see what the calls
-/// on the folder and its files have returned.
+/// digits, by number, and of two names of one number the shorter first. Contracts see what the
+/// calls on the folder and its files have returned.
 #[derive(Drop)]
 pub struct Folder<R> {
-    rt: R,
-    dir: String,
+    device: RecordedFolder<R>,
     /// `None` before the first one is there.
     current: Option<Current>,
     /// The name of the one before it.
@@ -53,27 +48,13 @@ pub struct Folder<R> {
     from_checkpoint: bool,
     /// Those that are open and come after the current one, the last one first.
     opened: Vec<Current>,
-    /// The segment of this number is missing after the checkpoint.
+    /// The segment of this number is missing after the checkpoint, or before the first one.
     gap: Option<u64>,
     /// Whether the current file could not be read.
     has_failed: bool,
     /// The file of a checkpoint that could not be opened.
     closed: Option<String>,
     counters: Arc<SendCounters, Global>,
-    calls: History<FolderCall>,
-}
-
-/// Opens a file of a folder.
-fn open_file<R: Files<File = File> + AllocGlobal + Copy>(
-    rt: &R,
-    dir: &str,
-    name: &str,
-) -> Result<Std<File>, ReadFault> {
-    let path = Path::new(dir).join(rt.alloc(), name)?;
-    match fs::open(rt, path.as_path()) {
-        Ok(file) => Ok(Std::new(file)),
-        Err(_) => Err(ReadFault::Failed),
-    }
 }
 
 /// Returns whether a segment comes after the current one, or, without one, has this number or a
@@ -116,8 +97,7 @@ impl<R: Files<File = File> + AllocGlobal + Copy> Folder<R> {
     {
         let opened = Vec::new(rt.alloc());
         Folder {
-            rt,
-            dir,
+            device: RecordedFolder::new(rt, dir),
             current: None,
             previous: None,
             begun: 0,
@@ -131,7 +111,6 @@ impl<R: Files<File = File> + AllocGlobal + Copy> Folder<R> {
             has_failed: false,
             closed: None,
             counters,
-            calls: History::new(),
         }
     }
 
@@ -200,9 +179,7 @@ impl<R: Files<File = File> + AllocGlobal + Copy> Folder<R> {
         ensures none { (state self.old).opened ≡ 0 → state self.new ≡ state self.old }
     {
         if let Some(next) = self.opened.pop() {
-            let name = &next.segment;
-            self.calls
-                .push(&FolderCall::TookOpen(name.number, name.name.len()));
+            self.device.take_open(&next.segment);
             self.go_to(next);
         }
     }
@@ -258,13 +235,23 @@ impl<R: Files<File = File> + AllocGlobal + Copy> Folder<R> {
             return self.begin_at_checkpoint();
         }
         self.look_ahead()?;
+        if self.is_first_missing() {
+            self.gap = Some(self.first);
+            return Ok(());
+        }
+        if self.ahead.is_none() {
+            return Ok(());
+        }
+        self.open_ahead()
+    }
+
+    /// Returns whether the segment that was seen comes after one of which the number was asked.
+    fn is_first_missing(&self) -> bool
+        ensures { result ≡ true → IsBelow (state self.now).first (state self.now).ahead }
+    {
         match &self.ahead {
-            Some(next) if self.first > 0 && next.number > self.first => {
-                self.gap = Some(self.first);
-                Ok(())
-            }
-            Some(_) => self.open_ahead(),
-            None => Ok(()),
+            Some(next) => 0 < self.first && self.first < next.number,
+            None => false,
         }
     }
 
@@ -277,7 +264,7 @@ impl<R: Files<File = File> + AllocGlobal + Copy> Folder<R> {
             → HasGiven (state self.new) meal }
         ensures early { (state self.new).early ≡ true }
     {
-        match first_files(&self.rt, self.dir.as_str()) {
+        match self.device.open_first() {
             Ok(files) => {
                 self.opened = files;
                 self.opened.reverse();
@@ -302,12 +289,7 @@ impl<R: Files<File = File> + AllocGlobal + Copy> Folder<R> {
         ensures listed { OnOk result (HasListed (state self.old) (state self.new)) }
         ensures stays { OnErr result (state self.new ≡ state self.old) }
     {
-        let names = match names_in(&self.rt, self.dir.as_str()) {
-            Ok(names) => names,
-            Err(FolderFault::OutOfMemory) => return Err(ReadFault::OutOfMemory),
-            Err(_) => return Err(ReadFault::Failed),
-        };
-        self.calls.push(&FolderCall::Listed(History::of(&names)));
+        let names = self.device.list()?;
         self.ahead = name_after(names, &self.current, self.first);
         self.is_closed = false;
         Ok(())
@@ -319,6 +301,8 @@ impl<R: Files<File = File> + AllocGlobal + Copy> Folder<R> {
     fn see_next(&mut self) -> Result<(), ReadFault>
         requires gap { (state self.old).gap ≡ None }
         ensures seen { OnOk result ((state self.new).ahead ≡ next (state self.new)) }
+        ensures by_number { OnOk result (IsByNumber (reading (state self.new)).listed) }
+        ensures fresh { OnOk result ((reading (state self.new)).is_fresh ≡ true) }
         ensures at_end { (reading (state self.new)).at_end ≡ (reading (state self.old)).at_end }
         ensures same { state self.new ≡ record (state self.old)
             { calls = (state self.new).calls; ahead = (state self.new).ahead } }
@@ -340,10 +324,8 @@ impl<R: Files<File = File> + AllocGlobal + Copy> Folder<R> {
         let Some(segment) = self.ahead.take() else {
             return Err(ReadFault::Failed);
         };
-        match open_file(&self.rt, self.dir.as_str(), segment.name.as_str()) {
+        match self.device.open(&segment) {
             Ok(file) => {
-                self.calls
-                    .push(&FolderCall::Opened(segment.number, segment.name.len()));
                 self.go_to(Current { segment, file });
                 Ok(())
             }
@@ -400,18 +382,11 @@ impl<R: Files<File = File> + AllocGlobal + Copy> Segments for Folder<R> {
     fn read(&mut self, buf: &mut [u8]) -> Result<usize, ReadFault> {
         self.begin()?;
         let outcome = match &mut self.current {
-            Some(current) => Source::read(&mut current.file, buf),
+            Some(current) => self.device.read(&mut current.file, buf),
             None => return Ok(0),
         };
         self.has_failed = outcome.is_err();
-        match outcome {
-            Ok(count) => {
-                self.calls
-                    .push(&FolderCall::Read(History::of(&buf[..count])));
-                Ok(count)
-            }
-            Err(_) => Err(ReadFault::Failed),
-        }
+        outcome
     }
 
     fn look(&mut self) -> Result<Ahead, ReadFault> {

@@ -14,6 +14,7 @@ mod listing;
 mod newest_segment;
 mod opened;
 mod order;
+mod recorded_folder;
 
 pub use checkpoint::{has_checkpoint, log_files};
 pub use files::{Gap, SegmentFile, SegmentName, check_folder, segment_files, segment_names};

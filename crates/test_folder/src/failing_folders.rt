@@ -16,7 +16,7 @@ use std::test::Fail;
 use std::time::Clock;
 
 /// Returns whether a file of a folder has this text; `None` means that it does not exist.
-fn has_text(rt: &HostRuntime, dir: Path<'_>, file: &str, text: Option<&str>) -> bool {
+pub(crate) fn has_text(rt: &HostRuntime, dir: Path<'_>, file: &str, text: Option<&str>) -> bool {
     let Ok(path) = dir.join(rt.alloc(), file) else {
         return false;
     };

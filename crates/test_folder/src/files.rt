@@ -157,6 +157,25 @@ fn is_read(rt: &HostRuntime, dir: Path<'_>, row: &Row, goes: bool) -> Result<boo
     }
 }
 
+/// Goes to what comes after a segment of which nothing was left. Returns `None` if the folder goes
+/// on, and else the number that is missing, if one is; `Err` if the folder cannot be read.
+fn go_on(folder: &mut Folder<HostRuntime>, text: &mut Vec<u8>) -> Result<Option<Option<u64>>, ()> {
+    match folder.look() {
+        Ok(Ahead::Segment) => {}
+        Ok(Ahead::Missing(number)) => return Ok(Some(Some(number))),
+        Ok(Ahead::Nothing) => return Ok(Some(None)),
+        Err(_) => return Err(()),
+    }
+    // Something may have been added to the segment before the next one was seen.
+    let mut buf = [0u8; 64];
+    let is_well = match folder.read(&mut buf) {
+        Ok(0) => folder.advance().is_ok(),
+        Ok(count) => text.extend_from_slice(&buf[..count]).is_ok(),
+        Err(_) => false,
+    };
+    if is_well { Ok(None) } else { Err(()) }
+}
+
 /// Follows a folder to its end. Returns the number that is missing, or `Err` if the folder cannot
 /// be read.
 fn follow(folder: &mut Folder<HostRuntime>, text: &mut Vec<u8>) -> Result<Option<u64>, ()> {
@@ -171,11 +190,8 @@ fn follow(folder: &mut Folder<HostRuntime>, text: &mut Vec<u8>) -> Result<Option
             }
             continue;
         }
-        match folder.look() {
-            Ok(Ahead::Segment) if folder.advance().is_ok() => {}
-            Ok(Ahead::Missing(number)) => return Ok(Some(number)),
-            Ok(Ahead::Nothing) => return Ok(None),
-            _ => return Err(()),
+        if let Some(end) = go_on(folder, text)? {
+            return Ok(end);
         }
     }
     Err(())

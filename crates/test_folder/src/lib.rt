@@ -1,6 +1,6 @@
 //! Tests of folders: which files of a log are read, what a crash leaves of a journal, in which
-//! folders a journal is opened, and what it writes into them; of the pages for people, and of what
-//! a receiver counts.
+//! folders a journal is opened, and what it writes into them; of the position of a sender, and what
+//! is read after it; of the pages for people, and of what a receiver counts.
 #![tactic(auto)]
 
 #[cfg(test)]
@@ -21,5 +21,9 @@ mod order;
 mod owners;
 #[cfg(test)]
 mod pages;
+#[cfg(test)]
+mod passed_bytes;
+#[cfg(test)]
+mod positions;
 #[cfg(test)]
 mod texts;
