@@ -7,6 +7,8 @@ mod ExampleLemmas
 mod KeptExampleLemmas
 mod KeptReceiverLemmas
 mod KeptWireLemmas
+mod LifeExampleLemmas
+mod LifeLemmas
 mod ListedLemmas
 mod LogLemmas
 mod OpenExampleLemmas
@@ -20,6 +22,7 @@ mod RefusedExampleLemmas
 mod RelayLemmas
 mod ResumedLemmas
 mod RunLemmas
+mod RunLifeLemmas
 mod SenderLemmas
 mod ServedLemmas
 mod SeveralSenderLemmas

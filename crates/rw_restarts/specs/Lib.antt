@@ -4,7 +4,9 @@ pub mod Examples
 pub mod KeptExamples
 pub mod KeptReceivers
 pub mod KeptWireReceivers
+pub mod LifeExamples
 pub mod Listed
+pub mod Lives
 pub mod Logs
 pub mod OpenExamples
 pub mod Owed
@@ -14,6 +16,7 @@ pub mod Refusals
 pub mod RefusedExamples
 pub mod Relay
 pub mod Resumed
+pub mod RunLives
 pub mod Runs
 pub mod Senders
 pub mod ServedReceivers

@@ -10,7 +10,7 @@ ghost use Rattle.rw_worker.specs.Steps.{AreSteps};
 ghost use Rattle.rw_fleet.specs.ShardHistories.{ShardHistory};
 ghost use Rattle.rw_retry.specs.declared.judgement.Judgement.TheVariants.{Done, Again};
 ghost use Rattle.rw_head.specs.Store.{list_of};
-ghost use Rattle.rw_restarts.specs.Owed.{rising};
+ghost use Rattle.rw_restarts.specs.Owed.{rising, owed_of};
 ghost use Rattle.rw_restarts.specs.Parts.{points_in};
 ghost use Rattle.rw_restarts.specs.Runs.{AllSendNext, AreRunsOver, acknowledged_in};
 ghost use Rattle.rw_restarts.specs.Receivers.{IsReceiverOf, HasNoGap, CanBeTaken};
@@ -18,7 +18,10 @@ ghost use Rattle.rw_restarts.specs.Stopped.{first_of_epoch, IsOpenReceiver};
 ghost use Rattle.rw_restarts.specs.WireReceivers.{run_of, receiver_events, receiver_state};
 ghost use Rattle.rw_restarts.specs.WireReceivers.{IsWireReceiver, AreShort};
 ghost use Rattle.rw_restarts.specs.KeptWireReceivers.{wire_state, IsKeptReceiver};
+ghost use Rattle.rw_restarts.specs.Lives.{IsHistoryOf};
+ghost use Rattle.rw_restarts.specs.RunLives.{life_of, holding_of};
 ghost use Rattle.rw_restarts.specs.Examples as examples;
+ghost use Rattle.rw_restarts.specs.LifeExamples as lives;
 ghost use Rattle.rw_restarts.specs.RefusedExamples as refused;
 ghost use Rattle.rw_restarts.specs.WireExamples as wire;
 ghost use Rattle.rw_restarts.specs.KeptExamples as kept;
@@ -47,6 +50,17 @@ pub fn a_small_history_is_allowed()
         (λ l. true) }
     ensures places { (a b c : ShardHistory)
         → first_of_epoch ((a ∷ b ∷ []) ∷ (c ∷ []) ∷ []) 1 ≡ 2 }
+{}
+
+/// Law: this history is one of those that the law of lives speaks of (`history`). Its log owes two
+/// samples (`owed`). The first life of the sender is killed, and the second one reports `complete`.
+pub fn a_small_history_of_lives_is_allowed()
+    ensures owed { owed_of lives.choice lives.log examples.example_series
+        ≡ examples.first ∷ examples.second ∷ [] }
+    ensures history { IsHistoryOf lives.choice lives.log examples.example_series
+        (life_of examples.example_series lives.killed
+        ∷ life_of examples.example_series lives.complete ∷ []) examples.events
+        (λ at. holding_of examples.example_series (examples.states at)) }
 {}
 
 /// Law: so can they be met if a label set is refused (`receiver`, `sends`). It is above the limits

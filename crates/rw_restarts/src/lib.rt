@@ -4,6 +4,7 @@
 
 mod checkpoints;
 mod examples;
+mod lives;
 mod logs;
 mod receivers;
 mod relay;
@@ -19,9 +20,13 @@ pub use checkpoints::{
     a_checkpoint_keeps_the_series, samples_from_a_time_on_rise_alike, what_is_owed_rises,
 };
 pub use examples::{
-    a_small_history_is_allowed, a_small_history_over_a_folder_is_allowed,
-    a_small_history_over_the_wire_is_allowed, a_small_history_with_a_refusal_is_allowed,
-    a_small_open_receiver_is_allowed,
+    a_small_history_is_allowed, a_small_history_of_lives_is_allowed,
+    a_small_history_over_a_folder_is_allowed, a_small_history_over_the_wire_is_allowed,
+    a_small_history_with_a_refusal_is_allowed, a_small_open_receiver_is_allowed,
+};
+pub use lives::{
+    a_kept_receiver_has_such_lives, a_killed_sender_has_such_a_life, runs_are_such_lives,
+    what_is_held_after_all_lives,
 };
 pub use logs::{
     a_run_from_a_checkpoint_is_a_run_over_the_log, a_run_over_a_part_is_a_run_over_the_log,

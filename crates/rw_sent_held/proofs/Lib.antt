@@ -1,2 +1,3 @@
 pub mod HeldLemmas
+mod LifeLemmas
 mod RestartLemmas

@@ -8,11 +8,14 @@ ghost use Rattle.rw_sender.specs.declared.report.Report.{Report};
 ghost use Rattle.rw_send.specs.Logs.{readers, seen_of};
 ghost use Rattle.rw_send.specs.declared.follow_fault.FollowFault.{FollowFault};
 ghost use Rattle.rw_sent_held.specs.Held.{SentIsHeld};
+ghost use Rattle.rw_sent_held.specs.Lives.{SentHasLife};
 ghost use Rattle.rw_sent_held.specs.Restarts.{SentAdds, SentIsRun};
 
 use rw_follow::Segments;
 use rw_restarts::{
-    a_stopped_shipper_adds_its_samples, a_stopped_shipper_is_such_a_sender, many_runs_hold_one_log,
+    a_killed_sender_has_such_a_life, a_run_from_a_checkpoint_is_a_run_over_the_log,
+    a_run_over_a_part_is_a_run_over_the_log, a_stopped_shipper_adds_its_samples,
+    a_stopped_shipper_is_such_a_sender, many_runs_hold_one_log,
 };
 use rw_simulation::one_receiver_holds_the_samples;
 use rw_worker::Transport;
@@ -57,6 +60,28 @@ pub fn a_send_is_such_a_sender<T: Transport, S: Segments>()
 {
     a_stopped_shipper_is_such_a_sender::<T>();
     many_runs_hold_one_log();
+}
+
+/// Law: a run of the command with a report, by the contract of `run_send` (`sent`) or of
+/// `run_follow` (`followed`), is one life of a sender over each log that begins with what was fed,
+/// or of which a checkpoint and what comes later was fed. Its outcome is the one that is reported,
+/// and if this is `complete`, all that is owed of what was fed was acknowledged. So it may be one
+/// of the lives of `what_is_held_after_all_lives` (`runs_are_such_lives`).
+pub fn a_send_has_such_a_life<T: Transport, S: Segments>()
+    ensures sent { (c : ConfigFields) (limit : Option ℕ) (lefts now : List (Option (List ℕ)))
+        (sures : List Bool) (quiet : Bool) (said : StopRequest) (r : Report T)
+        (answer : Result (Unit {0}) FollowFault) → SentHasLife T.tells T.seen T.is_for c limit
+        (readers lefts now sures) quiet said r answer }
+    ensures followed { (c : ConfigFields) (limit : Option ℕ) (start : S.Start) (before after : S)
+        (quiet : Bool) (said : StopRequest) (r : Report T)
+        (answer : Result (Unit {0}) FollowFault) → SentHasLife T.tells T.seen T.is_for c limit
+        (seen_of (S.gave after start) (S.had_all after start) (S.lacks after)
+        (S.may_fail before)) quiet said r answer }
+{
+    a_send_is_such_a_sender::<T, S>();
+    a_run_over_a_part_is_a_run_over_the_log();
+    a_run_from_a_checkpoint_is_a_run_over_the_log();
+    a_killed_sender_has_such_a_life();
 }
 
 /// Law: a run of the command adds to any receiver what it was fed. Whatever the receiver held and
