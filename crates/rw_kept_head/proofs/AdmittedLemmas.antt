@@ -26,7 +26,7 @@ use Rattle.rw_kept_head.specs.Kept.{SaysWhat, LiesBetween}
 
 -- ---- lists that rise
 
-rises_one : (xs : List Point) (s : Point) (ys : List Point) (later there : Bool) → is_later s.0 xs ≡ later → cond later (Some (xs ++ s ∷ [])) (cond there (Some xs) None) ≡ Some ys → Rises IsEarlier xs → Rises IsEarlier ys
+pub rises_one : (xs : List Point) (s : Point) (ys : List Point) (later there : Bool) → is_later s.0 xs ≡ later → cond later (Some (xs ++ s ∷ [])) (cond there (Some xs) None) ≡ Some ys → Rises IsEarlier xs → Rises IsEarlier ys
 rises_one xs s ys true there e given h =
     let same : xs ++ s ∷ [] ≡ ys = cc given in
     subst (Rises IsEarlier) same (Rises-later xs s.0 s.1 h e)
@@ -38,7 +38,7 @@ rises_next : (s : Point) (ss xs ys : List Point) (o : Option (List Point)) → (
 rises_next s ss xs ys None further e rest h = let none : accept None ss ≡ None = accept-none ss in absurd (cc (none, rest))
 rises_next s ss xs ys (Some zs) further e rest h = further zs rest (rises_one xs s zs (is_later s.0 xs) (holds s xs) refl e h)
 
-rises_all : (ss xs ys : List Point) → accept (Some xs) ss ≡ Some ys → Rises IsEarlier xs → Rises IsEarlier ys
+pub rises_all : (ss xs ys : List Point) → accept (Some xs) ss ≡ Some ys → Rises IsEarlier xs → Rises IsEarlier ys
 rises_all [] xs ys given h = let same : xs ≡ ys = cc given in subst (Rises IsEarlier) same h
 rises_all (s ∷ ss) xs ys given h = rises_next s ss xs ys (accept_one xs s) (λ zs. rises_all ss zs ys) refl given h
 

@@ -3,5 +3,6 @@ mod CapacityLemmas
 mod KeptLemmas
 mod NotingLemmas
 mod OpeningLemmas
+mod PastLemmas
 mod RestoringLemmas
 mod WrittenLemmas

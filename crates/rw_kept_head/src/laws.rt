@@ -1,6 +1,6 @@
 //! Laws of a head that is kept in a journal. Each function does nothing: its contract is the law.
 
-ghost use Rattle.std.specs.Prelude.{◌≡◌, ℕ, suc, List, [], Option};
+ghost use Rattle.std.specs.Prelude.{◌≡◌, ℕ, suc, ℤ, List, [], Option};
 ghost use Rattle.std.specs.List.{AllByRecursion};
 ghost use Rattle.rw_types.specs.Beginnings.{Begins};
 ghost use Rattle.rw_types.specs.Labels.{Labels};
@@ -16,8 +16,12 @@ ghost use Rattle.rw_kept_head.specs.Admitted.{MayHold, IsAdmitted};
 ghost use Rattle.rw_kept_log.specs.Definitions.{IsDefinedOnce};
 ghost use Rattle.rw_kept_head.specs.Lives.{MayBecome};
 ghost use Rattle.rw_kept_head.specs.Opening.{HasSameEntries};
+ghost use Rattle.rw_kept_head.specs.Past.{AnswerAlike, CanJudgeBody, IsHeadWithout};
+ghost use Rattle.rw_head.specs.Order.{Point};
+ghost use Rattle.rw_write_request.specs.Read.{read};
 ghost use Rattle.rw_kept_head.specs.Kept.{SaysWhat, LiesBetween, IsLeft, HasNoChance, StaysDefinedOnce};
 
+use rw_head::what_can_be_judged;
 use rw_kept_log::Journal;
 use rw_kept_log::append_laws::a_beginning_is_defined_once;
 use rw_kept_log::laws::segments_add_up;
@@ -83,3 +87,14 @@ pub fn a_kept_log_is_admitted()
     ensures opening { (limits : LabelLimits) (segments left : Segments)
         → HasSameEntries segments left → IsAdmitted limits segments → IsAdmitted limits left }
 {}
+
+/// Law: a head that lacks samples, none of them later than a floor, answers a body as the head that
+/// holds everything, if each sample that it comes to is later than the floor, or not earlier than
+/// the first sample that it holds then of the label set. After it, it lacks the same samples.
+pub fn what_is_gone_changes_no_answer()
+    ensures { (floor : ℤ) (gone : Labels → List Point) (whole held : State) (body : List ℕ)
+        → IsHeadWithout floor gone whole held → CanJudgeBody floor held (read body)
+        → AnswerAlike floor gone (answer whole body) (answer held body) }
+{
+    what_can_be_judged();
+}

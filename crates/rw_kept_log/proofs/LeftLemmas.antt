@@ -1,9 +1,10 @@
 -- What a crash may leave of a journal in memory after calls that were synced or not.
-use Rattle.std.proofs.Common.{◌≡◌, ℕ, ◌≤◌, List, [], ◌∷◌, ◌++◌, length, take, drop, map, Vec, refl, sym, ap, ◌∙◌, arith, append-nil, length-append, length-take, length-drop, take-append-drop}
-use Rattle.std.proofs.lemmas.List.{take_all, take-append-le}
+use Rattle.std.proofs.Common.{◌≡◌, ℕ, ◌<◌, ◌≤◌, ◌-◌, List, [], ◌∷◌, ◌++◌, length, take, drop, map, Vec, refl, sym, ap, ◌∙◌, arith, append_assoc, append-nil, length-append, length-take, length-drop, take-append-drop}
+use Rattle.std.proofs.lemmas.List.{drop-append-le, drop-map, length-map, take_all, take-append-le}
 use Rattle.std.specs.declared.alloc.Global.{Global}
 use Rattle.rw_kept_log.specs.Journal.{Segments, on_last, with_more, Only, NoMore, IsTornEnd, IsCutEnd}
 use Rattle.rw_kept_log.specs.Memory.{contents_of_image, image_segments, IsLeftOf}
+use Rattle.rw_kept_log.specs.Retiring.{texts_of, with_first}
 use Rattle.rw_kept_log.specs.declared.image.Image.{Image}
 use Rattle.rw_kept_log.proofs.SegmentLemmas.{on_last-push, with_none}
 
@@ -106,3 +107,27 @@ same_left old new done last synced c left = record {
 -- the last segment changed, and no other
 pub last_changed : (f : List ℕ → List ℕ) (done : List (Vec ℕ Global)) (old last : List ℕ) → last ≡ f old → contents_of_image done last ≡ on_last f (contents_of_image done old)
 last_changed f done old last e = ap (contents_of_image done) e ∙ sym (on_last-push f (map (λ v. v.items) done) old)
+
+pub within_done : (image : Image) (n : ℕ) → n < length (image_segments image) → n ≤ length image.done.items
+within_done image n lt = omega (arith, length-append (texts_of image.done.items) (image.last.items ∷ []), length-map image.done.items (λ (v : Vec ℕ Global). v.items))
+
+-- the segments from a place on, as a slice has them
+pub rest_of : (n : ℕ) (texts : List (Vec ℕ Global)) → take (length texts - n) (drop n texts) ≡ drop n texts
+rest_of n texts = take_all (length texts - n) (drop n texts) (omega (arith, length-drop n texts))
+
+-- texts in the place of the first segments
+pub first_replaced : (old : Image) (done texts : List (Vec ℕ Global)) (n : ℕ) → n ≤ length old.done.items → texts_of done ≡ texts_of texts ++ texts_of (drop n old.done.items)
+    → contents_of_image done old.last.items ≡ with_first n (texts_of texts) (image_segments old)
+first_replaced old done texts n le same =
+    ap (λ (ss : Segments). ss ++ old.last.items ∷ []) same
+    ∙ append_assoc (texts_of texts) (texts_of (drop n old.done.items)) (old.last.items ∷ [])
+    ∙ ap (λ (ss : Segments). texts_of texts ++ ss) (sym rest)
+  where
+    rest : drop n (image_segments old) ≡ texts_of (drop n old.done.items) ++ old.last.items ∷ []
+    rest =
+        drop-append-le n (texts_of old.done.items) (old.last.items ∷ []) (omega (arith, length-map old.done.items (λ (v : Vec ℕ Global). v.items)))
+        ∙ ap (λ (ss : Segments). ss ++ old.last.items ∷ []) (drop-map (λ (v : Vec ℕ Global). v.items) n old.done.items)
+
+-- and all of it is synced
+pub replaced_synced : (old new : Image) → Only (image_segments old) (IsLeftOf old) → new.last ≡ old.last → new.synced ≡ old.synced → Only (image_segments new) (IsLeftOf new)
+replaced_synced old new only last synced = only_seen new (omega (arith, all_synced old only, synced, ap (λ (v : Vec ℕ Global). length v.items) last))

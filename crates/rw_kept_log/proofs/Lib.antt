@@ -4,6 +4,7 @@ mod Holes
 mod ImageLemmas
 mod LeftLemmas
 pub mod LogLemmas
+mod OldLemmas
 mod PlaceLemmas
 mod ReadingLemmas
 mod RecordAtLemmas
@@ -13,4 +14,5 @@ mod TableLemmas
 mod TornHeader
 mod TornLemmas
 mod WalkLemmas
+mod WrittenLemmas
 pub mod shared

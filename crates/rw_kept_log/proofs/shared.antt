@@ -1,4 +1,5 @@
 pub mod AdditionLemmas
+pub mod CheckpointLemmas
 pub mod ClosingLemmas
 pub mod CutLemmas
 pub mod DefinitionLemmas

@@ -1,14 +1,17 @@
 pub mod Additions
+pub mod Checkpoints
 pub mod Definitions
 pub mod Ends
 pub mod Errors
 pub mod Journal
 pub mod Logs
 pub mod Memory
+pub mod Old
 pub mod Reading
 pub mod Records
 pub mod References
 pub mod Reopening
+pub mod Retiring
 pub mod Taken
 pub mod Torn
 pub mod TornLogs

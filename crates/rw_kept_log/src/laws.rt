@@ -1,12 +1,18 @@
 //! Laws of a log that a crash tore. Each function has an empty body: its contract is the law.
 
-ghost use Rattle.std.specs.Prelude.{◌≡◌, ◌<◌, ◌≤◌, ◌++◌, [], ◌∷◌, ℕ, List, None, Some, length, take};
+ghost use Rattle.std.specs.Prelude.{◌≡◌, ◌<◌, ◌≤◌, ◌++◌, [], ◌∷◌, ℕ, List, None, Some, length, take, drop};
 ghost use Rattle.std.specs.List.{AllByRecursion};
 ghost use Rattle.rw_types.specs.Beginnings.{Begins};
 ghost use Rattle.rw_types.specs.declared.entry.Entry.{Entry};
 ghost use Rattle.rw_wal_format.specs.Laws.{AreRecords, log_all, entries_of_records};
 ghost use Rattle.rw_wal_format.specs.Pieces.{bytes, next_segment, page_size, fault};
 ghost use Rattle.rw_wal_format.specs.Segments.{segment};
+ghost use Rattle.rw_types.specs.Labels.{Labels};
+ghost use Rattle.rw_kept_log.specs.Additions.{Point, samples_of_labels};
+ghost use Rattle.rw_kept_log.specs.Checkpoints.{definitions_of, IsCheckpointOf, SaySame};
+ghost use Rattle.rw_kept_log.specs.Definitions.{definitions_in};
+ghost use Rattle.rw_kept_log.specs.References.{IsNoted, ReferenceTable};
+ghost use Rattle.rw_kept_log.specs.Retiring.{with_first};
 ghost use Rattle.rw_kept_log.specs.Logs.{entries_of, IsWholeText, IsCleanCut};
 ghost use Rattle.rw_kept_log.specs.Journal.{Segments, with_more};
 ghost use Rattle.rw_kept_log.specs.Torn.{IsTorn, IsTornLog};
@@ -71,4 +77,40 @@ pub fn records_add_entries()
         → entries_of_records ds ≡ Some es → entries_of_records more ≡ Some fs
         → entries_of page_size (done ++ log_all page_size 0 (ds ++ more) ∷ [])
         ≡ entries_of page_size (done ++ log_all page_size 0 ds ∷ []) ++ fs }
+{}
+
+/// Law: if a checkpoint of some entries says of each reference that is used after them what they
+/// say, each label set has the same samples after the checkpoint as after them. The definitions of
+/// the entries are such a checkpoint, and have no samples.
+pub fn a_checkpoint_keeps_what_follows()
+    ensures follows { (full cp later : List Entry) (l : Labels) → SaySame full cp later
+        → (rest : List Point)
+        × (samples_of_labels (full ++ later) l ≡ samples_of_labels full l ++ rest)
+        × (samples_of_labels (cp ++ later) l ≡ samples_of_labels cp l ++ rest) }
+    ensures labels { (full later : List Entry) → SaySame full (definitions_of full) later }
+    ensures none { (full : List Entry) (l : Labels)
+        → samples_of_labels (definitions_of full) l ≡ [] }
+{}
+
+/// Law: a log whose first segments give way to a checkpoint of them has of each label set the
+/// samples that it had, less those of these segments. Its definitions are those that it had, in
+/// their order, and so are the references that it defines. All that comes after these segments is
+/// read as before.
+pub fn a_retired_log_goes_on()
+    ensures samples { (page n : ℕ) (segments texts : Segments) (l : Labels)
+        → IsCheckpointOf page n segments texts
+        → samples_of_labels (entries_of page segments) l
+        ≡ samples_of_labels (entries_of page (take n segments)) l
+        ++ samples_of_labels (entries_of page (with_first n texts segments)) l }
+    ensures definitions { (page n : ℕ) (segments texts : Segments)
+        → IsCheckpointOf page n segments texts
+        → definitions_in (entries_of page (with_first n texts segments))
+        ≡ definitions_in (entries_of page segments) }
+    ensures noted { (page n : ℕ) (segments texts : Segments) (t : ReferenceTable)
+        → IsCheckpointOf page n segments texts → IsNoted (entries_of page segments) t
+        → IsNoted (entries_of page (with_first n texts segments)) t }
+    ensures entries { (page n : ℕ) (segments texts : Segments)
+        → IsCheckpointOf page n segments texts
+        → entries_of page (with_first n texts segments)
+        ≡ definitions_of (entries_of page (take n segments)) ++ entries_of page (drop n segments) }
 {}

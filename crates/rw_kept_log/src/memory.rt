@@ -4,12 +4,25 @@ ghost use Rattle.std.specs.Prelude.{◌≡◌, ◌<◌, ◌-◌, ◌++◌, [], �
 ghost use Rattle.std.proofs.Common.{inl};
 ghost use Rattle.rw_kept_log.specs.Journal.{Only};
 ghost use Rattle.rw_kept_log.specs.Memory.{image_segments, IsLeftOf, LeftSince, only_this, all_left};
+ghost use Rattle.rw_kept_log.specs.Retiring.{texts_of};
 
 use crate::image::Image;
 use crate::journal::{Journal, JournalError};
+use crate::retiring_journal::RetiringJournal;
 use crate::segment_taker::SegmentTaker;
 use rw_history::History;
 use std::alloc::{AllocError, Global};
+
+/// Appends copies of texts.
+fn put_copies(alloc: Global, copies: &mut Vec<Vec<u8>>, texts: &[Vec<u8>]) -> Result<(), AllocError>
+    ensures { OnOk result (texts_of copies.new.items
+        ≡ texts_of copies.old.items ++ texts_of texts.now) }
+{
+    for text in texts {
+        copies.push(text.to_vec(alloc)?)?;
+    }
+    Ok(())
+}
 
 /// A journal in memory, for tests. Bytes that are appended survive a crash only if they are synced.
 #[derive(Drop)]
@@ -139,6 +152,17 @@ impl Journal for MemoryJournal {
         self.image.done.push(last)?;
         self.image.synced = 0;
         self.image.last.clear();
+        Ok(())
+    }
+}
+
+impl RetiringJournal for MemoryJournal {
+    fn retire(&mut self, n: usize, texts: &[Vec<u8>]) -> Result<(), JournalError> {
+        let mut done = Vec::new(self.alloc);
+        put_copies(self.alloc, &mut done, texts)?;
+        put_copies(self.alloc, &mut done, &self.image.done[n..])?;
+        self.past.push(&self.image);
+        self.image.done = done;
         Ok(())
     }
 }

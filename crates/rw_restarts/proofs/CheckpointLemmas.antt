@@ -1,71 +1,21 @@
 -- What comes after a checkpoint, and what the whole log owes.
-use Rattle.std.proofs.Common.{◌≡◌, ℕ, ℤ, Bool, true, false, true≢false, cond, ◌==◌, ◌||◌, eq-eqb, List, [], ◌∷◌, ◌++◌, length, append-nil, append_assoc, Some, refl, sym, ap, ◌∙◌, subst}
+use Rattle.std.proofs.Common.{◌≡◌, ℕ, ℤ, Bool, true, false, cond, List, [], ◌++◌, append-nil, refl, sym, ap, ◌∙◌, subst}
 use Rattle.std.proofs.lemmas.List.{map-append}
 use Rattle.std.proofs.lemmas.List.Elements.{filter-append}
 use Rattle.rw_types.specs.Beginnings.{Begins}
 use Rattle.rw_types.specs.Labels.{Labels}
 use Rattle.rw_types.specs.Rising.{Rises}
 use Rattle.rw_types.specs.declared.entry.Entry.{Entry}
-use Rattle.rw_types.specs.declared.entry.Entry.TheVariants.{Def, Sample}
-use Rattle.rw_wal_format.specs.Series.{labels_of, has_labels, samples_after}
-use Rattle.rw_wal_format.proofs.shared.SeriesRows.{labels_of-push}
+use Rattle.rw_wal_format.specs.Series.{samples_after}
+use Rattle.rw_kept_log.proofs.shared.AdditionLemmas.{samples_after-append}
+use Rattle.rw_kept_log.proofs.shared.CheckpointLemmas.{rest-same}
 use Rattle.rw_relabel.specs.declared.choice.Choice.{Choice}
 use Rattle.rw_series_cache.specs.Points.{is_kept, kept_points}
 use Rattle.rw_head.specs.Lists.{IsEarlier}
 use Rattle.rw_head.specs.Order.{Point}
 use Rattle.rw_restarts.specs.Owed.{pairs_of, rising_after, rising, owed_of, EndsWith, is_from, those_from}
-use Rattle.rw_restarts.specs.Checkpoints.{is_used, SaySame, IsCheckpointFor, IsInTime}
+use Rattle.rw_restarts.specs.Checkpoints.{IsCheckpointFor, IsInTime}
 use Rattle.rw_restarts.proofs.OwedLemmas.{rising_after-append, Rises-rising_after, floor-end, all_from}
-
--- ---- a log in two parts
-append_either : (b : Bool) (p : ℕ × ℤ × ℕ) (now later more : List (ℕ × ℤ × ℕ)) → now ≡ later ++ more → cond b (p ∷ now) now ≡ cond b (p ∷ later) later ++ more
-append_either true p now later more e = ap (λ ps. p ∷ ps) e
-append_either false p now later more e = e
-
-pub samples_after-append : (l : Labels) (before xs ys : List Entry) → samples_after l before (xs ++ ys) ≡ samples_after l before xs ++ samples_after l (before ++ xs) ys
-samples_after-append l before [] ys = ap (λ b. samples_after l b ys) (sym (append-nil before))
-samples_after-append l before (Def r m ∷ xs) ys =
-    samples_after-append l (before ++ Def r m ∷ []) xs ys ∙ ap (λ b. samples_after l (before ++ Def r m ∷ []) xs ++ samples_after l b ys) (append_assoc before (Def r m ∷ []) xs)
-samples_after-append l before (Sample r t w ∷ xs) ys =
-    append_either (has_labels l (labels_of before r (length before))) (length before, t, w) (samples_after l (before ++ Sample r t w ∷ []) (xs ++ ys)) (samples_after l (before ++ Sample r t w ∷ []) xs) (samples_after l (before ++ Sample r t w ∷ xs) ys)
-    (samples_after-append l (before ++ Sample r t w ∷ []) xs ys ∙ ap (λ b. samples_after l (before ++ Sample r t w ∷ []) xs ++ samples_after l b ys) (append_assoc before (Sample r t w ∷ []) xs))
-
--- ---- what comes after a checkpoint
-same_pairs : (b : Bool) (m n : ℕ) (t : ℤ) (w : ℕ) (xs ys : List (ℕ × ℤ × ℕ)) → pairs_of xs ≡ pairs_of ys → pairs_of (cond b ((m, t, w) ∷ xs) xs) ≡ pairs_of (cond b ((n, t, w) ∷ ys) ys)
-same_pairs true m n t w xs ys e = ap (λ ps. (t, w) ∷ ps) e
-same_pairs false m n t w xs ys e = e
-
--- after one more entry both still say the same of what is used
-after_definition : (full cp es : List Entry) (q : ℕ) (m : List (List ℕ × List ℕ)) → SaySame full cp (Def q m ∷ es) → SaySame (full ++ Def q m ∷ []) (cp ++ Def q m ∷ []) es
-after_definition full cp es q m same r used = labels_of-push cp (Def q m) r ∙ by_test (q == r) refl (same r) ∙ sym (labels_of-push full (Def q m) r)
-  where
-    by_test : (b : Bool) → (q == r) ≡ b → (cond b false (is_used r es) ≡ true → labels_of cp r (length cp) ≡ labels_of full r (length full))
-        → cond b (Some m) (labels_of cp r (length cp)) ≡ cond b (Some m) (labels_of full r (length full))
-    by_test true e h = refl
-    by_test false e h = h used
-
-after_sample : (full cp es : List Entry) (q : ℕ) (t : ℤ) (w : ℕ) → SaySame full cp (Sample q t w ∷ es) → SaySame (full ++ Sample q t w ∷ []) (cp ++ Sample q t w ∷ []) es
-after_sample full cp es q t w same r used = labels_of-push cp (Sample q t w) r ∙ same r (right (q == r) used) ∙ sym (labels_of-push full (Sample q t w) r)
-  where
-    right : (b : Bool) → is_used r es ≡ true → (b || is_used r es) ≡ true
-    right true h = refl
-    right false h = h
-
-pub rest-same : (full cp rest : List Entry) (l : Labels) → SaySame full cp rest → pairs_of (samples_after l cp rest) ≡ pairs_of (samples_after l full rest)
-rest-same full cp [] l same = refl
-rest-same full cp (Def q m ∷ es) l same = rest-same (full ++ Def q m ∷ []) (cp ++ Def q m ∷ []) es l (after_definition full cp es q m same)
-rest-same full cp (Sample q t w ∷ es) l same =
-    let here : labels_of cp q (length cp) ≡ labels_of full q (length full) = same q (used (q == q) (itself q)) in
-    ap (λ o. pairs_of (cond (has_labels l o) ((length cp, t, w) ∷ samples_after l (cp ++ Sample q t w ∷ []) es) (samples_after l (cp ++ Sample q t w ∷ []) es))) here
-    ∙ same_pairs (has_labels l (labels_of full q (length full))) (length cp) (length full) t w (samples_after l (cp ++ Sample q t w ∷ []) es) (samples_after l (full ++ Sample q t w ∷ []) es)
-    (rest-same (full ++ Sample q t w ∷ []) (cp ++ Sample q t w ∷ []) es l (after_sample full cp es q t w same))
-  where
-    itself : (n : ℕ) → (n == n) ≡ true
-    itself n = eq-eqb n n refl
-
-    used : (b : Bool) → b ≡ true → (b || is_used q es) ≡ true
-    used true h = refl
-    used false h = absurd (true≢false (sym h))
 
 -- the samples of the log as it is read
 pub whole-parts : (floor : ℤ) (full cp later : List Entry) (l : Labels) → IsCheckpointFor floor l full cp later

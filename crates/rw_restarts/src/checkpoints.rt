@@ -12,7 +12,8 @@ ghost use Rattle.rw_head.specs.Lists.{IsEarlier};
 ghost use Rattle.rw_head.specs.Order.{Point};
 ghost use Rattle.rw_restarts.specs.Owed.{pairs_of, is_after_each, rising};
 ghost use Rattle.rw_restarts.specs.Owed.{owed_of, EndsWith, those_from};
-ghost use Rattle.rw_restarts.specs.Checkpoints.{SaySame, IsCheckpointFor, IsInTime};
+ghost use Rattle.rw_kept_log.specs.Checkpoints.{SaySame};
+ghost use Rattle.rw_restarts.specs.Checkpoints.{IsCheckpointFor, IsInTime};
 
 /// Law: what a log owes of a label set rises, and is a prefix of what a longer log owes. Samples
 /// that rise are owed as they are, and one more sample is owed if it is later than all before it.

@@ -5,9 +5,10 @@ ghost use Rattle.std.specs.Prelude.{◌≡◌, ℤ, List, ◌++◌};
 ghost use Rattle.rw_types.specs.Labels.{Labels};
 ghost use Rattle.rw_types.specs.declared.entry.Entry.{Entry};
 ghost use Rattle.rw_relabel.specs.declared.choice.Choice.{Choice};
-ghost use Rattle.rw_restarts.specs.Checkpoints.{IsCheckpointFor, SaySame};
+ghost use Rattle.rw_kept_log.specs.Checkpoints.{definitions_of, SaySame};
+ghost use Rattle.rw_restarts.specs.Checkpoints.{IsCheckpointFor};
 ghost use Rattle.rw_restarts.specs.Logs.{IsRunFromCheckpoint, IsRunOverPart};
-ghost use Rattle.rw_restarts.specs.Resumed.{AreBefore, definitions_of};
+ghost use Rattle.rw_restarts.specs.Resumed.{AreBefore};
 ghost use Rattle.rw_restarts.specs.Runs.{SentMessage};
 ghost use Rattle.rw_restarts.specs.Stopped.{run_from_start};
 

@@ -1,12 +1,7 @@
 -- Segments in memory, and a log of some segments and then others.
-use Rattle.std.specs.Prelude.{◌≡◌, ℕ, ◌≤◌, List, [], ◌∷◌, ◌++◌, length, map, take, Option, None, Vec, ⊤}
-use Rattle.std.specs.declared.alloc.Global.{Global}
+use Rattle.std.specs.Prelude.{◌≡◌, ℕ, ◌≤◌, List, [], ◌∷◌, ◌++◌, length, take, Option, None, ⊤}
 use Rattle.rw_follow.specs.Meals.{Meal, no_meal}
 use Rattle.rw_kept_log.specs.Journal.{Segments}
-
--- the bytes of each of them
-abbrev pub texts_of : List (Vec ℕ Global) → Segments
-texts_of texts = map (λ (v : Vec ℕ Global). v.items) texts
 
 -- The segments in memory that are left, the current one first, and how many bytes of it were read.
 pub record TextsLeft : Type 0 where

@@ -1,3 +1,2 @@
 -- Inner definitions: only models, invariants, private functions and proofs use them.
 pub mod Passing
-pub mod Written

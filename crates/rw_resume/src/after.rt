@@ -37,7 +37,8 @@ struct Texts {
 }
 
 impl Model for Texts {
-    ghost use Rattle.rw_resume.specs.Logs.{TextsLeft, texts_of};
+    ghost use Rattle.rw_resume.specs.Logs.{TextsLeft};
+    ghost use Rattle.rw_kept_log.specs.Retiring.{texts_of};
 
     ghost Value = { TextsLeft };
 
@@ -62,7 +63,7 @@ pub(crate) fn copy_from(text: &[u8], offset: usize, buf: &mut [u8]) -> usize
 
 impl Texts {
     ghost use Rattle.std.specs.Prelude.{[]};
-    ghost use Rattle.rw_resume.specs.Logs.{texts_of};
+    ghost use Rattle.rw_kept_log.specs.Retiring.{texts_of};
 
     /// Returns these texts, of which nothing was read.
     fn new(texts: Vec<Vec<u8>>) -> Texts
@@ -119,7 +120,8 @@ pub struct After<S> {
 
 impl<S: Segments + Drop> After<S> {
     ghost use Rattle.rw_follow.specs.Meals.{no_meal};
-    ghost use Rattle.rw_resume.specs.Logs.{GaveBoth, texts_of};
+    ghost use Rattle.rw_resume.specs.Logs.{GaveBoth};
+    ghost use Rattle.rw_kept_log.specs.Retiring.{texts_of};
 
     /// Returns these segments, in order, and then those of this log.
     pub fn new(first: Vec<Vec<u8>>, then: S) -> After<S>

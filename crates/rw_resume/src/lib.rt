@@ -4,7 +4,6 @@
 
 mod after;
 mod continuation;
-mod definitions;
 mod filling;
 mod front;
 mod keeping;
@@ -18,7 +17,6 @@ mod position_files;
 
 pub use after::{After, Numbered};
 pub use continuation::{Continuation, find_continuation};
-pub use definitions::{Definitions, write_definitions};
 pub use front::front_for;
 pub use keeping::Keeping;
 pub use midway::Midway;
@@ -26,3 +24,4 @@ pub use passing::{Passed, pass_over};
 pub use position::{Position, read_position};
 pub use position_file::PositionFile;
 pub use position_files::{PositionFault, PositionFiles, write_position};
+pub use rw_kept_log::{Definitions, write_definitions};

@@ -13,8 +13,8 @@ ghost use Rattle.rw_wal_tail.specs.Places.{stop_offset_in};
 ghost use Rattle.rw_wal_tail.specs.Taking.{HasTaken};
 ghost use Rattle.rw_wal_tail.specs.declared.place.FaultPlace.{FaultPlace};
 
-use crate::definitions::Definitions;
 use rw_follow::Segments;
+use rw_kept_log::Definitions;
 use rw_types::ReadFault;
 use rw_wal_tail::layout_laws::segments_are_read;
 use rw_wal_tail::{FaultPlace, Tail, take_all};

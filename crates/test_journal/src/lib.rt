@@ -31,6 +31,8 @@ mod plan;
 #[cfg(test)]
 mod references;
 #[cfg(test)]
+mod retiring;
+#[cfg(test)]
 mod schedules;
 #[cfg(test)]
 mod segments;

@@ -1,5 +1,5 @@
 -- Lists of definitions, and the definitions of a log that goes on.
-use Rattle.std.proofs.Common.{◌≡◌, inl, inr, ℕ, List, [], ◌∷◌, ◌++◌, refl, ap, ◌∙◌, subst}
+use Rattle.std.proofs.Common.{◌≡◌, inl, inr, ℕ, ℤ, append-nil, List, [], ◌∷◌, ◌++◌, refl, ap, ◌∙◌, subst}
 use Rattle.std.specs.List.{AllByRecursion}
 use Rattle.rw_types.specs.Beginnings.{Begins}
 use Rattle.rw_types.specs.Labels.{Labels}
@@ -77,6 +77,12 @@ pub definitions-append : (es fs : List Entry) → definitions_in (es ++ fs) ≡ 
 definitions-append [] fs = refl
 definitions-append (Def r l ∷ es) fs = ap (λ (ds : Pairs). (r, l) ∷ ds) (definitions-append es fs)
 definitions-append (Sample r t w ∷ es) fs = definitions-append es fs
+
+pub push_def : (es : List Entry) (r : ℕ) (labels : List (List ℕ × List ℕ)) → definitions_in (es ++ Def r labels ∷ []) ≡ definitions_in es ++ (r, labels) ∷ []
+push_def es r labels = definitions-append es (Def r labels ∷ [])
+
+pub push_sample : (es : List Entry) (r : ℕ) (t : ℤ) (w : ℕ) → definitions_in (es ++ Sample r t w ∷ []) ≡ definitions_in es
+push_sample es r t w = definitions-append es (Sample r t w ∷ []) ∙ append-nil (definitions_in es)
 
 pub begins_once : (es fs : List Entry) → Begins es fs → IsDefinedOnce fs → IsDefinedOnce es
 begins_once es fs b once = apart_front (definitions_in es) (definitions_in b.0) (subst AreApart (ap definitions_in b.1 ∙ definitions-append es b.0) once)

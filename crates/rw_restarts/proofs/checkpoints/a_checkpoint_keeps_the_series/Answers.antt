@@ -1,4 +1,5 @@
-use Rattle.rw_restarts.proofs.CheckpointLemmas.{rest-same, whole-parts, owed-end, owed-part}
+use Rattle.rw_kept_log.proofs.shared.CheckpointLemmas.{rest-same}
+use Rattle.rw_restarts.proofs.CheckpointLemmas.{whole-parts, owed-end, owed-part}
 use Rattle.rw_restarts.proofs.checkpoints.a_checkpoint_keeps_the_series.Goals as goal
 
 pub returns-clause-rest : goal.returns-clause-rest

@@ -1,4 +1,4 @@
-use Rattle.rw_restarts.specs.Resumed.{definitions_of}
+use Rattle.rw_kept_log.specs.Checkpoints.{definitions_of}
 use Rattle.rw_restarts.proofs.resumed.a_resumed_run_is_a_run_over_the_log.Goals as goal
 
 pub returns : goal.returns

@@ -1,4 +1,4 @@
-use Rattle.std.proofs.Common.{◌≡◌, ◌≢◌, ◌<◌, ap, sym, subst, ◌∙◌, rules, true}
+use Rattle.std.proofs.Common.{◌≡◌, ◌≢◌, ◌<◌, ap, sym, subst, ◌∙◌, rules}
 use Rattle.std.specs.List.{AllByRecursion}
 use Rattle.rw_types.specs.Labels.{IsLabelSet}
 use Rattle.rw_types.specs.declared.names.Names.TheVariants.{Utf8}

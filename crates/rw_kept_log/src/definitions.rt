@@ -1,18 +1,20 @@
 //! The definitions of a log, kept as it is read, and written as segments.
 
 ghost use Rattle.std.specs.Prelude.{◌≡◌, ◌++◌, [], List, IfOk, OnErr, OnOk, map};
+ghost use Rattle.std.specs.List.{AllByRecursion};
 ghost use Rattle.rw_kept_log.specs.Additions.{definition_entry};
 ghost use Rattle.rw_kept_log.specs.Definitions.{definitions_in};
 ghost use Rattle.rw_kept_log.specs.Logs.{IsWholeText, entries_of};
-ghost use Rattle.rw_resume.specs.Logs.{texts_of};
-ghost use Rattle.rw_resume.specs.inner.Written.{AreWhole};
+ghost use Rattle.rw_kept_log.specs.Retiring.{texts_of};
+ghost use Rattle.rw_kept_log.specs.inner.Written.{AreWhole};
 ghost use Rattle.rw_types.specs.declared.entry.Entry.{Entry};
 ghost use Rattle.rw_wal_format.specs.Pieces.{page_size};
 ghost use Rattle.rw_wal_format.specs.Segments.{segment};
 
+use crate::append_error::AppendError;
+use crate::append_laws::{a_next_segment_may_begin, an_empty_segment_ends_at_0};
+use crate::log_end::LogEnd;
 use rw_history::History;
-use rw_kept_log::append_laws::{a_next_segment_may_begin, an_empty_segment_ends_at_0};
-use rw_kept_log::{AppendError, LogEnd};
 use rw_types::{Entry, RawLabels};
 use rw_wal_tail::Taker;
 use std::alloc::{AllocError, Global};
@@ -60,6 +62,14 @@ impl Definitions {
     {
         self.found.as_slice()
     }
+
+    /// Returns these definitions, and keeps nothing.
+    pub(crate) fn into_found(self) -> Vec<(u64, RawLabels)>
+        ensures { result.items ≡ definitions_in self }
+    {
+        let Definitions { found, taken: _ } = self;
+        found
+    }
 }
 
 impl Taker for Definitions {
@@ -69,7 +79,7 @@ impl Taker for Definitions {
 
     ghost fixed = { λ _. tt };
 
-    #[tactic(auto, using(crate::proofs::DefinitionLemmas::push_def, crate::proofs::DefinitionLemmas::push_sample))]
+    #[tactic(auto, using(crate::proofs::shared::DefinitionLemmas::push_def, crate::proofs::shared::DefinitionLemmas::push_sample))]
     fn take(&mut self, entry: Entry) -> Result<(), AllocError> {
         self.found.reserve(1)?;
         self.taken.push(&entry);
@@ -116,8 +126,10 @@ pub fn write_definitions(
     alloc: Global,
     definitions: &[(u64, RawLabels)],
 ) -> Result<Vec<Vec<u8>>, AppendError>
-    ensures { IfOk result (λ texts. entries_of page_size (texts_of texts.items)
+    ensures entries { IfOk result (λ texts. entries_of page_size (texts_of texts.items)
         ≡ map definition_entry definitions.now) }
+    ensures whole { IfOk result
+        (λ texts. AllByRecursion (IsWholeText page_size) (texts_of texts.items)) }
 {
     let mut texts = Vec::new(alloc);
     let mut rest = definitions;

@@ -2,10 +2,10 @@ use Rattle.std.proofs.Common.{[], ◌∷◌, ◌++◌, List, ℕ, Vec, map, ap, 
 use Rattle.std.specs.declared.alloc.Global.{Global}
 use Rattle.rw_kept_log.specs.Additions.{definition_entry}
 use Rattle.rw_kept_log.specs.Journal.{Segments}
-use Rattle.rw_resume.specs.Logs.{texts_of}
-use Rattle.rw_resume.specs.inner.Written.{AreWhole}
-use Rattle.rw_resume.proofs.WrittenLemmas.{texts_push, whole_push}
-use Rattle.rw_resume.proofs.definitions.push_segment.Goals as goal
+use Rattle.rw_kept_log.specs.Retiring.{texts_of}
+use Rattle.rw_kept_log.specs.inner.Written.{AreWhole}
+use Rattle.rw_kept_log.proofs.WrittenLemmas.{texts_push, whole_push}
+use Rattle.rw_kept_log.proofs.definitions.push_segment.Goals as goal
 
 pub returns-clause-ok : goal.returns-clause-ok
 returns-clause-ok c = λ es h.

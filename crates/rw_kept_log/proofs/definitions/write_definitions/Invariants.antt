@@ -1,9 +1,9 @@
 use Rattle.std.proofs.Common.{◌≡◌, ◌+◌, ◌<◌, List, ◌++◌, length, map}
 use Rattle.rw_types.specs.declared.entry.Entry.{Entry}
 use Rattle.rw_kept_log.specs.Additions.{definition_entry}
-use Rattle.rw_resume.specs.Logs.{texts_of}
-use Rattle.rw_resume.specs.inner.Written.{AreWhole}
-use Rattle.rw_resume.proofs.definitions.write_definitions.Given as goal
+use Rattle.rw_kept_log.specs.Retiring.{texts_of}
+use Rattle.rw_kept_log.specs.inner.Written.{AreWhole}
+use Rattle.rw_kept_log.proofs.definitions.write_definitions.Given as goal
 
 abbrev pub invariant-loop-rest : goal.invariant-loop-rest
 invariant-loop-rest l = record {

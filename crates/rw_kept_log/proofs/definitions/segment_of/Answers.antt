@@ -1,8 +1,8 @@
 use Rattle.std.proofs.Common.{ℕ, [], ◌∷◌, map, sym, ap, subst}
 use Rattle.rw_kept_log.specs.Additions.{definition_entry}
 use Rattle.rw_kept_log.specs.Ends.{End, EndsAt}
-use Rattle.rw_resume.proofs.WrittenLemmas.{ends_whole, written_alone}
-use Rattle.rw_resume.proofs.definitions.segment_of.Goals as goal
+use Rattle.rw_kept_log.proofs.WrittenLemmas.{ends_whole, written_alone}
+use Rattle.rw_kept_log.proofs.definitions.segment_of.Goals as goal
 
 pub returns-clause-whole : goal.returns-clause-whole
 returns-clause-whole c =

@@ -10,8 +10,8 @@ use Rattle.rw_kept_log.specs.Journal.{Segments}
 use Rattle.rw_kept_log.specs.Logs.{entries_of, IsWholeText}
 use Rattle.rw_kept_log.specs.TornLogs.{AllBefore}
 use Rattle.rw_kept_log.proofs.shared.ReopeningLemmas.{no_entries, one_more}
-use Rattle.rw_resume.specs.Logs.{texts_of}
-use Rattle.rw_resume.specs.inner.Written.{AreWhole}
+use Rattle.rw_kept_log.specs.Retiring.{texts_of}
+use Rattle.rw_kept_log.specs.inner.Written.{AreWhole}
 
 -- a segment of records ends between two of them
 pub ends_whole : ((segments : Segments) (offset : ℕ) → EndsAt segments offset → AllBefore (IsWholeText page_size) segments)
