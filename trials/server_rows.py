@@ -187,13 +187,13 @@ class ServerRows:
             return trial.judge(newer, older, may_lose=may_lose)
         return steps
 
-    def one_too_old(self, may_lose=False):
+    def one_too_old(self, may_lose=False, **how):
         """Steps that ship batches which each have a sample that is hours older than the others."""
         def steps(trial):
             log = Log(20, 100, 5_000, self.now_ms, odd=())
             log.samples = [(at, time - 3 * HOUR_MS * (at == 0), word) for at, time, word in log.samples]
             trial.ship(Log(1, 2, 1_000, self.now_ms, "newer", odd=()))
-            trial.ship(log, shards=1, batch=20)
+            trial.ship(log, shards=1, batch=20, **how)
             return trial.judge(log, Log(1, 2, 1_000, self.now_ms, "newer", odd=()), may_lose=may_lose)
         return steps
 
@@ -284,8 +284,11 @@ def run_prometheus(rows, program, room):
     it.run("a second run over a log that has grown, with a window", it.grown(), WINDOW)
     it.run("3 hours of log, one shard", it.once(hours, shards=1))
     it.run("3 hours of log, every seventh request answered 503, with a window", it.once(hours), WINDOW, refuses_every=7)
+    unbounded = ("--snappy",)
     if has_option(program, "--max-skew"):
+        unbounded = ("--snappy", "--max-skew", "1d")
         it.run("3 hours of log, every seventh request answered 503, --max-skew", it.once(hours, options=("--snappy", "--max-skew", "30m")), refuses_every=7)
+        it.run("3 hours of log, every seventh request answered 503, the bound of --snappy", it.once(hours), refuses_every=7)
     it.run("3 hours of log beside a newer sample, with a window", it.beside_newer(3), WINDOW)
     it.run("a sample of each batch is too old, with a window", it.one_too_old(), WINDOW)
     if has_option(program, "--resume"):
@@ -299,9 +302,9 @@ def run_prometheus(rows, program, room):
     locked.run("send.headers", it.once(settings=f'[send.headers]\nAuthorization = "{PASSWORD}"\n'))
     locked.run("no send.headers, --stop-on-refusal", it.refused(401, ["--snappy"]))
     it.run("without a window: a second run over a log that has grown", it.grown(may_lose=True))
-    it.run("without a window: 3 hours of log, every seventh request answered 503", it.once(hours, may_drop=True, may_lose=True), refuses_every=7)
+    it.run("without a window: 3 hours of log, every seventh request answered 503", it.once(hours, may_drop=True, may_lose=True, options=unbounded), refuses_every=7)
     it.run("without a window: 3 hours of log beside a newer sample", it.beside_newer(3, may_lose=True, shards=1))
-    it.run("without a window: a sample of each batch is too old", it.one_too_old(may_lose=True))
+    it.run("without a window: a sample of each batch is too old", it.one_too_old(may_lose=True, options=unbounded))
 
 
 def run_victoria(rows, program, room):

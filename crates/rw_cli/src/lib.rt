@@ -118,6 +118,9 @@ pub struct Sending<'a> {
     pub max_batch_bytes: Option<u64>,
     /// Whether bodies are sent as Snappy blocks, whatever the settings say.
     pub sends_snappy: bool,
+    /// By how many milliseconds a sample that is sent may be later than an earlier one of the log
+    /// that has no answer yet, if the options say so.
+    pub max_skew_ms: Option<u64>,
     /// The file in which the position in the log is kept, if it is kept.
     pub resume: Option<&'a str>,
 }
@@ -258,6 +261,15 @@ pub fn bad_address<'a>(words: &ArgMatches<'a>) -> Option<(&'static str, &'a str)
     bad_option(options)
 }
 
+/// Returns the value of an option that has to be a time and is not a valid one.
+fn bad_time<'a>(options: &ArgMatches<'a>, option: &str) -> Option<&'a str> {
+    let value = options.get_str(option)?;
+    if time_ms(value).is_some() {
+        return None;
+    }
+    Some(value)
+}
+
 /// Returns the option and the value that is not a valid span of time, if the arguments have one.
 pub fn bad_span<'a>(words: &ArgMatches<'a>) -> Option<(&'static str, &'a str)> {
     let (_, options) = words.subcommand()?;
@@ -267,11 +279,12 @@ pub fn bad_span<'a>(words: &ArgMatches<'a>) -> Option<(&'static str, &'a str)> {
             None => Some(("memory", text)),
         };
     }
-    let text = options.get_str("give-up")?;
-    match time_ms(text) {
-        Some(_) => None,
-        None => Some(("give-up", text)),
+    for option in ["give-up", "max-skew"] {
+        if let Some(value) = bad_time(options, option) {
+            return Some((option, value));
+        }
     }
+    None
 }
 
 /// Returns what the options of `inspect` ask for.

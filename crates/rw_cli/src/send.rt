@@ -18,6 +18,27 @@ fn reading_of<'a>(options: &ArgMatches<'a>) -> Option<ReadExtent<'a>> {
     }))
 }
 
+/// How many milliseconds `--max-skew` has if only `--snappy` is given.
+const SNAPPY_SKEW_MS: u64 = 600_000;
+
+/// Returns how many milliseconds `--max-skew` has if it is not given.
+fn default_skew_ms(options: &ArgMatches<'_>) -> Option<u64> {
+    if options.get_flag("snappy") {
+        Some(SNAPPY_SKEW_MS)
+    } else {
+        None
+    }
+}
+
+/// Returns the milliseconds of the time that an option gives, or else this default. `None` if its
+/// value is not a valid time.
+fn time_of(options: &ArgMatches<'_>, name: &str, default: Option<u64>) -> Option<Option<u64>> {
+    match options.get_str(name) {
+        Some(time) => Some(Some(time_ms(time)?)),
+        None => Some(default),
+    }
+}
+
 /// Returns what the options of `send` ask for.
 pub(crate) fn send_task<'a>(
     settings: SettingsFile<'a>,
@@ -31,10 +52,8 @@ pub(crate) fn send_task<'a>(
     let Some(reporting) = reporting_of(options) else {
         return None;
     };
-    let give_up_ms = match options.get_str("give-up") {
-        Some(time) => Some(time_ms(time)?),
-        None => None,
-    };
+    let give_up_ms = time_of(options, "give-up", None)?;
+    let max_skew_ms = time_of(options, "max-skew", default_skew_ms(options))?;
     Some(Task::Send {
         settings,
         sending: Sending {
@@ -50,6 +69,7 @@ pub(crate) fn send_task<'a>(
             give_up_ms,
             max_batch_bytes: options.get_one::<u64>("max-batch-bytes"),
             sends_snappy: options.get_flag("snappy"),
+            max_skew_ms,
             resume: options.get_str("resume"),
         },
     })

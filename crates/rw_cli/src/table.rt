@@ -364,6 +364,12 @@ static SEND: Words = Words {
             bonds: &[],
             help: "Send bodies with Content-Encoding: snappy, as\nPrometheus does",
         },
+        Opt {
+            name: "max-skew",
+            takes: Takes::Text("TIME"),
+            bonds: &[],
+            help: "Send no sample that is later by more than TIME than\nan earlier one of the log that waits for its answer,\nas 30s or 10m; 10m with --snappy",
+        },
         EVENT_LOG,
         PROGRESS,
         METRICS,

@@ -44,7 +44,7 @@ in_same epoch (p ∷ ps) (q ∷ qs) h =
     in_first epoch q qs ∙ (λ i. cond ((h.0 i).queue.epoch == epoch) 1 0 + in_same epoch ps qs h.2 i) ∙ sym (in_first epoch p ps)
 
 -- these shards are of one epoch
-abbrev AreOf : ℕ → List ShardHistory → Type 0
+abbrev pub AreOf : ℕ → List ShardHistory → Type 0
 AreOf epoch lanes = (k : ℕ) (l : ShardHistory) → slice_get lanes k ≡ Some l → l.setup.queue.epoch ≡ epoch
 
 in_its_own : (epoch : ℕ) (lanes : List ShardHistory) → AreOf epoch lanes → shards_in epoch lanes ≡ length lanes
@@ -88,7 +88,7 @@ module _ {T : Type 0} where
       let is : length old.current ≡ shards_in epoch (map lane_of new.ended) = omega (arith, here, none, sum) in
       subst (IsEpochSize first fewest most epoch) is (subst (λ n. IsEpochSize first fewest most n (length old.current)) (sym e) h.current)
 
-  sizes_next : (first fewest most : ℕ) (old new : Shards T) → HasEpochSizes first fewest most old → AreOf old.epoch old.current → IsNextEpoch old new → fewest ≤ length new.current → length new.current ≤ most
+  pub sizes_next : (first fewest most : ℕ) (old new : Shards T) → HasEpochSizes first fewest most old → AreOf old.epoch old.current → IsNextEpoch old new → fewest ≤ length new.current → length new.current ≤ most
       → HasEpochSizes first fewest most new
   sizes_next first fewest most old new h at next least greatest = record {
     ended = λ epoch before. ended_so first fewest most epoch old new h at next.compared.0 (eq-or-lt_of_le (let e = next.epoch in omega (arith, before, e)));
@@ -128,14 +128,14 @@ module _ {T : Type 0} where
 within_bounds : (fewest most n : ℕ) → fewest ≤ most → (fewest ≤ within fewest most n) × (within fewest most n ≤ most)
 within_bounds fewest most n range = (le-min (le-max_left fewest n) range, min-le_right (max fewest n) most)
 
-abbrev HasBounds : (fewest most : ℕ) → ℕ → Type 0
+abbrev pub HasBounds : (fewest most : ℕ) → ℕ → Type 0
 HasBounds fewest most n = (fewest ≤ n) × (n ≤ most)
 
 chosen : (P : ℕ → Type 0) (b : Bool) (m n : ℕ) → P m → P n → P (if b then m else n)
 chosen P true m n one other = one
 chosen P false m n one other = other
 
-wanted_bounds : (n placed resolved backlog fewest most : ℕ) → fewest ≤ most → HasBounds fewest most (wanted n placed resolved backlog fewest most)
+pub wanted_bounds : (n placed resolved backlog fewest most : ℕ) → fewest ≤ most → HasBounds fewest most (wanted n placed resolved backlog fewest most)
 wanted_bounds n placed resolved backlog fewest most range =
     let now = within fewest most n in
     let next = desired now placed resolved backlog fewest most in

@@ -14,7 +14,7 @@ use Rattle.rw_send.specs.inner.Turns.{Reshards}
 use Rattle.rw_send.proofs.EpochLemmas.{compared_resolved}
 use Rattle.rw_send.proofs.EpochSizeLemmas.{sizes_on}
 use Rattle.rw_send.proofs.FeedErrorLemmas.{count_so}
-use Rattle.rw_send.proofs.TurnLemmas.{all_halt_from, range_on}
+use Rattle.rw_send.proofs.TurnLemmas.{on_reshards}
 
 pub either_named : {A : Type 0} (number : Option ℕ) (text : ℕ → ℕ → List ℕ) (n bytes all : ℕ) (found : Option (List ℕ)) → number ≡ Some n → bytes ≡ all → A ⊎ (found ≡ Some (text n bytes)) → A ⊎ Names number (λ n. text n all) found
 either_named number text n bytes all found is e (inl before) = inl before
@@ -24,25 +24,4 @@ module _ {T : Type 0} where
   pub soon_reshards : (t : Turn) (buf : List ℕ) (sharding next : Sharding) (old mid new : Shipping T) (r : Result Sharding FeedError) → IsSoon sharding old mid next → mid.fleet.config ≡ old.fleet.config
       → Reshards t buf next mid new r → Reshards t buf sharding old new r
   soon_reshards t buf sharding next old mid new r soon config goes =
-      let keeps = goes.keeps in
-      let log = soon.log in
-      let number = count_so soon.shards next.some next.few in
-      record {
-        keeps = record {
-          kept = (keeps.kept.0 ∙ ap (λ (l : Sorting). (l.choice, l.labels)) log, keeps.kept.1 ∙ config);
-          limit = λ live. keeps.limit live ∙ soon.limit;
-          shards = keeps.shards;
-          range = range_on sharding next r soon.range keeps.range;
-          number = keeps.number;
-          sizes = λ live. sizes_on sharding.fewest sharding.most next.fewest next.most old.fleet mid.fleet new.fleet soon.range soon.sizes (keeps.sizes live);
-          live = keeps.live;
-          intact = keeps.intact;
-          short = λ c h. keeps.short c (subst (λ (l : Sorting). IsShortLog c l.pieces) (sym log) h);
-          but_last = λ h. keeps.but_last (subst (λ (l : Sorting). AreSoundButLast l.pieces) (sym log) h);
-          last = λ done. keeps.last (compared_resolved old mid soon.compared number.0 done);
-          resolved = λ done. keeps.resolved (compared_resolved old mid soon.compared number.0 done);
-        };
-        fed = subst (λ (l : Sorting). OnOk r (meal_of new.log.pieces ≡ given_by t buf (meal_of l.pieces))) log goes.fed;
-        part = subst (λ (l : Sorting). OnErr r ((meal_of new.log.pieces ≡ meal_of l.pieces) ⊎ (meal_of new.log.pieces ≡ given_by t buf (meal_of l.pieces)))) log goes.part;
-        halts = all_halt_from t old mid new r log goes.halts;
-      }
+      on_reshards t buf sharding next old mid new r soon.log soon.limit soon.compared config soon.shards soon.range soon.sizes goes

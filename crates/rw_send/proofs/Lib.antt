@@ -11,3 +11,4 @@ pub mod PrintLemmas
 pub mod ShortLemmas
 pub mod StepLemmas
 pub mod TurnLemmas
+pub mod OverLemmas

@@ -332,10 +332,10 @@ module _ {T : Type 0} where
     halts = inl failed;
   }
 
-  pub goes_reshards : (t : Turn) (buf : List ℕ) (sharding next : Sharding) (old mid new : Shipping T) (r : Result Sharding FeedError) → mid.log ≡ old.log → mid.limit ≡ old.limit
+  pub on_reshards : (t : Turn) (buf : List ℕ) (sharding next : Sharding) (old mid new : Shipping T) (r : Result Sharding FeedError) → mid.log ≡ old.log → mid.limit ≡ old.limit
       → (mid.fleet ≡ old.fleet) ⊎ HasCompared old.fleet mid.fleet → mid.fleet.config ≡ old.fleet.config → length mid.fleet.current ≡ next.shards → (next.fewest ≡ sharding.fewest) × (next.most ≡ sharding.most)
-      → KeepsEpochSizes sharding.fewest sharding.most old.fleet mid.fleet → Goes t buf next mid new r → Reshards t buf sharding old new r
-  goes_reshards t buf sharding next old mid new r log limit compared config shards range sizes goes =
+      → KeepsEpochSizes sharding.fewest sharding.most old.fleet mid.fleet → Reshards t buf next mid new r → Reshards t buf sharding old new r
+  on_reshards t buf sharding next old mid new r log limit compared config shards range sizes goes =
       let keeps = goes.keeps in
       let number = count_so shards next.some next.few in
       record {

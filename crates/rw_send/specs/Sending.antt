@@ -1,5 +1,5 @@
 -- What a run of the command `send` does, to the present end of a log or as it grows.
-use Rattle.std.specs.Prelude.{◌≡◌, ◌⊎◌, ℕ, ◌≤◌, Bool, true, List, [], length, Option, None, IsSome, Result, Ok, Err, IsOk, ⊤}
+use Rattle.std.specs.Prelude.{◌≡◌, ◌⊎◌, ℕ, ◌≤◌, Bool, true, false, List, [], length, Option, None, Some, IsSome, Result, Ok, Err, IsOk, ⊤}
 use Rattle.std.specs.Io.KnownBytes.{Appends}
 use Rattle.rw_types.specs.Labels.{Labels}
 use Rattle.rw_wal_format.specs.Pieces.{Piece}
@@ -29,6 +29,11 @@ use Rattle.rw_send.specs.Logs.{GaveNothing, HasGivenMore, IsAlmostRead, Seen}
 use Rattle.rw_send.specs.ReportText.{IsTextOf, WritesReportPart}
 use Rattle.rw_send.specs.Segments.{IsShortLog, AreSoundButLast, meal_of}
 use Rattle.rw_send.specs.Steps.{HasComeTo, HasLapped, HasLastEpoch, HasStarted}
+
+-- the clock asks for nothing but a stop, and no bound divides a segment into epochs
+abbrev pub is_undivided : (max_skew : Option ℕ) → (quiet : Bool) → Bool
+is_undivided None quiet = quiet
+is_undivided (Some most) quiet = false
 
 -- the shards were ended in order; or at once, since the shipper failed or for this cause, and then
 -- work is abandoned

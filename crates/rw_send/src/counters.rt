@@ -15,6 +15,9 @@ use std::alloc::Global;
 pub struct FeedContext<'a> {
     pub alloc: Global,
     pub counters: &'a SendCounters,
+    /// By how many milliseconds a sample may be later than one before it in the log that may not be
+    /// resolved. `None` for no bound.
+    pub max_skew: Option<u64>,
 }
 
 /// Returns how many records of the log a shipper has skipped, by type.

@@ -5,7 +5,7 @@ ghost use Rattle.rw_follow.specs.declared.signal.StopRequest.TheVariants as Stop
 ghost use Rattle.rw_send.specs.Logs.{seen_of};
 ghost use Rattle.rw_send.specs.RunFaults.{answer_of};
 ghost use Rattle.rw_send.specs.Segments.{meal_of};
-ghost use Rattle.rw_send.specs.Sending.{IsSent, Prints};
+ghost use Rattle.rw_send.specs.Sending.{IsSent, Prints, is_undivided};
 ghost use Rattle.rw_send.specs.inner.Sending.{left_undone};
 ghost use Rattle.rw_send.specs.declared.follow_fault.FollowFault.TheVariants.{Stopped};
 
@@ -65,7 +65,7 @@ fn ship<
         options.entry.reading
         (seen_of (S.gave segments.new start) (S.had_all segments.new start)
         (S.lacks segments.new) (S.may_fail segments.old))
-        (W.is_quiet watch.old) (W.said watch.new) sent.report sent.answer) }
+        (is_undivided options.entry.max_skew (W.is_quiet watch.old)) (W.said watch.new) sent.report sent.answer) }
 {
     let sharding = Sharding::of(&config);
     let mut buf = room_for_piece(alloc)?;
@@ -73,6 +73,7 @@ fn ship<
         connect,
         counters,
         max_batch_bytes,
+        max_skew,
         reading,
         stop,
     } = options;
@@ -85,7 +86,11 @@ fn ship<
         stop,
         reading,
     )?;
-    let context = FeedContext { alloc, counters };
+    let context = FeedContext {
+        alloc,
+        counters,
+        max_skew,
+    };
     let ended = ship_live::<R, S, C, W, P>(
         rt,
         context,
@@ -133,7 +138,7 @@ pub fn run_kept<
         options.entry.reading
         (seen_of (S.gave segments.new start) (S.had_all segments.new start)
         (S.lacks segments.new) (S.may_fail segments.old))
-        (W.is_quiet watch.old) (W.said watch.new) (K.contents writer.old)
+        (is_undivided options.entry.max_skew (W.is_quiet watch.old)) (W.said watch.new) (K.contents writer.old)
         (K.contents writer.new) (writer.new ≡ writer.old) (K.has_failed writer.new ≡ true)
         (answer_of result) }
     ensures sound { OnOk result
@@ -191,7 +196,7 @@ pub fn run_follow<
         options.entry.reading
         (seen_of (S.gave segments.new start) (S.had_all segments.new start)
         (S.lacks segments.new) (S.may_fail segments.old))
-        (W.is_quiet watch.old) (W.said watch.new) (K.contents writer.old)
+        (is_undivided options.entry.max_skew (W.is_quiet watch.old)) (W.said watch.new) (K.contents writer.old)
         (K.contents writer.new) (writer.new ≡ writer.old) (K.has_failed writer.new ≡ true)
         (answer_of result) }
     ensures sound { OnOk result

@@ -1,6 +1,6 @@
 //! Keeps how far a log was shipped, at the end of each segment.
 
-ghost use Rattle.std.specs.Prelude.{◌≡◌, ◌⊎◌, ◌+◌, List, ℕ, Option, true, false, None, Some, Ok, Err, IfOk, IfSome, IsSome, OnErr, OnOk, length};
+ghost use Rattle.std.specs.Prelude.{◌≡◌, ◌≤◌, ◌⊎◌, ◌+◌, List, ℕ, Option, true, false, None, Some, Ok, Err, IfOk, IfSome, IsSome, OnErr, OnOk, length};
 ghost use Rattle.rw_follow.specs.Meals.{Meal};
 ghost use Rattle.rw_resume.specs.Files.{MayLeave};
 ghost use Rattle.rw_resume.specs.Positions.{Names};
@@ -115,8 +115,8 @@ impl<S: Numbered, C: Connect + Drop, K: Clock, W: Watch, F: PositionFiles> Keepe
         }
         match turn {
             Turn::Over | Turn::Finished => true,
-            Turn::Nothing | Turn::Flush => watch.is_time(),
-            Turn::Piece(_) | Turn::Aborted => false,
+            Turn::Nothing => watch.is_time(),
+            Turn::Piece(_) | Turn::Flush | Turn::Aborted => false,
         }
     }
 
@@ -144,6 +144,7 @@ fn drain<R: Threads + Wait + Clock + Copy + Send + 'static, C: Connect + Drop>(
     requires live { shipper.old.fault ≡ None }
     ensures drained { OnOk result (IsDrained shipper.new) }
     ensures soon { IfOk result (IsSoon sharding shipper.old shipper.new) }
+    ensures bounds { IfOk result (λ s. (s.fewest ≤ s.shards) × (s.shards ≤ s.most)) }
     ensures unset { OnErr result (IsUnset shipper.old shipper.new) }
     ensures config { shipper.new.fleet.config ≡ shipper.old.fleet.config }
     ensures err { OnErr result (result ≡ Err Failed) }
@@ -155,6 +156,30 @@ fn drain<R: Threads + Wait + Clock + Copy + Send + 'static, C: Connect + Drop>(
         return Err(FeedError::Failed);
     }
     Ok(next)
+}
+
+/// Changes the number of shards to the nearest one within their bounds, once all that was put is
+/// resolved, if it is not within them.
+pub(crate) fn bounded<R: Threads + Wait + Clock + Copy + Send + 'static, C: Connect + Drop>(
+    rt: &R,
+    shipper: &mut Shipper<C>,
+    sharding: Sharding,
+) -> Result<Sharding, FeedError>
+    requires shards { length shipper.old.fleet.current ≡ sharding.shards }
+    requires live { shipper.old.fault ≡ None }
+    ensures soon { IfOk result (IsSoon sharding shipper.old shipper.new) }
+    ensures bounds { IfOk result (λ s. (s.fewest ≤ s.shards) × (s.shards ≤ s.most)) }
+    ensures unset { OnErr result (IsUnset shipper.old shipper.new) }
+    ensures config { shipper.new.fleet.config ≡ shipper.old.fleet.config }
+    ensures placed { PlacesAll shipper.old.log shipper.old.fleet }
+    ensures err { OnErr result (result ≡ Err Failed) }
+    ensures failed { OnErr result (IsSome shipper.new.fault) }
+{
+    shipper.conforms();
+    if sharding.within_bounds().shards == sharding.shards {
+        return Ok(sharding);
+    }
+    drain(rt, shipper, sharding)
 }
 
 /// Returns how many bytes of the current segment were fed, if this many were before a turn was

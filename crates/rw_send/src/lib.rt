@@ -10,6 +10,7 @@ mod follow_fault;
 mod keeper;
 mod live;
 mod options;
+mod over;
 mod printed_report;
 mod send;
 mod sharding;

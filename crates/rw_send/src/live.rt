@@ -12,6 +12,7 @@ ghost use Rattle.rw_send.specs.Drained.{IsCount};
 ghost use Rattle.rw_send.specs.Logs.{GaveNothing, IsAlmostRead, seen_of};
 ghost use Rattle.rw_wal_format.specs.Pieces.{is_marked};
 ghost use Rattle.rw_send.specs.Segments.{IsShortLog, AreSoundButLast, fed_of, meal_of};
+ghost use Rattle.rw_send.specs.Sending.{is_undivided};
 ghost use Rattle.rw_send.specs.Steps.{HasComeTo, HasLapped, KeepsSetup, HasLastEpoch};
 ghost use Rattle.rw_send.specs.inner.Turns.{Goes, IsCut, Reshards};
 ghost use Rattle.rw_send.specs.inner.EpochSizes.{KeepsEpochSizes};
@@ -21,6 +22,7 @@ ghost use Rattle.rw_sender.specs.Placement.{IsShardCount};
 use crate::counters::{FeedContext, update_counters};
 use crate::feed_error::FeedError;
 use crate::keeper::{Keeper, keep_if_due};
+use crate::over::obey_over;
 use crate::sharding::{Sharding, resharded, retuned};
 use rw_follow::{Follower, Segments, Turn, Watch};
 use rw_sender::{Connect, Shipper};
@@ -93,7 +95,7 @@ fn flush<R: Wait, C: Connect + Drop>(
 }
 
 /// Does what a turn of a follower asks for.
-fn obey<R: Threads + Wait + Clock + Copy + Send + 'static, C: Connect + Drop>(
+pub(crate) fn obey<R: Threads + Wait + Clock + Copy + Send + 'static, C: Connect + Drop>(
     rt: &R,
     alloc: Global,
     shipper: &mut Shipper<C>,
@@ -116,10 +118,37 @@ fn obey<R: Threads + Wait + Clock + Copy + Send + 'static, C: Connect + Drop>(
     }
 }
 
+/// Does what a turn of a follower asks for, and keeps the bound on how far apart in time the
+/// samples of an epoch are, if there is one.
+fn obey_within<R: Threads + Wait + Clock + Copy + Send + 'static, C: Connect + Drop>(
+    rt: &R,
+    context: FeedContext<'_>,
+    shipper: &mut Shipper<C>,
+    sharding: Sharding,
+    turn: Turn,
+    buf: &[u8],
+) -> Result<Sharding, FeedError>
+    requires live { shipper.old.fault ≡ None }
+    requires intact { IsIntact shipper.old }
+    requires shards { length shipper.old.fleet.current ≡ sharding.shards }
+    requires within { FitsBuffer turn (length buf.now) }
+    requires short { length buf.now ≤ 65_536 }
+    ensures goes { context.entry.max_skew ≡ None
+        → Goes turn buf.now sharding shipper.old shipper.new result }
+    ensures reshards { Reshards turn buf.now sharding shipper.old shipper.new result }
+    ensures start { IfOk result
+        (λ s. (s.placed ≡ sharding.placed) × (s.resolved ≡ sharding.resolved)) }
+{
+    match context.max_skew {
+        None => obey(rt, context.alloc, shipper, sharding, turn, buf),
+        Some(most) => obey_over(rt, context.alloc, shipper, sharding, most, turn, buf),
+    }
+}
+
 /// Sets the number of shards if that is due, and does what a turn of a follower asks for.
 fn step<R: Threads + Wait + Clock + Copy + Send + 'static, C: Connect + Drop>(
     rt: &R,
-    alloc: Global,
+    context: FeedContext<'_>,
     shipper: &mut Shipper<C>,
     sharding: Sharding,
     is_reshard_due: bool,
@@ -134,12 +163,12 @@ fn step<R: Threads + Wait + Clock + Copy + Send + 'static, C: Connect + Drop>(
     ensures asked { is_reshard_due ≡ true → IfOk result (λ s. (load : Load)
         × IsLoad shipper.old.fleet load × (s.placed ≡ load.placed)
         × (s.resolved ≡ load.resolved)) }
-    ensures goes { is_reshard_due ≡ false
+    ensures goes { context.entry.max_skew ≡ None → is_reshard_due ≡ false
         → Goes turn buf.now sharding shipper.old shipper.new result }
     ensures reshards { Reshards turn buf.now sharding shipper.old shipper.new result }
 {
     let next = retuned(rt, shipper, sharding, is_reshard_due)?;
-    obey(rt, alloc, shipper, next, turn, buf)
+    obey_within(rt, context, shipper, next, turn, buf)
 }
 
 /// Counts a turn that was done.
@@ -194,13 +223,13 @@ pub(crate) fn ship_live<
     ensures number { shipper.new.fault ≡ None → IsShardCount (length shipper.new.fleet.current) }
     ensures sizes { shipper.new.fault ≡ None → KeepsEpochSizes sharding.fewest sharding.most
         shipper.old.fleet shipper.new.fleet }
-    ensures laps { W.is_quiet watch.old ≡ true → (start : S.Start)
+    ensures laps { is_undivided context.entry.max_skew (W.is_quiet watch.old) ≡ true → (start : S.Start)
         → S.gave segments.old start (meal_of []) → HasComeTo sharding.fewest sharding.most
         (S.gave segments.new start) (meal_of shipper.new.log.pieces) shipper.old shipper.new }
-    ensures lapped { OnOk result (W.is_quiet watch.old ≡ true
+    ensures lapped { OnOk result (is_undivided context.entry.max_skew (W.is_quiet watch.old) ≡ true
         → HasLapped sharding.fewest sharding.most
         (length (meal_of shipper.new.log.pieces).whole) shipper.old shipper.new) }
-    ensures idle { W.is_quiet watch.old ≡ true → (start : S.Start)
+    ensures idle { is_undivided context.entry.max_skew (W.is_quiet watch.old) ≡ true → (start : S.Start)
         → S.gave segments.old start (meal_of []) → GaveNothing (S.gave segments.new start)
         → shipper.new ≡ shipper.old }
     ensures short { IsShortLog (is_marked shipper.old.log.pieces) shipper.new.log.pieces }
@@ -232,7 +261,7 @@ pub(crate) fn ship_live<
             return Ok(());
         }
         let is_due = watch.is_reshard_due();
-        sharding = step(rt, context.alloc, shipper, next, is_due, turn, buf)?;
+        sharding = step(rt, context, shipper, next, is_due, turn, buf)?;
         fed = fed_with(fed, turn);
         count_turn(context, shipper, sharding.shards, turn);
     }

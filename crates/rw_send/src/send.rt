@@ -3,7 +3,7 @@
 ghost use Rattle.std.specs.Prelude.{◌≡◌, ℕ, List, Option, map, true, false, OnOk};
 ghost use Rattle.rw_follow.specs.declared.signal.StopRequest.TheVariants.{Finish};
 ghost use Rattle.rw_send.specs.Logs.{readers};
-ghost use Rattle.rw_send.specs.Sending.{Prints, as_answer};
+ghost use Rattle.rw_send.specs.Sending.{Prints, as_answer, is_undivided};
 
 use crate::follow::run_follow;
 use crate::follow_fault::{FollowFault, RunFault};
@@ -35,7 +35,8 @@ pub fn run_send<
 ) -> Result<(), ToolFault>
     ensures prints { (now : List (Option (List ℕ))) × Prints C.T.tells C.T.seen C.T.is_for
         settings.config options.entry.max_batch_bytes options.entry.reading
-        (readers (map S.remaining segments.items) now (map S.is_sure segments.items)) true Finish
+        (readers (map S.remaining segments.items) now (map S.is_sure segments.items))
+        (is_undivided options.entry.max_skew true) Finish
         (W.contents writer.old) (W.contents writer.new) (writer.new ≡ writer.old)
         (W.has_failed writer.new ≡ true) (as_answer result) }
     ensures sound { OnOk result

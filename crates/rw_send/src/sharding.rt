@@ -80,8 +80,10 @@ impl Sharding {
     }
 
     /// Returns as many shards, within their bounds.
+    #[tactic(auto, using(crate::proofs::EpochSizeLemmas::wanted_bounds))]
     pub(crate) fn within_bounds(self) -> Sharding
         ensures shards { result.shards ≡ wanted self.shards 0 0 0 self.fewest self.most }
+        ensures bounds { (self.fewest ≤ result.shards) × (result.shards ≤ self.most) }
         ensures fewest { result.fewest ≡ self.fewest }
         ensures most { result.most ≡ self.most }
         ensures placed { result.placed ≡ self.placed }

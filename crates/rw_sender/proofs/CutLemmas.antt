@@ -69,7 +69,7 @@ pub cut_self : (limit : Option ℕ) (ps : List ShardHistory) → AreCutBy limit 
 cut_self limit [] = tt
 cut_self limit (p ∷ ps) = (cut_one limit p, cut_self limit ps)
 
-cut_on : (limit : Option ℕ) (ps qs rs : List ShardHistory) → AreCutBy limit ps qs → AreCutBy limit qs rs → AreCutBy limit ps rs
+pub cut_on : (limit : Option ℕ) (ps qs rs : List ShardHistory) → AreCutBy limit ps qs → AreCutBy limit qs rs → AreCutBy limit ps rs
 cut_on limit [] [] rs h g = g
 cut_on limit [] (q ∷ qs) rs h g = absurd h
 cut_on limit (p ∷ ps) [] rs h g = absurd h

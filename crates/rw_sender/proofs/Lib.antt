@@ -1,5 +1,6 @@
 pub mod BelowLemmas
 pub mod CutLemmas
+pub mod TimeLemmas
 pub mod WithinLemmas
 pub mod HeldLemmas
 pub mod FeederLemmas

@@ -2,3 +2,4 @@ pub mod ListingLemmas
 pub mod PlacementLemmas
 pub mod ShippingLemmas
 pub mod SpreadLemmas
+pub mod SkewLemmas

@@ -17,6 +17,7 @@ pub mod Spread
 pub mod Reports
 pub mod Cutting
 pub mod Shipping
+pub mod Skews
 pub mod Logs
 pub mod Feeders
 pub mod Sizes

@@ -7,11 +7,13 @@
 
 mod bytes_laws;
 mod cuts;
+mod epochs;
 mod feeder;
 mod laws;
 mod place;
 mod report;
 mod shipper;
+mod span;
 mod unresolved;
 
 pub use bytes_laws::{body_within_its_count, cuts_keep_within, marks_keep_within};

@@ -18,12 +18,15 @@ ghost use Rattle.rw_sender.specs.Placement.{AreKept};
 ghost use Rattle.rw_sender.specs.Reports.{IsAbandoned, ListsCut, end_kind, workers_of};
 ghost use Rattle.rw_sender.specs.inner.Reports.{IsAbandonedAt, end_of};
 ghost use Rattle.rw_sender.specs.Shipping.{feed_fault_of, FailsBy, Feeds, Joins, HasCompared, HasStopped, PlacesAll};
+ghost use Rattle.rw_sender.specs.Skews.{GoesOver, GoesWhole};
 
 use crate::cuts::Cuts;
+use crate::epochs::place_over;
 use crate::feeder::Feeder;
-use crate::place::place_all;
+use crate::place::{Rest, place_all};
 use crate::report::Report;
-use crate::unresolved::{finish_listed, open_listed};
+use crate::span::Span;
+use crate::unresolved::{begin_epoch, finish_listed, open_listed};
 use rw_external_labels::ExternalLabels;
 use rw_fleet::{Connect, Fault, Load, Resolution, ShardSet};
 use rw_ledger::Ledger;
@@ -187,6 +190,9 @@ pub struct Shipper<C: Connect + Drop> {
     /// Has room for the positions of the samples that may not be resolved.
     samples: Vec<u64>,
     cuts: Cuts,
+    /// The earliest timestamp of the samples that were put in the epoch, or the latest that there
+    /// can be.
+    earliest: i64,
     /// Why it has failed.
     fault: Option<Fault>,
     /// The fault of the log, as far as it was fed while the shipper had not failed.
@@ -198,7 +204,7 @@ impl<C: Connect + Drop> Model for Shipper<C> {
     ghost use Rattle.std.specs.FinMap as names;
     ghost use Rattle.rw_sender.specs.inner.Reports.{IsRoomFor};
     ghost use Rattle.rw_sender.specs.Shipping.{Shipping, PlacesAll};
-    ghost use Rattle.rw_sender.specs.inner.Shipping.{IsReady, IsRead, IsReckoned};
+    ghost use Rattle.rw_sender.specs.inner.Shipping.{IsReady, IsRead, IsReckoned, IsTimed};
 
     ghost Value = { Shipping C.T };
 
@@ -215,7 +221,8 @@ impl<C: Connect + Drop> Model for Shipper<C> {
         × IsReady s.feeder s.fleet s.fault
         × IsRead s.feeder s.fault s.damage
         × IsReckoned s.cuts s.fleet s.fault
-        × IsRoomFor s.fleet s.samples };
+        × IsRoomFor s.fleet s.samples
+        × IsTimed s.earliest s.fleet s.fault };
 }
 
 impl<C: Connect + Drop> Shipper<C> {
@@ -319,6 +326,7 @@ impl<C: Connect + Drop> Shipper<C> {
             fleet,
             samples,
             cuts,
+            earliest: i64::MAX,
             fault: None,
             damage: None,
         })
@@ -354,16 +362,92 @@ impl<C: Connect + Drop> Shipper<C> {
             self.fault = Some(Fault::OutOfMemory);
             return Err(FeedFault::OutOfMemory);
         }
-        let read = place_all(rt, &mut self.feeder, &mut self.fleet, &mut self.cuts);
+        let mut span = Span {
+            earliest: self.earliest,
+            most: u64::MAX,
+        };
+        let read = place_all(
+            rt,
+            &mut self.feeder,
+            &mut self.fleet,
+            &mut self.cuts,
+            &mut span,
+        );
+        self.earliest = span.earliest;
         self.fleet.hand_over(rt);
         match read {
-            Ok(None) => {
+            Ok(Rest::Read(None)) => {
                 self.damage = None;
                 Ok(())
             }
-            Ok(Some(fault)) => {
+            Ok(Rest::Read(Some(fault))) => {
                 self.damage = Some(fault);
                 Err(FeedFault::Damaged(fault))
+            }
+            Ok(Rest::Late(_)) => unreachable!(),
+            Err(fault) => {
+                self.fault = Some(fault);
+                Err(answer_to(fault))
+            }
+        }
+    }
+
+    /// Places the entries that the log has with one piece more, as `feed` does. No sample is put
+    /// that is later by more than `max_skew` milliseconds than one before it in the log that may
+    /// not be resolved: if one comes, the epoch ends, once all that was put is resolved, and the
+    /// next one begins with as many shards. So a receiver that refuses samples which are much older
+    /// than its newest one refuses none because one shard is ahead of another.
+    ///
+    /// It may wait for room in a queue, and until what was put is resolved.
+    pub fn feed_with_skew<R: Threads + Wait + Copy + Send + 'static>(
+        &mut self,
+        rt: &R,
+        piece: Piece,
+        max_skew: u64,
+    ) -> Result<(), FeedFault>
+        ensures failed { IfSome self.old.fault
+            (λ f. (result ≡ Err (feed_fault_of f)) × (self.new ≡ self.old)) }
+        ensures fed { self.old.fault ≡ None → Feeds self.new result }
+        ensures pieces { self.old.fault ≡ None
+            → Joins self.old.log self.new.log (piece_of piece) result }
+        ensures grown { (more : List Entry) × (self.new.log.placed ≡ self.old.log.placed ++ more) }
+        ensures choice { self.new.log.choice ≡ self.old.log.choice }
+        ensures labels { self.new.log.labels ≡ self.old.log.labels }
+        ensures limit { self.new.limit ≡ self.old.limit }
+        ensures placed { PlacesAll self.new.log self.new.fleet }
+        ensures over { self.old.fault ≡ None → GoesOver self.old.limit max_skew self.new.log
+            self.old.fleet self.new.fleet }
+        ensures whole { self.old.fault ≡ None → self.new.fault ≡ None
+            → GoesWhole self.old.limit max_skew self.old.fleet self.new.fleet }
+    {
+        if let Some(fault) = self.fault {
+            return Err(answer_to(fault));
+        }
+        if self.feeder.feed(&piece).is_err() {
+            self.fault = Some(Fault::OutOfMemory);
+            return Err(FeedFault::OutOfMemory);
+        }
+        let mut span = Span {
+            earliest: self.earliest,
+            most: max_skew,
+        };
+        let read = place_over(
+            rt,
+            &mut self.feeder,
+            &mut self.fleet,
+            &mut self.cuts,
+            &mut span,
+            &mut self.samples,
+        );
+        self.earliest = span.earliest;
+        self.fleet.hand_over(rt);
+        match read {
+            Ok(damage) => {
+                self.damage = damage;
+                match damage {
+                    None => Ok(()),
+                    Some(fault) => Err(FeedFault::Damaged(fault)),
+                }
             }
             Err(fault) => {
                 self.fault = Some(fault);
@@ -437,19 +521,12 @@ impl<C: Connect + Drop> Shipper<C> {
         if let Some(fault) = self.fault {
             return Err(answer_to(fault));
         }
-        if self.fleet.epoch() == u64::MAX {
-            self.fault = Some(Fault::OutOfMemory);
-            return Err(FeedFault::OutOfMemory);
-        }
-        let Resolution::All = self.fleet.close(rt) else {
-            self.fault = Some(Fault::Gone);
-            return Err(FeedFault::Gone);
-        };
-        if open_listed(rt, &mut self.fleet, &mut self.samples, shards).is_err() {
-            self.fault = Some(Fault::OutOfMemory);
-            return Err(FeedFault::OutOfMemory);
+        if let Err(fault) = begin_epoch(rt, &mut self.fleet, &mut self.samples, shards) {
+            self.fault = Some(fault);
+            return Err(answer_to(fault));
         }
         self.cuts.reset();
+        self.earliest = i64::MAX;
         Ok(())
     }
 
@@ -521,6 +598,7 @@ impl<C: Connect + Drop> Shipper<C> {
             fleet,
             samples,
             cuts: _,
+            earliest: _,
             fault: _,
             damage,
         } = self;

@@ -23,6 +23,7 @@ mod request_access;
 mod resume;
 mod send_command;
 mod settings;
+mod shipped_log;
 mod stop;
 mod waiting;
 

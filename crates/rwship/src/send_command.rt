@@ -5,9 +5,7 @@ use crate::drops::{explain_drops, explain_reply, explain_unsure};
 use crate::event_log::EventLog;
 use crate::live_report::{begin_reporting, end_reporting};
 use crate::log_fault::{LogReadFault, log_fault, report_run_fault};
-use crate::log_files::{
-    files_of, names_of, note_checkpoint, note_empty, note_gaps, passes_checkpoint_over,
-};
+use crate::log_files::{files_of, note_checkpoint, note_empty, note_gaps, passes_checkpoint_over};
 use crate::output::{Output, has_output_failed, open_output};
 use crate::program_end::{
     empty_status, gap_status, print_device_error, report_dropped, report_misplaced, report_result,
@@ -15,26 +13,24 @@ use crate::program_end::{
 };
 use crate::refusal::{ReceiverStops, report_receiver_stop};
 use crate::request_access::{RequestAccess, access_in};
-use crate::resume::{
-    ResumePoint, ResumedSegments, gone_status, print_gone, resume_point, resumed_segments,
-};
+use crate::resume::{ResumePoint, gone_status, print_gone, resume_point, resumed_segments};
 use crate::settings::{dir_with, external_labels_in, settings_in};
+use crate::shipped_log::{ResumedLog, ShippedLog, ship_log};
 use crate::stop::{Awaited, is_misplaced, note_left_file, report_stop, stop_signal};
 use crate::waiting::wait_for_start;
 use rw_cli::{Following, LogDir, ReadExtent, Sending, SettingsFile};
-use rw_follow::{Queue, StopSignal, Timed};
-use rw_log_folder::{Folder, FolderFault, Opened, SegmentFile, check_folder, watch_newest_segment};
+use rw_follow::{StopSignal, Timed};
+use rw_log_folder::{Folder, FolderFault, check_folder, watch_newest_segment};
 use rw_metrics::{Counters, SendCounters, show_stalls};
-use rw_resume::{Keeping, PositionFault, PositionFile};
+use rw_resume::Keeping;
 use rw_send::{
-    ExternalLabels, FollowFault, GiveUp, KeepsPlaces, LogOptions, RefusalStop, RunFault,
-    SendOptions, StopFlag, TcpConnect, UntilAborted, run_follow, run_kept,
+    ExternalLabels, FollowFault, GiveUp, LogOptions, RefusalStop, SendOptions, StopFlag,
+    TcpConnect, UntilAborted,
 };
 use rw_settings::Settings;
 use rw_tcp::look_up;
 use rw_text::{Address, ToolFault};
 use rw_types::write_all;
-use rw_wal_tail::FaultPlace;
 use std::alloc::{AllocError, Global};
 use std::io::{Error, ErrorKind, IsTerminal};
 use std::mem::replace;
@@ -52,25 +48,6 @@ const KEEP_MS: u64 = 60_000;
 
 /// The report of a log of which nothing could be read.
 const NOTHING_READ: &[u8] = b"filtered 0\nreport abandoned 0\n";
-
-/// The log that is shipped.
-enum ShippedLog {
-    /// The files of the folder, and the watch that may end it early.
-    Whole(Vec<Opened<SegmentFile<HostRuntime>>>, UntilAborted),
-    /// The folder while it grows, and the watch that ends it.
-    Growing(Folder<HostRuntime>, Timed<HostRuntime>),
-    /// The folder from a position on, and the watch that ends it and keeps the position.
-    Resumed(ResumedLog),
-}
-
-/// A log from a position on.
-#[derive(Drop)]
-struct ResumedLog {
-    read: ResumedSegments,
-    watch: Keeping<HostRuntime, Timed<HostRuntime>, PositionFile<HostRuntime>>,
-    has_nothing: bool,
-    is_gone: bool,
-}
 
 /// All that shipping needs besides settings. It is made before the settings are given away, since
 /// each way out of a function that owns settings is expensive to prove.
@@ -122,56 +99,6 @@ fn new_counters(
         SendCounters::without_readers(rt.alloc())?
     };
     Ok(Arc::new(rt.alloc(), counters)?)
-}
-
-/// Returns why a run over the files of a folder, which have these names, ended, with the file of a
-/// fault.
-fn fault_of(
-    alloc: Global,
-    files: &Queue<Opened<SegmentFile<HostRuntime>>>,
-    names: Vec<String>,
-    ended: RunFault,
-) -> Result<LogReadFault, AllocError> {
-    let mut fault = match ended.place {
-        Some(place) => return Ok(LogReadFault::at_place(names, ended.fault, place)),
-        None => LogReadFault::from(ended.fault),
-    };
-    if let Some(file) = files.current() {
-        fault.file = Some(String::from_str(alloc, file.place().name())?);
-    }
-    Ok(fault)
-}
-
-/// Returns the place in a folder of which the first segment comes after `before` others, and has
-/// `base` bytes before those that are read of it.
-fn place_in_folder(place: FaultPlace, before: u64, base: u64) -> FaultPlace {
-    FaultPlace {
-        segment: place.segment.saturating_sub(before),
-        offset: if place.segment == before {
-            place.offset.saturating_add(base)
-        } else {
-            place.offset
-        },
-    }
-}
-
-/// Returns why a run over a growing folder ended, with the file of a fault.
-fn fault_in(
-    alloc: Global,
-    folder: Folder<HostRuntime>,
-    fault: FollowFault,
-    place: Option<FaultPlace>,
-) -> Result<LogReadFault, AllocError> {
-    let mut fault = LogReadFault::from(fault);
-    let Some(place) = place else {
-        fault.file = folder.into_unread();
-        return Ok(fault);
-    };
-    if let Some(name) = folder.name_of(place.segment) {
-        fault.file = Some(String::from_str(alloc, name)?);
-        fault.offset = place.offset;
-    }
-    Ok(fault)
 }
 
 impl<R: Threads + Wait + Clock + Copy + Send + 'static> Sender<'_, R> {
@@ -596,99 +523,6 @@ impl<R: Threads + Wait + Clock + Copy + Send + 'static> Sender<'_, R> {
         }
     }
 
-    /// Ships a log from a position on, keeps the position, and prints the report.
-    fn ship_resumed(
-        &mut self,
-        settings: Settings,
-        log: ResumedLog,
-        options: SendOptions<'_, TcpConnect<HostRuntime>>,
-    ) -> Result<(), LogReadFault> {
-        let (threads, alloc, output) = (self.threads, self.rt.alloc(), &mut self.output);
-        let ResumedLog {
-            read,
-            mut watch,
-            ..
-        } = log;
-        let ResumedSegments {
-            mut segments,
-            before,
-            base,
-            ..
-        } = read;
-        let outcome = run_kept::<R, _, _, _, KeepsPlaces, _>(
-            threads,
-            alloc,
-            settings,
-            &mut segments,
-            options,
-            &mut watch,
-            output,
-        );
-        match outcome {
-            Ok(()) => match watch.fault() {
-                Some(fault) => Err(self.report_unkept(fault)),
-                None => Ok(()),
-            },
-            Err(ended) => {
-                let folder = segments.into_then().into_then();
-                let place = match ended.place {
-                    Some(place) => Some(place_in_folder(place, before, base)),
-                    None => None,
-                };
-                Err(fault_in(alloc, folder, ended.fault, place)?)
-            }
-        }
-    }
-
-    /// Reports that the position could not be kept, and returns that fault.
-    fn report_unkept(&self, fault: PositionFault) -> LogReadFault {
-        let path = self.sending.resume.unwrap_or("FILE");
-        let _ = eprintln!(self.rt;
-            "rwship: the position was not kept in {path}: {fault}; next: see that its folder can be written"
-        );
-        match fault {
-            PositionFault::OutOfMemory => LogReadFault::from(ToolFault::OutOfMemory),
-            PositionFault::Failed => LogReadFault::from(ToolFault::Device),
-        }
-    }
-
-    /// Ships a log, until its end or until a stop, and prints the report.
-    fn ship_log(
-        &mut self,
-        settings: Settings,
-        log: ShippedLog,
-        options: SendOptions<'_, TcpConnect<HostRuntime>>,
-    ) -> Result<(), LogReadFault> {
-        let (threads, alloc, output) = (self.threads, self.rt.alloc(), &mut self.output);
-        match log {
-            ShippedLog::Whole(files, mut watch) => {
-                let names = names_of(alloc, &files)?;
-                let mut files = Queue::new(files);
-                match run_follow(
-                    threads, alloc, settings, &mut files, options, &mut watch, output,
-                ) {
-                    Ok(()) => Ok(()),
-                    Err(ended) => Err(fault_of(alloc, &files, names, ended)?),
-                }
-            }
-            ShippedLog::Resumed(log) => self.ship_resumed(settings, log, options),
-            ShippedLog::Growing(mut folder, mut watch) => {
-                match run_follow(
-                    threads,
-                    alloc,
-                    settings,
-                    &mut folder,
-                    options,
-                    &mut watch,
-                    output,
-                ) {
-                    Ok(()) => Ok(()),
-                    Err(ended) => Err(fault_in(alloc, folder, ended.fault, ended.place)?),
-                }
-            }
-        }
-    }
-
     /// Explains which samples are missing because they were dropped, or because they are not read.
     fn explain_missing(&self, counters: &SendCounters) {
         let rt = self.rt;
@@ -794,10 +628,20 @@ impl<R: Threads + Wait + Clock + Copy + Send + 'static> Sender<'_, R> {
             connect,
             counters: &counters,
             max_batch_bytes: self.sending.max_batch_bytes,
+            max_skew: self.sending.max_skew_ms,
             reading,
             stop,
         };
-        let outcome = self.ship_log(settings, log, options);
+        let (rt, threads, resume) = (self.rt, self.threads, self.sending.resume);
+        let outcome = ship_log(
+            rt,
+            threads,
+            settings,
+            log,
+            options,
+            resume,
+            &mut self.output,
+        );
         self.log_end(&counters);
         self.finish(counters, noted, stops, outcome)
     }

@@ -10,8 +10,8 @@ use std::alloc::{AllocError, Global};
 use std::test::Fail;
 
 /// Of four segments the first one is empty, and the others have ten samples each, at 0 to 29. With
-/// this floor the second number of them give way, and a head that is opened then has the third number
-/// of samples.
+/// this floor the second number of them give way, and a head that is opened then has the third
+/// number of samples.
 type Row = (i64, usize, u64);
 
 static ROWS: [Row; 6] = [

@@ -179,6 +179,7 @@ fn send_listed<R: Threads + Wait + Clock + Copy + Send + 'static>(
         connect: ready(threads),
         counters: &counters,
         max_batch_bytes: None,
+        max_skew: None,
         reading: LogOptions::without_labels(false),
         stop,
     };

@@ -233,6 +233,7 @@ fn follow_sending<R: Threads + Wait + Clock + Copy + Send + 'static>(
         connect: ready(threads),
         counters: &counters,
         max_batch_bytes: None,
+        max_skew: None,
         reading: LogOptions::without_labels(false),
         stop,
     };

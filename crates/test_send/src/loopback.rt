@@ -180,6 +180,7 @@ fn sends<R: Threads + Wait + Clock + Copy + Send + 'static, C: Connect + Drop>(
         connect,
         counters: &counters,
         max_batch_bytes: None,
+        max_skew: None,
         reading: LogOptions::without_labels(false),
         stop,
     };

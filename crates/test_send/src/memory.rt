@@ -143,6 +143,7 @@ fn shipped<R: Threads + Wait + Clock + Copy + Send + 'static>(
         connect: receivers_of(rt, row.receivers)?,
         counters,
         max_batch_bytes: limit,
+        max_skew: None,
         reading: LogOptions::without_labels(false),
         stop: StopFlag::new(alloc)?,
     };
@@ -616,6 +617,7 @@ fn ship_in_vain<R: Threads + Wait + Clock + Copy + Send + 'static>(
         connect: receivers_of(rt, AWAY)?,
         counters: &counters,
         max_batch_bytes: None,
+        max_skew: None,
         reading: LogOptions::without_labels(false),
         stop,
     };

@@ -305,6 +305,7 @@ fn ship_skipped<R: Threads + Wait + Clock + Copy + Send + 'static>(
         connect: ready(rt),
         counters,
         max_batch_bytes: None,
+        max_skew: None,
         reading: LogOptions::without_labels(false),
         stop: StopFlag::new(alloc)?,
     };

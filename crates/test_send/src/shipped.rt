@@ -188,6 +188,7 @@ fn does<R: Threads + Wait + Clock + Copy + Send + 'static>(
         connect: receivers_of(rt, StatusCode::NO_CONTENT),
         counters: &counters,
         max_batch_bytes: limit,
+        max_skew: None,
         reading: LogOptions::without_labels(false),
         stop: StopFlag::new(alloc)?,
     };
@@ -357,6 +358,7 @@ fn flushed<R: Threads + Wait + Clock + Copy + Send + 'static>(
         connect: receivers_of(rt, StatusCode::BAD_REQUEST),
         counters: &counters,
         max_batch_bytes: None,
+        max_skew: None,
         reading: LogOptions::without_labels(false),
         stop: StopFlag::new(alloc)?,
     };
@@ -415,6 +417,7 @@ fn follow_in_vain<R: Threads + Wait + Clock + Copy + Send + 'static>(
         },
         counters: &counters,
         max_batch_bytes: None,
+        max_skew: None,
         reading: LogOptions::without_labels(false),
         stop,
     };
@@ -558,6 +561,7 @@ fn has_its_shards<R: Threads + Wait + Clock + Copy + Send + 'static>(
         },
         counters: &counters,
         max_batch_bytes: None,
+        max_skew: None,
         reading: LogOptions::without_labels(false),
         stop: StopFlag::new(alloc)?,
     };
@@ -706,6 +710,7 @@ fn ship_blocks<R: Threads + Wait + Clock + Copy + Send + 'static>(
         connect: receivers_of(rt, StatusCode::NO_CONTENT),
         counters: &counters,
         max_batch_bytes: None,
+        max_skew: None,
         reading: LogOptions::without_labels(may_compress),
         stop: StopFlag::new(alloc)?,
     };

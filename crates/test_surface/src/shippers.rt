@@ -72,6 +72,7 @@ pub fn of_marked_shippers<C: Connect + Drop, R: Wait>() {
 /// The epochs of a shipper.
 pub fn of_resharded_shippers<C: Connect + Drop, R: Threads + Wait + Copy + Send + 'static>() {
     let _ = Shipper::<C>::reshard::<R>;
+    let _ = Shipper::<C>::feed_with_skew::<R>;
 }
 
 /// How far a shipper is.

@@ -1,6 +1,7 @@
 -- What a turn of a follower does to a shipper. Only invariants, private functions and proofs use
 -- these definitions.
-use Rattle.std.specs.Prelude.{◌≡◌, ◌⊎◌, ℕ, Bool, List, length, map, None, IsSome, Result, ⊤, IfErr, IfOk, OnErr, OnOk}
+use Rattle.std.specs.Prelude.{◌≡◌, ◌⊎◌, ℕ, Bool, List, [], ◌∷◌, ◌++◌, length, map, None, IsSome, Result, ⊤, IfErr, IfOk, OnErr, OnOk}
+use Rattle.rw_wal_format.specs.Pieces.{Piece}
 use Rattle.rw_follow.specs.Turns.{given_by}
 use Rattle.rw_follow.specs.declared.follower.Turn.{Turn}
 use Rattle.rw_follow.specs.declared.follower.Turn.TheVariants as turn
@@ -99,6 +100,15 @@ pub record Reshards {T : Type 0} (t : Turn) (buf : List ℕ) (sharding : Shardin
   pub part : OnErr result ((meal_of new.log.pieces ≡ meal_of old.log.pieces)
       ⊎ (meal_of new.log.pieces ≡ given_by t buf (meal_of old.log.pieces)))
   pub halts : IfErr result (HaltsAt t old new)
+
+-- A piece was fed over as many epochs as a bound on their samples takes, each of as many shards.
+pub record IsFedOver {T : Type 0} (sharding : Sharding) (piece : Piece) (old new : Shipping T)
+    (result : Result Sharding FeedError) : Type 0 where
+  pub keeps : Keeps sharding old new result
+  pub joined : OnOk result (new.log.pieces ≡ old.log.pieces ++ piece ∷ [])
+  pub part : OnErr result ((new.log.pieces ≡ old.log.pieces)
+      ⊎ (new.log.pieces ≡ old.log.pieces ++ piece ∷ []))
+  pub halts : (t : Turn) → IfErr result (HaltsAt t old new)
 
 -- Why a reading ended other than as it was asked to finish: a damaged log has that fault; the
 -- shipper failed, memory ran out for bytes that the log has returned, or a call of the log failed;

@@ -37,12 +37,13 @@ use Rattle.rw_shard_core.specs.declared.outcome.Outcome.TheVariants as outcome
 use Rattle.rw_sender.specs.Reports.{abandoned_in, IsAbandoned, ListsCut}
 use Rattle.rw_sender.specs.inner.Reports.{end_of, IsAbandonedAt}
 use Rattle.rw_sender.specs.Shipping.{Shipping, PlacesAll, HasCompared, HasEndedAs, HasStopped}
-use Rattle.rw_sender.specs.inner.Shipping.{IsReady, IsReckoned, IsRead, GoesOn}
+use Rattle.rw_sender.specs.inner.Shipping.{IsReady, IsReckoned, IsRead, IsSince, IsTimed, GoesOn}
 use Rattle.rw_sender.specs.Rooms.{Counting, AreUncounted}
 use Rattle.rw_sender.specs.inner.Cutting.{AreCounted}
 use Rattle.rw_sender.proofs.shared.PlacementLemmas.{placing_put, placing_closed, placing_whole, placing_opened, placing_begun, placing_same, kept_self, kept_on, kept_put}
 use Rattle.rw_sender.proofs.CutLemmas.{kept_same, counted_fresh, counted_marked}
 use Rattle.rw_sender.proofs.BelowLemmas.{placing_below}
+use Rattle.rw_sender.proofs.TimeLemmas.{since_fresh, since_same}
 use Rattle.rw_types.proofs.shared.GatherLemmas.{gather-push}
 
 -- the samples with those of the entry that was placed
@@ -205,10 +206,10 @@ module _ {T : Type 0} where
   pub places_whole : (log : Sorting) (was : Shards T) (all : List (StoppedShard T)) → PlacesAll log was → AreAll was all → ArePlaced (map lane_of all) (sent log.choice log.placed)
   places_whole log was all h ended = placing_whole was.epoch (map lane_of was.ended) was.current (map lane_of ended.0) (map lane_of all) (sent log.choice log.placed) h ended.2 (all_is was all ended)
 
-  pub places_shut : (log : Sorting) (was closed : Shards T) (f : Option Fault) → PlacesAll log was → IsReady log was f → f ≡ None → HasClosed was closed → PlacesAll log closed
-  places_shut log was closed f h ready none shut =
+  pub places_shut : (log : Sorting) (was closed : Shards T) → PlacesAll log was → IsShardCount (length was.current) → HasClosed was closed → PlacesAll log closed
+  places_shut log was closed h number shut =
       subst (λ ls. IsPlacing closed.epoch (map lane_of closed.ended) ls (sent log.choice log.placed)) (sym shut.2)
-      (placing_closed was.epoch closed.epoch (map lane_of was.ended) was.current (map lane_of shut.3.0) (map lane_of closed.ended) (sent log.choice log.placed) h shut.3.2 (all_is was closed.ended shut.3) (subst (IsReady log was) none ready).1 (ends_last Reshard was closed.ended shut.3 shut.4) shut.1)
+      (placing_closed was.epoch closed.epoch (map lane_of was.ended) was.current (map lane_of shut.3.0) (map lane_of closed.ended) (sent log.choice log.placed) h shut.3.2 (all_is was closed.ended shut.3) number (ends_last Reshard was closed.ended shut.3 shut.4) shut.1)
 
   -- and the next ones are opened
   pub places_opened : (log : Sorting) (closed opened : Shards T) → PlacesAll log closed → closed.current ≡ [] → opened ≡ record closed { current = opened.current } → AreFresh opened.epoch opened.current → PlacesAll log opened
@@ -244,6 +245,10 @@ module _ {T : Type 0} where
   reckoned_marked old new was now None h same full is = counted_marked new.limit old.rooms new.rooms was.current now.current (subst (λ m. AreCounted m old.rooms was.current) (sym same) h) full is
   reckoned_marked old new was now (Some f) h same full is = tt
 
+  -- how many shards a shipper that has not failed has
+  pub number_of : (log : Sorting) (was : Shards T) (f : Option Fault) → IsReady log was f → f ≡ None → IsShardCount (length was.current)
+  number_of log was f ready none = (subst (IsReady log was) none ready).1
+
   pub ready_same : (log : Sorting) (was now : Shards T) (f : Option Fault) → IsReady log was f → AreSame was.current now.current → IsReady log now f
   ready_same log was now None h same = (h.0, subst IsShardCount (sym (same_length was.current now.current same)) h.1)
   ready_same log was now (Some f) h same = tt
@@ -251,6 +256,19 @@ module _ {T : Type 0} where
 module _ {T : Type 0} (tells : T → Type 0) (seen : T → List Exchange) (is_for : ℕ → ℕ → T → Type 0) where
   pub stopped_seen : (inside s : Shipping T) (r : Report T) → inside ≡ s → HasStopped tells seen is_for inside r → HasStopped tells seen is_for s r
   stopped_seen inside s r is h = subst (λ x. HasStopped tells seen is_for x r) is h
+
+module _ {T : Type 0} where
+  -- the earliest time of what was put, with the next shards, and after marks
+  pub timed_fresh : (earliest : ℤ) (now : Shards T) (f : Option Fault) → AreFresh now.epoch now.current → IsTimed earliest now f
+  timed_fresh earliest now None fresh = since_fresh earliest now.epoch now.current fresh
+  timed_fresh earliest now (Some f) fresh = tt
+
+  pub timed_same : (earliest : ℤ) (was now : Shards T) (f : Option Fault) → IsTimed earliest was f → AreSame was.current now.current → IsTimed earliest now f
+  timed_same earliest was now None h same = since_same earliest was.current now.current same h
+  timed_same earliest was now (Some f) h same = tt
+
+  pub since_of : (earliest : ℤ) (was : Shards T) (f : Option Fault) → IsTimed earliest was f → f ≡ None → IsSince earliest was.current
+  since_of earliest was f h none = subst (IsTimed earliest was) none h
 
 -- what was handed over is as it was put
 pub rest_as : {T : Type 0} (old now new : Shards T) → new ≡ now → now ≡ record old { current = now.current } → new ≡ record old { current = new.current }

@@ -1,4 +1,4 @@
-use Rattle.std.proofs.Common.{◌≡◌, sym, ◌∙◌, subst}
+use Rattle.std.proofs.Common.{◌≡◌, sym, ◌∙◌, subst, arith}
 use Rattle.rw_sender.specs.Feeders.{Sorting, log_of}
 use Rattle.rw_send.proofs.EpochSizeLemmas.{ok_so, sizes_asked}
 use Rattle.rw_send.proofs.keeper.drain.Goals as goal
@@ -32,3 +32,12 @@ returns-clause-drained g c =
 
 pub returns-then-is_err-clause-unset : goal.returns-then-is_err-clause-unset
 returns-then-is_err-clause-unset g c = record { log = c.reshard.ensures.log; limit = c.reshard.ensures.limit; fleet = c.reshard.ensures.compared }
+
+pub returns-clause-bounds : goal.returns-clause-bounds
+returns-clause-bounds g c =
+    let next = c.within_bounds-next.ensures in
+    let low = next.bounds.0 in
+    let high = next.bounds.1 in
+    let fewest = next.fewest in
+    let most = next.most in
+    (omega arith, omega arith)

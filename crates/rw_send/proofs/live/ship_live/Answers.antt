@@ -14,6 +14,7 @@ use Rattle.rw_send.proofs.FeedErrorLemmas.{count_so, err_so, failed_is, on_err}
 use Rattle.rw_send.proofs.IntactLemmas.{intact_at_first, sound_at_first}
 use Rattle.rw_send.proofs.KeepLemmas.{soon_reshards}
 use Rattle.rw_send.proofs.LapLemmas.{come_to, idle_halted, idle_on, lapped}
+use Rattle.rw_send.proofs.OverLemmas.{undivided_so}
 use Rattle.rw_send.proofs.LoopLemmas.{almost, cut_broken, cut_halted, damage_broken, damage_halted}
 use Rattle.rw_send.proofs.MealLemmas.{meal_begun}
 use Rattle.rw_send.proofs.ShortLemmas.{short_begun}
@@ -34,7 +35,7 @@ loop-init g c = record {
   sizes = λ _ h. h;
   laps = λ _. subst (λ (m : Meal). HasLapped c.args.sharding.fewest c.args.sharding.most (length m.whole) c.args.shipper.now c.args.shipper.now) (sym (meal_begun c.args.shipper.now.log.pieces c.requires.begun)) (stays c.args.shipper.now);
   idle = λ _ _. refl;
-  quiet = λ q. q;
+  quiet = λ q. (undivided_so _ _ q).1;
   given = λ start h. subst (λ (m : Meal). g.S.Segments.gave c.args.segments.now start m) (sym (meal_begun c.args.shipper.now.log.pieces c.requires.begun)) h;
   followed = search rules;
   fails = λ f h. h;
@@ -66,7 +67,7 @@ loop-preserved g c =
           let hushed = turn.hushed (was.quiet q) in
           let due = c.is_reshard_due-is_due.ensures.quiet (soon.quiet hushed) in
           let goes = goes_so c.in_ok-turn.turn c.turn.new.buf c.loop.sharding c.in_ok-next.next c.loop.shipper c.keep_if_due.new.shipper c.step.new.shipper _
-          (same_ok c.in_ok-next.next c.loop.sharding (soon.done hushed)) (soon.same hushed) (step.goes due.1) in
+          (same_ok c.in_ok-next.next c.loop.sharding (soon.done hushed)) (soon.same hushed) (step.goes (undivided_so _ _ q).0 due.1) in
           lapped c.args.sharding.fewest c.args.sharding.most c.in_ok-turn.turn c.turn.new.buf c.args.shipper.now c.loop.shipper c.step.new.shipper (was.laps q)
           (between (λ fewest most. IsDone fewest most c.in_ok-turn.turn c.loop.shipper c.step.new.shipper) was.range.0 was.range.1 goes.done)
           (λ e. turn.unasked (was.quiet q) (ap Ok e)) goes.fed;
@@ -74,7 +75,7 @@ loop-preserved g c =
           let hushed = turn.hushed (was.quiet q) in
           let due = c.is_reshard_due-is_due.ensures.quiet (soon.quiet hushed) in
           let goes = goes_so c.in_ok-turn.turn c.turn.new.buf c.loop.sharding c.in_ok-next.next c.loop.shipper c.keep_if_due.new.shipper c.step.new.shipper _
-          (same_ok c.in_ok-next.next c.loop.sharding (soon.done hushed)) (soon.same hushed) (step.goes due.1) in
+          (same_ok c.in_ok-next.next c.loop.sharding (soon.done hushed)) (soon.same hushed) (step.goes (undivided_so _ _ q).0 due.1) in
           idle_on c.loop.sharding.fewest c.loop.sharding.most c.in_ok-turn.turn c.turn.new.buf c.args.shipper.now c.loop.shipper c.step.new.shipper (was.idle q) goes.done
           (λ e. turn.unasked (was.quiet q) (ap Ok e)) turn.piece (λ n e. turn.some n (ap Ok e)) goes.fed;
       quiet = λ q. (c.is_reshard_due-is_due.ensures.quiet (soon.quiet (turn.hushed (was.quiet q)))).0;
@@ -105,7 +106,7 @@ returns-in_err-sharding g c =
           let hushed = turn.hushed (was.quiet q) in
           let due = c.is_reshard_due-is_due.ensures.quiet (soon.quiet hushed) in
           let goes = goes_so c.in_ok-turn.turn c.turn.new.buf c.loop.sharding c.in_ok-next.next c.loop.shipper c.keep_if_due.new.shipper c.step.new.shipper _
-          (same_ok c.in_ok-next.next c.loop.sharding (soon.done hushed)) (soon.same hushed) (step.goes due.1) in
+          (same_ok c.in_ok-next.next c.loop.sharding (soon.done hushed)) (soon.same hushed) (step.goes (undivided_so _ _ q).0 due.1) in
           come_to c.args.sharding.fewest c.args.sharding.most c.in_ok-turn.turn c.turn.new.buf (g.S.Segments.gave c.turn.new.segments start) c.args.shipper.now c.loop.shipper c.step.new.shipper (was.laps q)
           (between (λ fewest most. IsUndone fewest most c.in_ok-turn.turn c.loop.shipper c.step.new.shipper) was.range.0 was.range.1 goes.halted)
           (λ e. turn.unasked (was.quiet q) (ap Ok e)) goes.part (turn.given start (meal_of c.loop.shipper.log.pieces) (was.given start h));
@@ -114,7 +115,7 @@ returns-in_err-sharding g c =
           let hushed = turn.hushed (was.quiet q) in
           let due = c.is_reshard_due-is_due.ensures.quiet (soon.quiet hushed) in
           let goes = goes_so c.in_ok-turn.turn c.turn.new.buf c.loop.sharding c.in_ok-next.next c.loop.shipper c.keep_if_due.new.shipper c.step.new.shipper _
-          (same_ok c.in_ok-next.next c.loop.sharding (soon.done hushed)) (soon.same hushed) (step.goes due.1) in
+          (same_ok c.in_ok-next.next c.loop.sharding (soon.done hushed)) (soon.same hushed) (step.goes (undivided_so _ _ q).0 due.1) in
           idle_halted c.loop.sharding.fewest c.loop.sharding.most c.in_ok-turn.turn c.turn.new.buf c.args.shipper.now c.loop.shipper c.step.new.shipper goes.halted
           (λ e. turn.unasked (was.quiet q) (ap Ok e)) turn.piece (λ n e. turn.some n (ap Ok e)) (none (given_by c.in_ok-turn.turn c.turn.new.buf (meal_of c.loop.shipper.log.pieces)) (turn.given start (meal_of c.loop.shipper.log.pieces) (was.given start h)));
       last = λ done. keeps.last (was.resolved done);

@@ -4,6 +4,7 @@ use Rattle.rw_sender.specs.Feeders.{Sorting}
 use Rattle.rw_fleet.specs.ShardHistories.{AreFresh}
 use Rattle.rw_fleet.specs.Fleets.{Shards}
 use Rattle.rw_sender.proofs.CutLemmas.{counted_fresh}
+use Rattle.rw_sender.proofs.TimeLemmas.{since_fresh}
 use Rattle.rw_sender.proofs.shared.ListingLemmas.{resolved_none, room_begun}
 use Rattle.rw_sender.proofs.shared.ShippingLemmas.{places_begun, read_begun, on_ok}
 use Rattle.rw_sender.proofs.shipper.Shipper.start_with.Goals as goal
@@ -28,6 +29,7 @@ invariant_of-result g c =
       read_begun c.with_tail.result _ _ c.args.reading.may_compress _ c.in_ok-tail.ensures.pieces feeder,
       counted_fresh c.in_ok-cuts.cuts.limit c.in_ok-cuts.cuts.rooms c.open_listed.new.fleet.epoch _ c.open_listed.new.fleet.current c.in_ok-cuts.ensures.full all (omega arith) c.open_listed.ensures.fresh,
       c.open_listed.ensures.room,
+      since_fresh _ _ _ c.open_listed.ensures.fresh,
     )
 
 pub returns-clause-opened : goal.returns-clause-opened
